@@ -1,0 +1,14 @@
+pub mod FieldLemmas
+pub mod BodyLemmas
+pub mod TextLemmas
+pub mod NumberLemmas
+pub mod FrameLemmas
+pub mod RowLemmas
+pub mod ListLemmas
+pub mod StandingLemmas
+pub mod WritingLemmas
+pub mod ReportLemmas
+pub mod MarkLemmas
+pub mod ImageLemmas
+pub mod FrontLemmas
+pub mod WaitingLemmas

@@ -1,0 +1,368 @@
+//! Worked binary logs, and readers and writers that fail.
+
+use super::*;
+use std::alloc::{AllocError, Global};
+use std::io::{self, ErrorKind, Read, Write};
+use std::process::Abort;
+use std::test::*;
+
+/// `fe 62 69 6e`.
+const MARK: [u8; 4] = [0xfe, 0x62, 0x69, 0x6e];
+
+/// QUERY_EVENT of BEGIN, to position 42.
+const BEGIN: [u8; 38] = [
+    0x00, 0x00, 0x00, 0x00, 0x02, 0x01, 0x00, 0x00, 0x00, 0x26, 0x00, 0x00, 0x00, 0x2a, 0x00, 0x00,
+    0x00, 0x00, 0x00, 0x01, 0x00, 0x00, 0x00, 0x00, 0x00, 0x00, 0x00, 0x00, 0x00, 0x00, 0x00, 0x00,
+    0x00, 0x42, 0x45, 0x47, 0x49, 0x4e,
+];
+
+/// TABLE_MAP_EVENT of table 7, `d.t`, with one LONG column, to position 79.
+const MAP: [u8; 37] = [
+    0x00, 0x00, 0x00, 0x00, 0x13, 0x01, 0x00, 0x00, 0x00, 0x25, 0x00, 0x00, 0x00, 0x4f, 0x00, 0x00,
+    0x00, 0x00, 0x00, 0x07, 0x00, 0x00, 0x00, 0x00, 0x00, 0x01, 0x00, 0x01, 0x64, 0x00, 0x01, 0x74,
+    0x00, 0x01, 0x03, 0x00, 0x01,
+];
+
+/// WRITE_ROWS_EVENT of one row, 5, in table 7, to position 115.
+const ROWS: [u8; 36] = [
+    0x00, 0x00, 0x00, 0x00, 0x1e, 0x01, 0x00, 0x00, 0x00, 0x24, 0x00, 0x00, 0x00, 0x73, 0x00, 0x00,
+    0x00, 0x00, 0x00, 0x07, 0x00, 0x00, 0x00, 0x00, 0x00, 0x01, 0x00, 0x02, 0x00, 0x01, 0x01, 0x00,
+    0x05, 0x00, 0x00, 0x00,
+];
+
+/// XID_EVENT, to position 142.
+const XID: [u8; 27] = [
+    0x00, 0x00, 0x00, 0x00, 0x10, 0x01, 0x00, 0x00, 0x00, 0x1b, 0x00, 0x00, 0x00, 0x8e, 0x00, 0x00,
+    0x00, 0x00, 0x00, 0x0b, 0x00, 0x00, 0x00, 0x00, 0x00, 0x00, 0x00,
+];
+
+const TEXT: &str = "begin -\ninsert 'd' 't' 0=5\ncommit 142\n";
+
+/// A reader that gives some bytes, at most so many at once, and then ends or fails.
+#[derive(Drop)]
+struct Pieces<'a> {
+    bytes: &'a [u8],
+    at_once: usize,
+    fails: bool,
+}
+
+impl Read for Pieces<'_> {
+    fn read(&mut self, buf: &mut [u8]) -> io::Result<usize> {
+        if self.bytes.is_empty() && self.fails {
+            return Err(io::Error::from(ErrorKind::Other));
+        }
+        let len = self.at_once.min(buf.len());
+        self.bytes.read(&mut buf[..len])
+    }
+}
+
+/// A writer that takes so many bytes, and then fails.
+#[derive(Drop)]
+struct Full {
+    taken: Vec<u8>,
+    room: usize,
+}
+
+impl Write for Full {
+    fn write(&mut self, buf: &[u8]) -> io::Result<usize> {
+        if self.room == 0 {
+            return Err(io::Error::from(ErrorKind::Other));
+        }
+        let len = self.room.min(buf.len());
+        self.taken.write_all(&buf[..len])?;
+        self.room -= len;
+        Ok(len)
+    }
+
+    fn flush(&mut self) -> io::Result<()> {
+        Ok(())
+    }
+}
+
+fn no_checksum(_bytes: &[u8]) -> u32 {
+    0
+}
+
+fn file_of(alloc: Global, events: &[&[u8]]) -> Result<Vec<u8>, AllocError> {
+    let mut file = Vec::from_slice(alloc, &MARK)?;
+    for event in events {
+        file.extend_from_slice(event)?;
+    }
+    Ok(file)
+}
+
+/// An event with one byte set to another value.
+fn changed<const N: usize>(event: &[u8; N], at: usize, byte: u8) -> [u8; N] {
+    let mut other = *event;
+    if at < N {
+        other[at] = byte;
+    }
+    other
+}
+
+fn reported(alloc: Global, file: &[u8], at_once: usize) -> (Vec<u8>, Verdict) {
+    let mut reader = Watched::new(Pieces {
+        bytes: file,
+        at_once,
+        fails: false,
+    });
+    let mut writer = Watched::new(Vec::new(alloc));
+    let verdict = report(alloc, &mut reader, &no_checksum, &mut writer);
+    (writer.into_inner(), verdict)
+}
+
+/// Checks a report of a file, whole and in pieces.
+fn expect(rt: &impl Abort, alloc: Global, file: &[u8], text: &str, verdict: Verdict) {
+    for at_once in [1, 5, 19, 4096] {
+        let (written, found) = reported(alloc, file, at_once);
+        assert_eq!(rt; written.as_slice(), text.as_bytes());
+        assert_eq!(rt; found, verdict);
+    }
+}
+
+#[test]
+fn one_insert(rt: HostRuntime) -> Result<(), Fail> {
+    let file = file_of(rt.alloc(), &[&BEGIN, &MAP, &ROWS, &XID])?;
+    expect(&rt, rt.alloc(), &file, TEXT, Verdict::End);
+    Ok(())
+}
+
+#[test]
+fn mark_alone(rt: HostRuntime) {
+    expect(&rt, rt.alloc(), &MARK, "", Verdict::End);
+}
+
+#[test]
+fn no_bytes(rt: HostRuntime) {
+    expect(&rt, rt.alloc(), &[], "", Verdict::Mark);
+    expect(&rt, rt.alloc(), &MARK[..3], "", Verdict::Mark);
+    expect(&rt, rt.alloc(), &BEGIN, "", Verdict::Mark);
+}
+
+#[test]
+fn unfinished_transaction(rt: HostRuntime) -> Result<(), Fail> {
+    let file = file_of(rt.alloc(), &[&BEGIN, &MAP, &ROWS])?;
+    expect(&rt, rt.alloc(), &file, "", Verdict::End);
+    let file = file_of(rt.alloc(), &[&BEGIN, &MAP, &ROWS, &XID[..26]])?;
+    expect(&rt, rt.alloc(), &file, "", Verdict::End);
+    Ok(())
+}
+
+#[test]
+fn unknown_table_id(rt: HostRuntime) -> Result<(), Fail> {
+    let rows = changed(&ROWS, 19, 8);
+    let file = file_of(rt.alloc(), &[&BEGIN, &MAP, &rows, &XID])?;
+    expect(&rt, rt.alloc(), &file, "", Verdict::NoTableMap);
+    Ok(())
+}
+
+#[test]
+fn rows_after_the_commit(rt: HostRuntime) -> Result<(), Fail> {
+    let file = file_of(rt.alloc(), &[&BEGIN, &MAP, &ROWS, &XID, &ROWS, &XID])?;
+    expect(&rt, rt.alloc(), &file, TEXT, Verdict::Outside);
+    Ok(())
+}
+
+#[test]
+fn rows_without_columns(rt: HostRuntime) -> Result<(), Fail> {
+    let map = [
+        0x00, 0x00, 0x00, 0x00, 0x13, 0x01, 0x00, 0x00, 0x00, 0x23, 0x00, 0x00, 0x00, 0x4d, 0x00,
+        0x00, 0x00, 0x00, 0x00, 0x07, 0x00, 0x00, 0x00, 0x00, 0x00, 0x01, 0x00, 0x01, 0x64, 0x00,
+        0x01, 0x74, 0x00, 0x00, 0x00,
+    ];
+    let rows = [
+        0x00, 0x00, 0x00, 0x00, 0x1e, 0x01, 0x00, 0x00, 0x00, 0x1f, 0x00, 0x00, 0x00, 0x6c, 0x00,
+        0x00, 0x00, 0x00, 0x00, 0x07, 0x00, 0x00, 0x00, 0x00, 0x00, 0x01, 0x00, 0x02, 0x00, 0x00,
+        0x05,
+    ];
+    let file = file_of(rt.alloc(), &[&BEGIN, &map, &rows, &XID])?;
+    expect(&rt, rt.alloc(), &file, "", Verdict::Row);
+    Ok(())
+}
+
+#[test]
+fn null_cell(rt: HostRuntime) -> Result<(), Fail> {
+    let rows = [
+        0x00, 0x00, 0x00, 0x00, 0x1e, 0x01, 0x00, 0x00, 0x00, 0x20, 0x00, 0x00, 0x00, 0x6f, 0x00,
+        0x00, 0x00, 0x00, 0x00, 0x07, 0x00, 0x00, 0x00, 0x00, 0x00, 0x01, 0x00, 0x02, 0x00, 0x01,
+        0x01, 0x01,
+    ];
+    let commit = changed(&XID, 13, 0x8a);
+    let file = file_of(rt.alloc(), &[&BEGIN, &MAP, &rows, &commit])?;
+    let text = "begin -\ninsert 'd' 't' 0=NULL\ncommit 138\n";
+    expect(&rt, rt.alloc(), &file, text, Verdict::End);
+    Ok(())
+}
+
+#[test]
+fn begin_within_a_transaction(rt: HostRuntime) -> Result<(), Fail> {
+    let file = file_of(rt.alloc(), &[&BEGIN, &BEGIN])?;
+    expect(&rt, rt.alloc(), &file, "", Verdict::Inside);
+    Ok(())
+}
+
+#[test]
+fn unshown_event(rt: HostRuntime) -> Result<(), Fail> {
+    let load = changed(&changed(&XID, 4, 6), 9, 27);
+    let file = file_of(rt.alloc(), &[&BEGIN, &load])?;
+    expect(&rt, rt.alloc(), &file, "", Verdict::Unshown);
+    Ok(())
+}
+
+#[test]
+fn damaged_bodies(rt: HostRuntime) -> Result<(), Fail> {
+    let query = changed(&BEGIN, 27, 9);
+    expect(
+        &rt,
+        rt.alloc(),
+        &file_of(rt.alloc(), &[&query])?,
+        "",
+        Verdict::Body,
+    );
+    let map = changed(&MAP, 33, 0xfb);
+    expect(
+        &rt,
+        rt.alloc(),
+        &file_of(rt.alloc(), &[&map])?,
+        "",
+        Verdict::Body,
+    );
+    let rows = changed(&ROWS, 27, 9);
+    expect(
+        &rt,
+        rt.alloc(),
+        &file_of(rt.alloc(), &[&BEGIN, &MAP, &rows])?,
+        "",
+        Verdict::Body,
+    );
+    let commit = changed(&changed(&BEGIN, 4, 16), 9, 38);
+    expect(
+        &rt,
+        rt.alloc(),
+        &file_of(rt.alloc(), &[&BEGIN, &commit])?,
+        "",
+        Verdict::Body,
+    );
+    Ok(())
+}
+
+#[test]
+fn short_rotate(rt: HostRuntime) -> Result<(), Fail> {
+    let rotate = changed(&XID, 4, 4);
+    let file = file_of(rt.alloc(), &[&rotate])?;
+    expect(&rt, rt.alloc(), &file, "", Verdict::Unshown);
+    let short = [
+        0x00, 0x00, 0x00, 0x00, 0x04, 0x01, 0x00, 0x00, 0x00, 0x1a, 0x00, 0x00, 0x00, 0x8e, 0x00,
+        0x00, 0x00, 0x00, 0x00, 0x0b, 0x00, 0x00, 0x00, 0x00, 0x00, 0x00,
+    ];
+    let file = file_of(rt.alloc(), &[&short])?;
+    expect(&rt, rt.alloc(), &file, "", Verdict::Body);
+    Ok(())
+}
+
+#[test]
+fn unknown_events(rt: HostRuntime) -> Result<(), Fail> {
+    let unknown = changed(&changed(&XID, 4, 0x29), 9, 27);
+    expect(
+        &rt,
+        rt.alloc(),
+        &file_of(rt.alloc(), &[&unknown])?,
+        "",
+        Verdict::UnknownKind,
+    );
+    let ignorable = changed(&unknown, 17, 0x80);
+    let file = file_of(
+        rt.alloc(),
+        &[&ignorable, &BEGIN, &ignorable, &MAP, &ROWS, &XID],
+    )?;
+    expect(&rt, rt.alloc(), &file, TEXT, Verdict::End);
+    Ok(())
+}
+
+#[test]
+fn broken_frames(rt: HostRuntime) -> Result<(), Fail> {
+    let short = changed(&BEGIN, 9, 18);
+    let file = file_of(rt.alloc(), &[&BEGIN, &MAP, &ROWS, &XID, &short])?;
+    expect(&rt, rt.alloc(), &file, TEXT, Verdict::Frame);
+    let huge = changed(
+        &changed(&changed(&changed(&XID, 9, 0xff), 10, 0xff), 11, 0xff),
+        12,
+        0xff,
+    );
+    let file = file_of(rt.alloc(), &[&BEGIN, &huge])?;
+    expect(&rt, rt.alloc(), &file, "", Verdict::End);
+    Ok(())
+}
+
+#[test]
+fn negative_numbers_and_other_tables(rt: HostRuntime) -> Result<(), Fail> {
+    let mut rows = ROWS;
+    rows[32..36].copy_from_slice(&[0xff; 4]);
+    let quoted = changed(&MAP, 28, 0x27);
+    let file = file_of(
+        rt.alloc(),
+        &[
+            &BEGIN, &quoted, &rows, &ROWS, &XID, &BEGIN, &MAP, &ROWS, &XID,
+        ],
+    )?;
+    let text =
+        "begin -\ninsert '\\27' 't' 0=-1\ninsert '\\27' 't' 0=5\ncommit 142\nbegin -\ninsert 'd' 't' 0=5\ncommit 142\n";
+    expect(&rt, rt.alloc(), &file, text, Verdict::End);
+    Ok(())
+}
+
+#[test]
+fn report_with_a_failing_reader(rt: HostRuntime) -> Result<(), Fail> {
+    let file = file_of(rt.alloc(), &[&BEGIN, &MAP, &ROWS, &XID])?;
+    for k in 0..file.len() + 1 {
+        let (front, _) = file.split_at(k);
+        let mut reader = Watched::new(Pieces {
+            bytes: front,
+            at_once: 7,
+            fails: true,
+        });
+        let mut writer = Watched::new(Vec::new(rt.alloc()));
+        let verdict = report(rt.alloc(), &mut reader, &no_checksum, &mut writer);
+        assert_eq!(rt; verdict, Verdict::Read);
+        assert!(rt; reader.failed());
+        assert!(rt; !writer.failed());
+        let text = if k < file.len() { "" } else { TEXT };
+        assert_eq!(rt; writer.into_inner().as_slice(), text.as_bytes());
+    }
+    Ok(())
+}
+
+#[test]
+fn report_with_a_failing_writer(rt: HostRuntime) -> Result<(), Fail> {
+    let file = file_of(rt.alloc(), &[&BEGIN, &MAP, &ROWS, &XID])?;
+    for room in 0..TEXT.len() + 1 {
+        let mut reader = Watched::new(file.as_slice());
+        let mut writer = Watched::new(Full {
+            taken: Vec::new(rt.alloc()),
+            room,
+        });
+        let verdict = report(rt.alloc(), &mut reader, &no_checksum, &mut writer);
+        let is_whole = room == TEXT.len();
+        assert_eq!(rt;
+            verdict,
+            if is_whole {
+                Verdict::End
+            } else {
+                Verdict::Write
+            }
+        );
+        assert_eq!(rt; writer.failed(), !is_whole);
+        assert!(rt; !reader.failed());
+        let taken = writer.into_inner().taken;
+        assert_eq!(rt; taken.as_slice(), &TEXT.as_bytes()[..room]);
+    }
+    Ok(())
+}
+
+#[test]
+fn names_and_statuses(rt: HostRuntime) {
+    assert_eq!(rt; name_of(&Verdict::End), "End");
+    assert_eq!(rt; name_of(&Verdict::UnknownKind), "UnknownKind");
+    assert_eq!(rt; status(&Verdict::End), 0);
+    assert_eq!(rt; status(&Verdict::Closed), 1);
+}

@@ -1,0 +1,104 @@
+//! Readers and writers of which it is known whether they failed.
+
+ghost use Rattle.std.specs.Prelude.{◌≡◌, ◌+◌, ◌<◌, ◌≤◌, IsErr, OnOk, OnErr, true, false, length};
+ghost use Rattle.std.specs.Io.KnownBytes.{ReadConsumes, WriteAppends};
+ghost use Rattle.std.specs.Io.{ReadsAtMost, WritesAtMost};
+ghost use Rattle.binlog_feed.specs.Watched.{inner_of, turns_of, has_failed, IsTaken};
+
+use std::io::{self, ErrorKind, Read, Write};
+
+/// How many reads are made of one reader at most: 2^63 - 1.
+pub const MAX_TURNS: u64 = 0x7fff_ffff_ffff_ffff;
+
+/// A reader or a writer that is watched: it counts its reads and keeps whether one of its calls failed.
+#[derive(Drop)]
+pub struct Watched<T> {
+    inner: T,
+    turns: u64,
+    failed: bool,
+}
+
+impl<T> Watched<T> {
+    /// Watches a reader or a writer, which hasn't failed yet.
+    pub fn new(inner: T) -> Watched<T>
+        ensures inner { inner_of result ≡ inner }
+        ensures turns { turns_of result ≡ 0 }
+        ensures failed { has_failed result ≡ false }
+    {
+        Watched {
+            inner,
+            turns: 0,
+            failed: false,
+        }
+    }
+
+    /// Whether a `pull` or a `push` failed.
+    pub fn failed(&self) -> bool
+        ensures { result ≡ has_failed self.now }
+    {
+        self.failed
+    }
+
+    /// The reader or the writer.
+    pub fn into_inner(self) -> T
+        ensures { result ≡ inner_of self }
+    {
+        let Watched {
+            inner,
+            turns: _,
+            failed: _,
+        } = self;
+        inner
+    }
+}
+
+impl<R: Read> Watched<R> {
+    /// One read, which is counted. After 2^63 - 1 of them it reads nothing and fails. It fails where the
+    /// read fails, with the read's error.
+    pub fn pull(&mut self, buf: &mut [u8]) -> io::Result<usize>
+        ensures bound { ReadsAtMost result buf.new }
+        ensures bytes { ReadConsumes (R.remaining (inner_of self.old)) (R.remaining (inner_of self.new)) result buf.new }
+        ensures counted { turns_of self.old < MAX_TURNS → turns_of self.new ≡ turns_of self.old + 1 }
+        ensures limited { OnOk result (turns_of self.old < MAX_TURNS) }
+        ensures spent { MAX_TURNS ≤ turns_of self.old → (inner_of self.new ≡ inner_of self.old) × (turns_of self.new ≡ turns_of self.old) }
+        ensures err { OnErr result (has_failed self.new ≡ true) }
+        ensures ok { OnOk result (has_failed self.new ≡ has_failed self.old) }
+    {
+        if self.turns >= MAX_TURNS {
+            self.failed = true;
+            return Err(io::Error::from(ErrorKind::Other));
+        }
+        self.turns += 1;
+        let outcome = self.inner.read(buf);
+        if outcome.is_err() {
+            self.failed = true;
+        }
+        outcome
+    }
+}
+
+impl<W: Write> Watched<W> {
+    /// One write. Taking nothing of bytes that are there is a failure, as is a write that fails.
+    pub fn push(&mut self, bytes: &[u8]) -> io::Result<usize>
+        ensures bound { WritesAtMost result bytes.now }
+        ensures bytes { WriteAppends (W.contents (inner_of self.old)) (W.contents (inner_of self.new)) result bytes.now }
+        ensures some { IsTaken result bytes.now }
+        ensures turns { turns_of self.new ≡ turns_of self.old }
+        ensures err { OnErr result (has_failed self.new ≡ true) }
+        ensures ok { OnOk result (has_failed self.new ≡ has_failed self.old) }
+    {
+        match self.inner.write(bytes) {
+            Ok(taken) => {
+                if taken == 0 && !bytes.is_empty() {
+                    self.failed = true;
+                    return Err(io::Error::from(ErrorKind::WriteZero));
+                }
+                Ok(taken)
+            }
+            Err(error) => {
+                self.failed = true;
+                Err(error)
+            }
+        }
+    }
+}
