@@ -12,3 +12,4 @@ pub mod MarkLemmas
 pub mod ImageLemmas
 pub mod FrontLemmas
 pub mod WaitingLemmas
+pub mod FollowLemmas

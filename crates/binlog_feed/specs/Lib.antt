@@ -20,3 +20,8 @@ pub mod Tables
 pub mod Lines
 pub mod Standing
 pub mod Verdicts
+pub mod Streams
+pub mod Following
+pub mod Requests
+pub mod RequestErrors
+pub mod WorkedStreams

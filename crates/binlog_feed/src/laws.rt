@@ -1,6 +1,6 @@
 //! Laws of the definitions that the contracts cite. Each is a function that does nothing, whose contract is the law.
 
-ghost use Rattle.std.specs.Prelude.{◌≡◌, ◌↔◌, ◌++◌, ◌∷◌, [], Some, List, ℕ, false};
+ghost use Rattle.std.specs.Prelude.{◌≡◌, codes, ◌↔◌, ◌++◌, ◌∷◌, [], Some, List, ℕ, false};
 ghost use Rattle.binlog_feed.specs.TableMap.{TableMap, IsTableMap, table_map};
 ghost use Rattle.binlog_feed.specs.RowsEvent.{RowsEvent, IsRowsEvent, rows_event};
 ghost use Rattle.binlog_feed.specs.Queries.{IsQuery, query_text};
@@ -9,7 +9,10 @@ ghost use Rattle.binlog_feed.specs.Events.{Event, AreWhole, events, joined, mark
 ghost use Rattle.binlog_feed.specs.Transactions.{good, is_waiting};
 ghost use Rattle.binlog_feed.specs.Report.{file_report, transactions};
 ghost use Rattle.binlog_feed.specs.WorkedReports.{file_of, nothing_and, one_insert_events, one_insert_text, null_cell_text, without_commit, without_last_byte, begin_event, map_event, write_event, commit_event, write_event_of_table_8, write_event_of_null, commit_event_at_138, map_event_without_columns, write_event_without_columns, commit_event_at_135, load_event};
-ghost use Rattle.binlog_feed.specs.declared.verdict.Verdict.TheVariants.{End, Mark, NoTableMap, Outside, Row, Inside, Unshown};
+ghost use Rattle.binlog_feed.specs.Streams.{stream_report};
+ghost use Rattle.binlog_feed.specs.Requests.{dump_request};
+ghost use Rattle.binlog_feed.specs.WorkedStreams.{open_answer, whole_answer, closing_packet, misnumbered_answer, misnumbered_front, empty_payload, long_closing_payload, short_event_payload, error_packet, program_limit, worked_request};
+ghost use Rattle.binlog_feed.specs.declared.verdict.Verdict.TheVariants.{Closed, TooLarge, OutOfNumber, NotAnEvent, ServerError, End, Mark, NoTableMap, Outside, Row, Inside, Unshown};
 
 /// A body is read exactly where it is its fields joined, with nothing left, and as what they spell.
 pub fn bodies_are_their_fields()
@@ -58,4 +61,20 @@ pub fn worked_reports()
         ≡ record { text = null_cell_text; verdict = End } }
     ensures begin_within_a_transaction { file_report (file_of (begin_event ∷ begin_event ∷ [])) ≡ nothing_and Inside }
     ensures unshown_event { file_report (file_of (begin_event ∷ load_event ∷ [])) ≡ nothing_and Unshown }
+{}
+
+/// Reports of streams that the definitions compute, and a request.
+pub fn worked_streams()
+    ensures whole_answer { stream_report program_limit whole_answer ≡ record { text = one_insert_text; verdict = End } }
+    ensures stream_without_closing_packet { stream_report program_limit open_answer ≡ record { text = one_insert_text; verdict = Closed } }
+    ensures packet_faults_out_of_number { stream_report program_limit misnumbered_answer ≡ nothing_and OutOfNumber }
+    ensures packet_faults_cut_short { stream_report program_limit misnumbered_front ≡ nothing_and Closed }
+    ensures packet_faults_too_large { stream_report 38 (39 ∷ 0 ∷ 0 ∷ 1 ∷ []) ≡ nothing_and TooLarge }
+    ensures packet_faults_too_large_first { stream_report 38 (39 ∷ 0 ∷ 0 ∷ 2 ∷ []) ≡ nothing_and TooLarge }
+    ensures empty_payload { stream_report program_limit empty_payload ≡ nothing_and NotAnEvent }
+    ensures long_closing_payload { stream_report program_limit long_closing_payload ≡ nothing_and NotAnEvent }
+    ensures short_event_payload { stream_report program_limit short_event_payload ≡ nothing_and NotAnEvent }
+    ensures error_packet { stream_report program_limit error_packet ≡ nothing_and ServerError }
+    ensures bytes_after_the_closing_packet { stream_report program_limit (closing_packet 1 ++ 255 ∷ 255 ∷ 255 ∷ 255 ∷ []) ≡ nothing_and End }
+    ensures dump_request { dump_request 4 1 (codes "master-bin.000002") ≡ worked_request }
 {}

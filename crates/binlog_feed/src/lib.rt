@@ -9,9 +9,15 @@ mod text;
 mod verdict;
 mod wire;
 
+pub use feed::follower::Follower;
 pub use feed::reporting::report;
+pub use feed::request::{RequestError, request};
 pub use verdict::{Verdict, name_of, status};
 pub use wire::watched::{MAX_TURNS, Watched};
 
+#[cfg(test)]
+mod follower_tests;
+#[cfg(test)]
+mod samples;
 #[cfg(test)]
 mod tests;

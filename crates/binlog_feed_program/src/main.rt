@@ -1,10 +1,22 @@
 //! The program `binlog-feed`: the change feed of a MySQL binary log.
 #![tactic(auto)]
 
-use binlog_feed::{Verdict, Watched, name_of, report, status};
+use binlog_feed::{Follower, Verdict, Watched, name_of, report, request, status};
 use std::alloc::Global;
-use std::io;
+use std::env;
+use std::fs::File;
+use std::io::{self, BufReader, BufWriter, Read, Write};
 use std::process::ExitCode;
+use std::rt::{Env, Files};
+
+/// The greatest length of a payload in bytes.
+const PACKET_LIMIT: usize = 1_073_741_824;
+
+/// The place after the mark, where the first event of a binary log begins.
+const FIRST_PLACE: u32 = 4;
+
+/// How many bytes of standard input are taken at once, at most.
+const PIECE_LEN: usize = 65_536;
 
 /// A binary log of one transaction that inserts one row.
 const ONE_INSERT: [u8; 142] = [
@@ -24,22 +36,138 @@ fn no_checksum(_bytes: &[u8]) -> u32 {
     0
 }
 
-/// Writes the report of a binary log to standard output.
-fn report_to_stdout<P: Print>(rt: &P, alloc: Global, binlog: &[u8]) -> Verdict {
-    let mut reader = Watched::new(binlog);
-    let mut writer = Watched::new(io::writer(rt));
-    report(alloc, &mut reader, &no_checksum, &mut writer)
+/// Says a name on standard error, and ends with status 1.
+fn fail(rt: &impl Eprint, name: &str) -> ExitCode {
+    let _ = eprintln!(rt; "{name}");
+    ExitCode::FAILURE
 }
 
 /// Ends with a verdict's status; its name goes to standard error where it isn't `End`.
-fn end_with<P: Eprint>(rt: &P, verdict: Verdict) -> ExitCode {
-    if verdict != Verdict::End {
-        let name = name_of(&verdict);
-        let _ = eprintln!(rt; "{name}");
+fn end_with(rt: &impl Eprint, verdict: Verdict) -> ExitCode {
+    if verdict == Verdict::End {
+        return ExitCode::from(status(&verdict));
     }
-    ExitCode::from(status(&verdict))
+    fail(rt, name_of(&verdict))
+}
+
+/// The verdict, or `Write` where what is still held can't be written.
+fn flushed<W: Write>(writer: &mut W, verdict: Verdict) -> Verdict {
+    match writer.flush() {
+        Ok(()) => verdict,
+        Err(_) => Verdict::Write,
+    }
+}
+
+/// Writes the report of a binary log to standard output.
+fn report_to_stdout<P: Print, R: Read + Drop>(rt: &P, alloc: Global, reader: R) -> Verdict {
+    let Ok(out) = BufWriter::new(alloc, io::writer(rt)) else {
+        return Verdict::Memory;
+    };
+    let mut reader = Watched::new(reader);
+    let mut writer = Watched::new(out);
+    let verdict = report(alloc, &mut reader, &no_checksum, &mut writer);
+    flushed(&mut writer.into_inner(), verdict)
+}
+
+/// Reports a file.
+fn report_file<P: Print + Eprint + Files>(rt: &P, alloc: Global, path: &str) -> ExitCode {
+    let Ok(file) = File::open(rt, path) else {
+        return fail(rt, "Open");
+    };
+    let Ok(reader) = BufReader::new(alloc, file) else {
+        return fail(rt, "Memory");
+    };
+    end_with(rt, report_to_stdout(rt, alloc, reader))
+}
+
+/// Writes a request to standard output.
+fn write_request<P: Print + Eprint>(
+    rt: &P,
+    alloc: Global,
+    place: u32,
+    server: u32,
+    name: &[u8],
+) -> ExitCode {
+    match request(alloc, place, server, name) {
+        Err(error) => fail(rt, error.name()),
+        Ok(packet) => {
+            let mut out = io::writer(rt);
+            match out.write_all(&packet) {
+                Ok(()) => ExitCode::SUCCESS,
+                Err(_) => fail(rt, name_of(&Verdict::Write)),
+            }
+        }
+    }
+}
+
+/// Follows the packets of a reader, and writes each transaction as soon as it is committed.
+fn follow<P: Print, R: Read + Drop>(rt: &P, alloc: Global, mut reader: R) -> Verdict {
+    let Ok((mut follower, _request)) = Follower::start(
+        alloc,
+        FIRST_PLACE,
+        1,
+        b"",
+        PACKET_LIMIT,
+        no_checksum,
+    ) else {
+        return Verdict::Memory;
+    };
+    let Ok(mut out) = BufWriter::new(alloc, io::writer(rt)) else {
+        return Verdict::Memory;
+    };
+    let mut piece = [0u8; PIECE_LEN];
+    for _ in 0..u64::MAX {
+        let taken = match reader.read(&mut piece) {
+            Ok(0) => return follower.finish(),
+            Ok(taken) => taken,
+            Err(_) => return Verdict::Read,
+        };
+        let verdict = follower.feed(&piece[..taken], &mut Watched::new(&mut out));
+        if out.flush().is_err() {
+            return Verdict::Write;
+        }
+        if let Some(verdict) = verdict {
+            return verdict;
+        }
+    }
+    Verdict::Read
+}
+
+/// One or more decimal digits and nothing else, at most 4,294,967,295.
+fn number(word: &str) -> Option<u32> {
+    if !word.bytes().all(|byte| byte.is_ascii_digit()) {
+        return None;
+    }
+    word.parse().ok()
+}
+
+/// Does what the words ask for.
+fn run(rt: &HostRuntime, words: &[String]) -> ExitCode {
+    let alloc = rt.alloc();
+    let Some((command, words)) = words.split_first() else {
+        return end_with(rt, report_to_stdout(rt, alloc, &ONE_INSERT[..]));
+    };
+    match (command.as_str(), words) {
+        ("report", [path]) => report_file(rt, alloc, path.as_str()),
+        ("request", [place, server, name]) => {
+            match (number(place.as_str()), number(server.as_str())) {
+                (Some(place), Some(server)) => {
+                    write_request(rt, alloc, place, server, name.as_str().as_bytes())
+                }
+                _ => fail(rt, "Usage"),
+            }
+        }
+        ("follow", []) => end_with(rt, follow(rt, alloc, rt.reader())),
+        _ => fail(rt, "Usage"),
+    }
 }
 
 fn main(rt: HostRuntime) -> ExitCode {
-    end_with(&rt, report_to_stdout(&rt, rt.alloc(), &ONE_INSERT))
+    let Ok(words) = env::args(&rt) else {
+        return fail(&rt, "Usage");
+    };
+    let Ok(words) = words.skip(1).collect::<Vec<String>>(rt.alloc()) else {
+        return fail(&rt, "Memory");
+    };
+    run(&rt, &words)
 }

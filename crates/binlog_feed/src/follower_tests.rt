@@ -1,0 +1,190 @@
+//! Worked streams of packets, and the request.
+
+use super::*;
+use crate::samples::{BEGIN, MAP, ROWS, TEXT, XID, no_checksum};
+use std::alloc::{AllocError, Global};
+use std::process::Abort;
+use std::test::*;
+
+/// The greatest length of a payload that the program allows.
+const LIMIT: usize = 1_073_741_824;
+
+/// The packet that closes an answer, with number 5.
+const CLOSING: [u8; 9] = [0x05, 0x00, 0x00, 0x05, 0xfe, 0x00, 0x00, 0x02, 0x00];
+
+/// A server's answer to a request for the whole of the small binary log, without its closing packet.
+fn open_answer(alloc: Global) -> Result<Vec<u8>, AllocError> {
+    let mut answer = Vec::from_slice(alloc, &[0x27, 0x00, 0x00, 0x01, 0x00])?;
+    answer.extend_from_slice(&BEGIN)?;
+    answer.extend_from_slice(&[0x26, 0x00, 0x00, 0x02, 0x00])?;
+    answer.extend_from_slice(&MAP)?;
+    answer.extend_from_slice(&[0x25, 0x00, 0x00, 0x03, 0x00])?;
+    answer.extend_from_slice(&ROWS)?;
+    answer.extend_from_slice(&[0x1c, 0x00, 0x00, 0x04, 0x00])?;
+    answer.extend_from_slice(&XID)?;
+    Ok(answer)
+}
+
+/// The same with its closing packet, 167 bytes.
+fn whole_answer(alloc: Global) -> Result<Vec<u8>, AllocError> {
+    let mut answer = open_answer(alloc)?;
+    answer.extend_from_slice(&CLOSING)?;
+    Ok(answer)
+}
+
+/// Feeds a stream in pieces, and finishes.
+fn followed(
+    alloc: Global,
+    stream: &[u8],
+    limit: usize,
+    pieces: &[usize],
+) -> Result<(Vec<u8>, Verdict), RequestError> {
+    let (mut follower, _request) = Follower::start(alloc, 4, 1, b"", limit, no_checksum)?;
+    let mut writer = Watched::new(Vec::new(alloc));
+    let mut rest = stream;
+    for piece in pieces {
+        let (front, after) = rest.split_at((*piece).min(rest.len()));
+        let _verdict = follower.feed(front, &mut writer);
+        rest = after;
+    }
+    for byte in rest {
+        let _verdict = follower.feed(&[*byte], &mut writer);
+    }
+    let verdict = follower.finish();
+    Ok((writer.into_inner(), verdict))
+}
+
+/// Checks what a follower makes of a stream in several cuttings.
+fn expect(
+    rt: &impl Abort,
+    alloc: Global,
+    stream: &[u8],
+    limit: usize,
+    text: &str,
+    verdict: Verdict,
+) -> Result<(), RequestError> {
+    let cuttings: [&[usize]; 4] = [&[], &[usize::MAX], &[3, 1, 40, 0, 7], &[43, 42, 41]];
+    for pieces in cuttings {
+        let (written, found) = followed(alloc, stream, limit, pieces)?;
+        assert_eq!(rt; written.as_slice(), text.as_bytes());
+        assert_eq!(rt; found, verdict);
+    }
+    Ok(())
+}
+
+#[test]
+fn stream_in_single_bytes(rt: HostRuntime) -> Result<(), Fail> {
+    let answer = whole_answer(rt.alloc())?;
+    assert_eq!(rt; answer.len(), 167);
+    expect(&rt, rt.alloc(), &answer, LIMIT, TEXT, Verdict::End)?;
+    Ok(())
+}
+
+#[test]
+fn packet_faults(rt: HostRuntime) -> Result<(), Fail> {
+    let mut answer = whole_answer(rt.alloc())?;
+    answer.truncate(60);
+    expect(&rt, rt.alloc(), &answer, LIMIT, "", Verdict::Closed)?;
+    let header = [0x27, 0x00, 0x00, 0x02];
+    expect(&rt, rt.alloc(), &header, 38, "", Verdict::TooLarge)?;
+    expect(
+        &rt,
+        rt.alloc(),
+        &[0x27, 0x00, 0x00, 0x01],
+        38,
+        "",
+        Verdict::TooLarge,
+    )?;
+    expect(&rt, rt.alloc(), &header, 39, "", Verdict::Closed)?;
+    Ok(())
+}
+
+#[test]
+fn packet_faults_out_of_number(rt: HostRuntime) -> Result<(), Fail> {
+    let mut stream = Vec::from_slice(rt.alloc(), &[0x27, 0x00, 0x00, 0x01, 0x00])?;
+    stream.extend_from_slice(&BEGIN)?;
+    stream.extend_from_slice(&[0x26, 0x00, 0x00, 0x03, 0x00])?;
+    stream.extend_from_slice(&MAP[..36])?;
+    expect(&rt, rt.alloc(), &stream, LIMIT, "", Verdict::Closed)?;
+    stream.extend_from_slice(&MAP[36..])?;
+    expect(&rt, rt.alloc(), &stream, LIMIT, "", Verdict::OutOfNumber)?;
+    Ok(())
+}
+
+#[test]
+fn payloads_that_are_no_event(rt: HostRuntime) -> Result<(), Fail> {
+    let alloc = rt.alloc();
+    expect(&rt, alloc, &[0, 0, 0, 1], LIMIT, "", Verdict::NotAnEvent)?;
+    let mut longer = Vec::from_slice(alloc, &[9, 0, 0, 1, 0xfe])?;
+    longer.extend_from_slice(&[0; 8])?;
+    expect(&rt, alloc, &longer, LIMIT, "", Verdict::NotAnEvent)?;
+    let mut short = Vec::from_slice(alloc, &[19, 0, 0, 1, 0])?;
+    short.extend_from_slice(&XID[..18])?;
+    expect(&rt, alloc, &short, LIMIT, "", Verdict::NotAnEvent)?;
+    expect(
+        &rt,
+        alloc,
+        &[3, 0, 0, 1, 0xff, 1, 0],
+        LIMIT,
+        "",
+        Verdict::ServerError,
+    )?;
+    let mut shorter = Vec::from_slice(alloc, &[27, 0, 0, 1, 0])?;
+    shorter.extend_from_slice(&XID[..26])?;
+    expect(&rt, alloc, &shorter, LIMIT, "", Verdict::NotAnEvent)?;
+    Ok(())
+}
+
+#[test]
+fn bytes_after_the_closing_packet(rt: HostRuntime) -> Result<(), Fail> {
+    let stream = [5, 0, 0, 1, 0xfe, 0, 0, 2, 0, 0xff, 0xff, 0xff, 0xff];
+    expect(&rt, rt.alloc(), &stream, LIMIT, "", Verdict::End)?;
+    Ok(())
+}
+
+#[test]
+fn nothing_taken_after_closed(rt: HostRuntime) -> Result<(), Fail> {
+    let alloc = rt.alloc();
+    let (mut follower, _request) = Follower::start(alloc, 4, 1, b"", LIMIT, no_checksum)?;
+    let mut writer = Watched::new(Vec::new(alloc));
+    assert_eq!(rt; follower.finish(), Verdict::Closed);
+    let answer = whole_answer(alloc)?;
+    let again = follower.feed(&answer, &mut writer);
+    assert_eq!(rt; again, Some(Verdict::Closed));
+    assert_eq!(rt; writer.into_inner().len(), 0);
+    Ok(())
+}
+
+#[test]
+fn stream_without_closing_packet(rt: HostRuntime) -> Result<(), Fail> {
+    let answer = open_answer(rt.alloc())?;
+    expect(&rt, rt.alloc(), &answer, LIMIT, TEXT, Verdict::Closed)?;
+    Ok(())
+}
+
+#[test]
+fn dump_request(rt: HostRuntime) -> Result<(), Fail> {
+    let wanted = [
+        0x1c, 0x00, 0x00, 0x00, 0x12, 0x04, 0x00, 0x00, 0x00, 0x01, 0x00, 0x01, 0x00, 0x00, 0x00,
+        0x6d, 0x61, 0x73, 0x74, 0x65, 0x72, 0x2d, 0x62, 0x69, 0x6e, 0x2e, 0x30, 0x30, 0x30, 0x30,
+        0x30, 0x32,
+    ];
+    let name = b"master-bin.000002";
+    let packet = request(rt.alloc(), 4, 1, name)?;
+    assert_eq!(rt; packet.as_slice(), wanted.as_slice());
+    let (_follower, question) = Follower::start(rt.alloc(), 4, 1, name, LIMIT, no_checksum)?;
+    assert_eq!(rt; question.as_slice(), wanted.as_slice());
+    Ok(())
+}
+
+#[test]
+fn dump_request_of_a_long_name(rt: HostRuntime) -> Result<(), Fail> {
+    let name = [0x61; 512];
+    let packet = request(rt.alloc(), 4, 1, &name[..511])?;
+    assert_eq!(rt; packet.len(), 526);
+    let refusal = request(rt.alloc(), 4, 1, &name).err();
+    assert_eq!(rt; refusal, Some(RequestError::NameTooLong));
+    assert_eq!(rt; RequestError::NameTooLong.name(), "NameTooLong");
+    assert_eq!(rt; RequestError::Memory.name(), "Memory");
+    Ok(())
+}

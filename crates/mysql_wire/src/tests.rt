@@ -1,0 +1,100 @@
+use crate::{
+    ChunkDecoder, ChunkInfo, DEFAULT_MAX_ALLOWED_PACKET, PacketCodec, PacketCodecError,
+    decode_pieces, packet_to_chunks,
+};
+use bytes::BytesMut;
+use std::test::Fail;
+
+#[test]
+fn codec_framings_and_crc(rt: HostRuntime) -> Result<(), Fail> {
+    let mut dst = BytesMut::new(rt.alloc());
+    PacketCodec::default().encode(&[0x31, 0x32, 0x33], &mut dst)?;
+    assert_eq!(rt; dst.as_slice(), [3, 0, 0, 0, 0x31, 0x32, 0x33].as_slice());
+
+    let mut dst = BytesMut::new(rt.alloc());
+    PacketCodec::default().encode(&[], &mut dst)?;
+    assert_eq!(rt; dst.as_slice(), [0, 0, 0, 0].as_slice());
+    Ok(())
+}
+
+#[test]
+fn sequence_number_wraps(rt: HostRuntime) -> Result<(), Fail> {
+    let mut dst = BytesMut::new(rt.alloc());
+    let next = packet_to_chunks(255, &[0x31], &mut dst)?;
+    assert_eq!(rt; dst.as_slice(), [1, 0, 0, 0xff, 0x31].as_slice());
+    assert_eq!(rt; next, 0);
+    Ok(())
+}
+
+#[test]
+fn packets_from_pieces(rt: HostRuntime) {
+    let mut codec = PacketCodec::default();
+    let pieces: [&[u8]; 3] = [&[1, 0], &[0, 0, 0x31, 0], &[0, 0, 1]];
+    let (packets, fault) = decode_pieces(rt.alloc(), &mut codec, &pieces);
+    assert_eq!(rt; packets.len(), 2);
+    assert_eq!(rt; packets[0].as_slice(), [0x31].as_slice());
+    assert!(rt; packets[1].is_empty());
+    assert_eq!(rt; fault, None);
+}
+
+#[test]
+fn packet_past_the_limit(rt: HostRuntime) {
+    let mut codec = PacketCodec::default();
+    codec.max_allowed_packet = 1;
+    let pieces: [&[u8]; 1] = [&[2, 0, 0, 5]];
+    let (packets, fault) = decode_pieces(rt.alloc(), &mut codec, &pieces);
+    assert!(rt; packets.is_empty());
+    assert_eq!(rt; fault, Some(PacketCodecError::PacketTooLarge));
+}
+
+#[test]
+fn chunk_of_greatest_length(rt: HostRuntime) -> Result<(), Fail> {
+    let mut decoder = ChunkDecoder::Chunk {
+        seq_id: 0,
+        needed: usize::MAX,
+    };
+    let mut src = BytesMut::new(rt.alloc());
+    src.extend_from_slice(&[1, 2, 3])?;
+    let mut dst = Vec::new(rt.alloc());
+    assert_eq!(rt;
+        decoder.decode(&mut src, &mut dst, DEFAULT_MAX_ALLOWED_PACKET)?,
+        None
+    );
+    assert!(rt; dst.is_empty());
+    assert_eq!(rt; src.as_slice(), [1, 2, 3].as_slice());
+    Ok(())
+}
+
+/// Each call on its happy path, where memory is found.
+#[test]
+fn chunks_and_packets_are_read(rt: HostRuntime) -> Result<(), Fail> {
+    let mut encoder = PacketCodec::with_number(10, 7);
+    let mut stream = BytesMut::new(rt.alloc());
+    encoder.encode(&[5, 6], &mut stream)?;
+    assert_eq!(rt; stream.as_slice(), [2, 0, 0, 7, 5, 6].as_slice());
+
+    let mut chunks = BytesMut::new(rt.alloc());
+    chunks.extend_from_slice(stream.as_slice())?;
+    let mut payload = Vec::new(rt.alloc());
+    let mut decoder = ChunkDecoder::Idle;
+    assert_eq!(rt;
+        decoder.decode(&mut chunks, &mut payload, 10)?,
+        Some(ChunkInfo::Last(7))
+    );
+    assert_eq!(rt; payload.as_slice(), [5, 6].as_slice());
+
+    let mut codec = PacketCodec::with_number(10, 7);
+    codec.sync_seq_id();
+    let mut packet = Vec::new(rt.alloc());
+    assert!(rt; codec.decode(&mut stream, &mut packet)?);
+    assert_eq!(rt; packet.as_slice(), [5, 6].as_slice());
+    assert!(rt; !codec.decode(&mut stream, &mut packet)?);
+
+    codec.reset_seq_id();
+    stream.extend_from_slice(&[0, 0, 0, 9])?;
+    assert_eq!(rt;
+        codec.decode(&mut stream, &mut packet),
+        Err(PacketCodecError::PacketsOutOfSync)
+    );
+    Ok(())
+}

@@ -1,0 +1,4 @@
+pub mod SpellingLemmas
+pub mod NumberLemmas
+pub mod LenencLemmas
+pub mod StringLemmas

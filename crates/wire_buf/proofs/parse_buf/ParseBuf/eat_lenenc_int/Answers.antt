@@ -1,0 +1,5 @@
+use Rattle.wire_buf.proofs.SpellingLemmas.{is_some_unless_lacks}
+use Rattle.wire_buf.proofs.parse_buf.ParseBuf.eat_lenenc_int.Goals as goal
+
+pub unwrap-requires : goal.unwrap-requires
+unwrap-requires c = is_some_unless_lacks _ _ _ _ c.requires c.checked_eat_lenenc_int.ensures.none

@@ -1,0 +1,5 @@
+pub mod Spelling
+pub mod Eating
+pub mod Numbers
+pub mod Writing
+pub mod Fronts

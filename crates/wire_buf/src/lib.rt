@@ -1,0 +1,17 @@
+//! Buffers for the fields of MySQL's packets and binlog events, and the traits of values that are
+//! spelled in bytes.
+//!
+//! [`ParseBuf`] is what is left of a source; its calls eat numbers, strings and whole values from
+//! its front. [`MyDeserialize`] and [`MySerialize`] are the two directions of a field. Their
+//! contracts say which bytes spell a value (`specs/Spelling.antt`) and that the bytes are read in
+//! no other way.
+#![tactic(auto)]
+
+mod bytes;
+mod fault;
+mod parse_buf;
+mod traits;
+
+pub use fault::WireFault;
+pub use parse_buf::ParseBuf;
+pub use traits::{AnySize, Bytes, MyDeserialize, MySerialize, WireSize};

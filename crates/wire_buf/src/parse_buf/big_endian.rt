@@ -1,0 +1,371 @@
+//! Numbers whose highest byte comes first.
+
+ghost use Rattle.std.specs.Prelude.{◌≡◌, ◌≤◌, length, drop, IfSome, IfNone};
+ghost use Rattle.byteorder.specs.Endian.{big_number};
+ghost use Rattle.wire_buf.specs.Eating.{Eats, IsShort};
+ghost use Rattle.wire_buf.specs.Numbers.{big_signed};
+
+use super::ParseBuf;
+use byteorder::{BigEndian, ByteOrder};
+
+impl ParseBuf<'_> {
+    /// An unsigned number of two bytes.
+    pub fn eat_u16_be(&mut self) -> u16
+        requires { 2 ≤ length self.old.0.now }
+        ensures value { result ≡ big_number 2 self.old.0.now }
+        ensures rest { self.new.0.now ≡ drop 2 self.old.0.now }
+    {
+        let value = BigEndian::read_u16(self.0);
+        self.0 = &self.0[2..];
+        value
+    }
+
+    /// An unsigned number of two bytes, or None where fewer are left.
+    pub fn checked_eat_u16_be(&mut self) -> Option<u16>
+        ensures some { IfSome result
+            (λ v. Eats (big_number 2) 2 v self.old.0.now self.new.0.now) }
+        ensures none { IfNone result (IsShort 2 self.old.0.now self.new.0.now) }
+    {
+        if self.0.len() < 2 {
+            return None;
+        }
+        Some(self.eat_u16_be())
+    }
+
+    /// A signed number of two bytes.
+    pub fn eat_i16_be(&mut self) -> i16
+        requires { 2 ≤ length self.old.0.now }
+        ensures value { result ≡ big_signed 2 self.old.0.now }
+        ensures rest { self.new.0.now ≡ drop 2 self.old.0.now }
+    {
+        self.eat_u16_be().cast_signed()
+    }
+
+    /// A signed number of two bytes, or None where fewer are left.
+    pub fn checked_eat_i16_be(&mut self) -> Option<i16>
+        ensures some { IfSome result
+            (λ v. Eats (big_signed 2) 2 v self.old.0.now self.new.0.now) }
+        ensures none { IfNone result (IsShort 2 self.old.0.now self.new.0.now) }
+    {
+        if self.0.len() < 2 {
+            return None;
+        }
+        Some(self.eat_i16_be())
+    }
+
+    /// An unsigned number of three bytes.
+    pub fn eat_u24_be(&mut self) -> u32
+        requires { 3 ≤ length self.old.0.now }
+        ensures value { result ≡ big_number 3 self.old.0.now }
+        ensures rest { self.new.0.now ≡ drop 3 self.old.0.now }
+    {
+        let value = BigEndian::read_u24(self.0);
+        self.0 = &self.0[3..];
+        value
+    }
+
+    /// An unsigned number of three bytes, or None where fewer are left.
+    pub fn checked_eat_u24_be(&mut self) -> Option<u32>
+        ensures some { IfSome result
+            (λ v. Eats (big_number 3) 3 v self.old.0.now self.new.0.now) }
+        ensures none { IfNone result (IsShort 3 self.old.0.now self.new.0.now) }
+    {
+        if self.0.len() < 3 {
+            return None;
+        }
+        Some(self.eat_u24_be())
+    }
+
+    /// A signed number of three bytes.
+    pub fn eat_i24_be(&mut self) -> i32
+        requires { 3 ≤ length self.old.0.now }
+        ensures value { result ≡ big_signed 3 self.old.0.now }
+        ensures rest { self.new.0.now ≡ drop 3 self.old.0.now }
+    {
+        let value = BigEndian::read_i24(self.0);
+        self.0 = &self.0[3..];
+        value
+    }
+
+    /// A signed number of three bytes, or None where fewer are left.
+    pub fn checked_eat_i24_be(&mut self) -> Option<i32>
+        ensures some { IfSome result
+            (λ v. Eats (big_signed 3) 3 v self.old.0.now self.new.0.now) }
+        ensures none { IfNone result (IsShort 3 self.old.0.now self.new.0.now) }
+    {
+        if self.0.len() < 3 {
+            return None;
+        }
+        Some(self.eat_i24_be())
+    }
+
+    /// An unsigned number of four bytes.
+    pub fn eat_u32_be(&mut self) -> u32
+        requires { 4 ≤ length self.old.0.now }
+        ensures value { result ≡ big_number 4 self.old.0.now }
+        ensures rest { self.new.0.now ≡ drop 4 self.old.0.now }
+    {
+        let value = BigEndian::read_u32(self.0);
+        self.0 = &self.0[4..];
+        value
+    }
+
+    /// An unsigned number of four bytes, or None where fewer are left.
+    pub fn checked_eat_u32_be(&mut self) -> Option<u32>
+        ensures some { IfSome result
+            (λ v. Eats (big_number 4) 4 v self.old.0.now self.new.0.now) }
+        ensures none { IfNone result (IsShort 4 self.old.0.now self.new.0.now) }
+    {
+        if self.0.len() < 4 {
+            return None;
+        }
+        Some(self.eat_u32_be())
+    }
+
+    /// A signed number of four bytes.
+    pub fn eat_i32_be(&mut self) -> i32
+        requires { 4 ≤ length self.old.0.now }
+        ensures value { result ≡ big_signed 4 self.old.0.now }
+        ensures rest { self.new.0.now ≡ drop 4 self.old.0.now }
+    {
+        self.eat_u32_be().cast_signed()
+    }
+
+    /// A signed number of four bytes, or None where fewer are left.
+    pub fn checked_eat_i32_be(&mut self) -> Option<i32>
+        ensures some { IfSome result
+            (λ v. Eats (big_signed 4) 4 v self.old.0.now self.new.0.now) }
+        ensures none { IfNone result (IsShort 4 self.old.0.now self.new.0.now) }
+    {
+        if self.0.len() < 4 {
+            return None;
+        }
+        Some(self.eat_i32_be())
+    }
+
+    /// An unsigned number of five bytes.
+    pub fn eat_u40_be(&mut self) -> u64
+        requires { 5 ≤ length self.old.0.now }
+        ensures value { result ≡ big_number 5 self.old.0.now }
+        ensures rest { self.new.0.now ≡ drop 5 self.old.0.now }
+    {
+        let value = BigEndian::read_uint(self.0, 5);
+        self.0 = &self.0[5..];
+        value
+    }
+
+    /// An unsigned number of five bytes, or None where fewer are left.
+    pub fn checked_eat_u40_be(&mut self) -> Option<u64>
+        ensures some { IfSome result
+            (λ v. Eats (big_number 5) 5 v self.old.0.now self.new.0.now) }
+        ensures none { IfNone result (IsShort 5 self.old.0.now self.new.0.now) }
+    {
+        if self.0.len() < 5 {
+            return None;
+        }
+        Some(self.eat_u40_be())
+    }
+
+    /// A signed number of five bytes.
+    pub fn eat_i40_be(&mut self) -> i64
+        requires { 5 ≤ length self.old.0.now }
+        ensures value { result ≡ big_signed 5 self.old.0.now }
+        ensures rest { self.new.0.now ≡ drop 5 self.old.0.now }
+    {
+        let value = BigEndian::read_int(self.0, 5);
+        self.0 = &self.0[5..];
+        value
+    }
+
+    /// A signed number of five bytes, or None where fewer are left.
+    pub fn checked_eat_i40_be(&mut self) -> Option<i64>
+        ensures some { IfSome result
+            (λ v. Eats (big_signed 5) 5 v self.old.0.now self.new.0.now) }
+        ensures none { IfNone result (IsShort 5 self.old.0.now self.new.0.now) }
+    {
+        if self.0.len() < 5 {
+            return None;
+        }
+        Some(self.eat_i40_be())
+    }
+
+    /// An unsigned number of six bytes.
+    pub fn eat_u48_be(&mut self) -> u64
+        requires { 6 ≤ length self.old.0.now }
+        ensures value { result ≡ big_number 6 self.old.0.now }
+        ensures rest { self.new.0.now ≡ drop 6 self.old.0.now }
+    {
+        let value = BigEndian::read_u48(self.0);
+        self.0 = &self.0[6..];
+        value
+    }
+
+    /// An unsigned number of six bytes, or None where fewer are left.
+    pub fn checked_eat_u48_be(&mut self) -> Option<u64>
+        ensures some { IfSome result
+            (λ v. Eats (big_number 6) 6 v self.old.0.now self.new.0.now) }
+        ensures none { IfNone result (IsShort 6 self.old.0.now self.new.0.now) }
+    {
+        if self.0.len() < 6 {
+            return None;
+        }
+        Some(self.eat_u48_be())
+    }
+
+    /// A signed number of six bytes.
+    pub fn eat_i48_be(&mut self) -> i64
+        requires { 6 ≤ length self.old.0.now }
+        ensures value { result ≡ big_signed 6 self.old.0.now }
+        ensures rest { self.new.0.now ≡ drop 6 self.old.0.now }
+    {
+        let value = BigEndian::read_i48(self.0);
+        self.0 = &self.0[6..];
+        value
+    }
+
+    /// A signed number of six bytes, or None where fewer are left.
+    pub fn checked_eat_i48_be(&mut self) -> Option<i64>
+        ensures some { IfSome result
+            (λ v. Eats (big_signed 6) 6 v self.old.0.now self.new.0.now) }
+        ensures none { IfNone result (IsShort 6 self.old.0.now self.new.0.now) }
+    {
+        if self.0.len() < 6 {
+            return None;
+        }
+        Some(self.eat_i48_be())
+    }
+
+    /// An unsigned number of seven bytes.
+    pub fn eat_u56_be(&mut self) -> u64
+        requires { 7 ≤ length self.old.0.now }
+        ensures value { result ≡ big_number 7 self.old.0.now }
+        ensures rest { self.new.0.now ≡ drop 7 self.old.0.now }
+    {
+        let value = BigEndian::read_uint(self.0, 7);
+        self.0 = &self.0[7..];
+        value
+    }
+
+    /// An unsigned number of seven bytes, or None where fewer are left.
+    pub fn checked_eat_u56_be(&mut self) -> Option<u64>
+        ensures some { IfSome result
+            (λ v. Eats (big_number 7) 7 v self.old.0.now self.new.0.now) }
+        ensures none { IfNone result (IsShort 7 self.old.0.now self.new.0.now) }
+    {
+        if self.0.len() < 7 {
+            return None;
+        }
+        Some(self.eat_u56_be())
+    }
+
+    /// A signed number of seven bytes.
+    pub fn eat_i56_be(&mut self) -> i64
+        requires { 7 ≤ length self.old.0.now }
+        ensures value { result ≡ big_signed 7 self.old.0.now }
+        ensures rest { self.new.0.now ≡ drop 7 self.old.0.now }
+    {
+        let value = BigEndian::read_int(self.0, 7);
+        self.0 = &self.0[7..];
+        value
+    }
+
+    /// A signed number of seven bytes, or None where fewer are left.
+    pub fn checked_eat_i56_be(&mut self) -> Option<i64>
+        ensures some { IfSome result
+            (λ v. Eats (big_signed 7) 7 v self.old.0.now self.new.0.now) }
+        ensures none { IfNone result (IsShort 7 self.old.0.now self.new.0.now) }
+    {
+        if self.0.len() < 7 {
+            return None;
+        }
+        Some(self.eat_i56_be())
+    }
+
+    /// An unsigned number of eight bytes.
+    pub fn eat_u64_be(&mut self) -> u64
+        requires { 8 ≤ length self.old.0.now }
+        ensures value { result ≡ big_number 8 self.old.0.now }
+        ensures rest { self.new.0.now ≡ drop 8 self.old.0.now }
+    {
+        let value = BigEndian::read_u64(self.0);
+        self.0 = &self.0[8..];
+        value
+    }
+
+    /// An unsigned number of eight bytes, or None where fewer are left.
+    pub fn checked_eat_u64_be(&mut self) -> Option<u64>
+        ensures some { IfSome result
+            (λ v. Eats (big_number 8) 8 v self.old.0.now self.new.0.now) }
+        ensures none { IfNone result (IsShort 8 self.old.0.now self.new.0.now) }
+    {
+        if self.0.len() < 8 {
+            return None;
+        }
+        Some(self.eat_u64_be())
+    }
+
+    /// A signed number of eight bytes.
+    pub fn eat_i64_be(&mut self) -> i64
+        requires { 8 ≤ length self.old.0.now }
+        ensures value { result ≡ big_signed 8 self.old.0.now }
+        ensures rest { self.new.0.now ≡ drop 8 self.old.0.now }
+    {
+        self.eat_u64_be().cast_signed()
+    }
+
+    /// A signed number of eight bytes, or None where fewer are left.
+    pub fn checked_eat_i64_be(&mut self) -> Option<i64>
+        ensures some { IfSome result
+            (λ v. Eats (big_signed 8) 8 v self.old.0.now self.new.0.now) }
+        ensures none { IfNone result (IsShort 8 self.old.0.now self.new.0.now) }
+    {
+        if self.0.len() < 8 {
+            return None;
+        }
+        Some(self.eat_i64_be())
+    }
+
+    /// An unsigned number of sixteen bytes.
+    pub fn eat_u128_be(&mut self) -> u128
+        requires { 16 ≤ length self.old.0.now }
+        ensures value { result ≡ big_number 16 self.old.0.now }
+        ensures rest { self.new.0.now ≡ drop 16 self.old.0.now }
+    {
+        let value = BigEndian::read_u128(self.0);
+        self.0 = &self.0[16..];
+        value
+    }
+
+    /// An unsigned number of sixteen bytes, or None where fewer are left.
+    pub fn checked_eat_u128_be(&mut self) -> Option<u128>
+        ensures some { IfSome result
+            (λ v. Eats (big_number 16) 16 v self.old.0.now self.new.0.now) }
+        ensures none { IfNone result (IsShort 16 self.old.0.now self.new.0.now) }
+    {
+        if self.0.len() < 16 {
+            return None;
+        }
+        Some(self.eat_u128_be())
+    }
+
+    /// A signed number of sixteen bytes.
+    pub fn eat_i128_be(&mut self) -> i128
+        requires { 16 ≤ length self.old.0.now }
+        ensures value { result ≡ big_signed 16 self.old.0.now }
+        ensures rest { self.new.0.now ≡ drop 16 self.old.0.now }
+    {
+        self.eat_u128_be().cast_signed()
+    }
+
+    /// A signed number of sixteen bytes, or None where fewer are left.
+    pub fn checked_eat_i128_be(&mut self) -> Option<i128>
+        ensures some { IfSome result
+            (λ v. Eats (big_signed 16) 16 v self.old.0.now self.new.0.now) }
+        ensures none { IfNone result (IsShort 16 self.old.0.now self.new.0.now) }
+    {
+        if self.0.len() < 16 {
+            return None;
+        }
+        Some(self.eat_i128_be())
+    }
+}

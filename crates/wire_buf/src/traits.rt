@@ -1,0 +1,91 @@
+ghost use Rattle.std.specs.Prelude.{◌≡◌, ◌⊎◌, List, ℕ, length, OnOk, IfOk, IfErr, Option, Some, None};
+ghost use Rattle.wire_buf.specs.Spelling.{Reads, Lacks, HasSize, HasRoom};
+ghost use Rattle.wire_buf.specs.Writing.{Appends, Refuses};
+ghost use Rattle.wire_buf.specs.declared.fault.WireFault.TheVariants.{Memory};
+
+use crate::fault::WireFault;
+use crate::parse_buf::ParseBuf;
+use std::alloc::{Allocator, Global};
+
+/// How many bytes a form takes, as a type: proofs can't see the constant `SIZE` of an impl for a
+/// type with a lifetime.
+pub trait WireSize {
+    /// The number of bytes, or None where it isn't always the same.
+    const SIZE: Option<usize>;
+
+    ghost SIZE: { Option ℕ };
+}
+
+/// Always N bytes.
+pub struct Bytes<const N: usize>;
+
+/// As many bytes as the value and its context ask.
+pub struct AnySize;
+
+impl<const N: usize> WireSize for Bytes<N> {
+    const SIZE: Option<usize> = Some(N);
+
+    ghost SIZE = { Some N };
+}
+
+impl WireSize for AnySize {
+    const SIZE: Option<usize> = None;
+
+    ghost SIZE = { None };
+}
+
+/// A value that is read from bytes, as in `mysql_common`.
+///
+/// `deserialize` reads the one value that is spelled at the front, or answers a fault where there
+/// is none or where memory was refused. What a fault leaves eaten is open; [`ParseBuf::parse`]
+/// settles it for values of one size.
+pub trait MyDeserialize<'de>: Sized {
+    /// How many bytes every value takes, or None. It is that of `Size`.
+    const SIZE: Option<usize>;
+
+    /// The same as a type, for proofs and for generic callers.
+    type Size: WireSize;
+
+    /// What the reader has to know beforehand, as a length.
+    type Ctx: Drop;
+
+    /// Why reading is refused.
+    type Fault: From<WireFault>;
+
+    /// In this context these bytes, before that rest, spell the value.
+    ghost spells: { Self.Ctx → Self → List ℕ → List ℕ → Type 0 };
+
+    /// The two values are the same, wherever the bytes lie that they show.
+    ghost same: { Self → Self → Type 0 };
+
+    /// The fault is want of memory.
+    ghost is_memory: { Self.Fault → Type 0 };
+
+    /// Reads the value at the front of `buf`. Asks that `SIZE` bytes stand there, if there is one.
+    fn deserialize(
+        alloc: Global,
+        ctx: Self::Ctx,
+        buf: &mut ParseBuf<'de>,
+    ) -> Result<Self, Self::Fault>
+        requires { HasRoom Self.Size.SIZE (length buf.old.0.now) }
+        ensures ok { IfOk result (λ v. Reads (spells ctx) same v buf.old.0.now buf.new.0.now) }
+        ensures err { IfErr result (λ e. is_memory e ⊎ Lacks (spells ctx) buf.old.0.now) };
+
+    /// A spelling has the size.
+    ghost sized: { (ctx : Self.Ctx) (v : Self) (bytes rest : List ℕ) → spells ctx v bytes rest → HasSize Self.Size.SIZE (length bytes) };
+
+    /// Want of memory is told as such.
+    ghost tells_memory: { (f : Self.Fault) → Self.Fault.from_gives Memory f → is_memory f };
+}
+
+/// A value that is written as bytes, as in `mysql_common`.
+pub trait MySerialize {
+    /// What is written for the value, or None where its form can't hold it.
+    ghost spelling: { Self → Option (List ℕ) };
+
+    /// Appends the value's bytes to `buf`, on the buffer's own allocator. A refusal leaves the
+    /// bytes of `buf` as they were: `Memory`, or `Form` where the form can't hold the value.
+    fn serialize<A: Allocator>(&self, buf: &mut Vec<u8, A>) -> Result<(), WireFault>
+        ensures ok { OnOk result (Appends spelling self.now buf.old.items buf.new.items) }
+        ensures err { IfErr result (λ e. Refuses spelling self.now e buf.old.items buf.new.items) };
+}
