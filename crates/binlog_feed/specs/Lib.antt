@@ -6,6 +6,7 @@ pub mod RowsEvent
 pub mod Images
 pub mod Queries
 pub mod Events
+pub mod Descriptions
 pub mod Frames
 pub mod Kinds
 pub mod Text

@@ -2,7 +2,7 @@
 
 use super::*;
 use crate::samples::{BEGIN, MAP, MARK, ROWS, TEXT, XID, file_of, no_checksum};
-use std::alloc::Global;
+use std::alloc::{AllocError, Global};
 use std::io::{self, ErrorKind, Read, Write};
 use std::process::Abort;
 use std::test::*;
@@ -214,6 +214,36 @@ fn short_rotate(rt: HostRuntime) -> Result<(), Fail> {
     ];
     let file = file_of(rt.alloc(), &[&short])?;
     expect(&rt, rt.alloc(), &file, "", Verdict::Body);
+    Ok(())
+}
+
+/// A description of 75 to 81 bytes, from a server of this version.
+fn description(alloc: Global, len: u8, version: &[u8]) -> Result<Vec<u8>, AllocError> {
+    let mut event = Vec::from_slice(alloc, &[0, 0, 0, 0, 0x0f, 1, 0, 0, 0, len, 0, 0, 0])?;
+    event.extend_from_slice(&[0, 0, 0, 0, 0, 0, 4, 0])?;
+    event.extend_from_slice(version)?;
+    for _ in event.len()..len as usize {
+        event.push(0)?;
+    }
+    Ok(event)
+}
+
+#[test]
+fn short_descriptions(rt: HostRuntime) -> Result<(), Fail> {
+    let alloc = rt.alloc();
+    let rows: [(u8, &[u8], Verdict); 6] = [
+        (75, b"5.5.0", Verdict::Frame),
+        (76, b"5.5.0", Verdict::Unshown),
+        (76, b"5.6.0-log", Verdict::Unshown),
+        (80, b"5.6.1", Verdict::Frame),
+        (80, b"8.0.32-log", Verdict::Frame),
+        (81, b"8.0.32-log", Verdict::Unshown),
+    ];
+    for (len, version, verdict) in rows {
+        let event = description(alloc, len, version)?;
+        let file = file_of(alloc, &[&event])?;
+        expect(&rt, alloc, &file, "", verdict);
+    }
     Ok(())
 }
 

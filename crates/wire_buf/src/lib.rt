@@ -10,6 +10,8 @@
 mod bytes;
 mod fault;
 mod parse_buf;
+#[cfg(test)]
+mod tests;
 mod traits;
 
 pub use fault::WireFault;

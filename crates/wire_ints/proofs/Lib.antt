@@ -1,0 +1,6 @@
+pub mod WritingLemmas
+pub mod SevenLemmas
+pub mod OnesLemmas
+pub mod StreamLemmas
+pub mod LenencStreamLemmas
+pub mod VersionLemmas

@@ -1,0 +1,211 @@
+-- Reading seven bits a byte finds the spellings.
+use Rattle.std.proofs.Common.{◌≡◌, ◌≤◌, ◌<◌, ◌+◌, ◌*◌, ◌-◌, ◌^◌, ◌++◌, inl, inr, ℕ, zero, suc, List, [], ◌∷◌, arith, refl, sym, ap, ◌∙◌, subst, Option, Some, None, option_map, false, take, length, set, append_assoc, ◌/◌, ◌%◌}
+use Rattle.std.proofs.lemmas.Bool.Decides.{leb_tells}
+use Rattle.std.proofs.lemmas.List.{take_more_set}
+use Rattle.wire_buf.specs.Spelling.{Begins, Reads, Lacks, Alone, Equal}
+use Rattle.wire_buf.proofs.SpellingLemmas.{same_parts}
+use Rattle.std.specs.Prelude.{nat_le}
+use Rattle.std.specs.List.{list_all}
+use Rattle.wire_buf.specs.declared.fault.WireFault.TheVariants.{BadNumber}
+use Rattle.wire_buf.specs.Spelling.{AreBytes}
+use Rattle.wire_buf.specs.Writing.{Writes}
+use Rattle.wire_ints.specs.Faults.{varlen_fault}
+use Rattle.wire_ints.specs.Sevens.{IsSevens, IsVarLen, last, more, sevens_front, sevens_spelling, varlen_spelling}
+
+pub sevens_front-complete : (k v : ℕ) (bytes r : List ℕ) → IsSevens k v bytes → sevens_front k (bytes ++ r) ≡ Some (v, r)
+unfolding sevens_front
+sevens_front-complete k v bytes r (last {b = b} h) = elim (leb_tells (suc b) 128) [
+  | inl t ↦ rw t.0 refl
+  | inr t ↦ absurd (omega (arith, t.1, h))
+]
+sevens_front-complete k v bytes r (more {k = j} {d = d} {v = w} {bytes = xs} big h) = elim (leb_tells (suc d) 128) [
+  | inl t ↦ absurd (omega (arith, t.1, big))
+  | inr t ↦ let rest = sevens_front-complete j w xs r h in rw (t.0, rest) refl
+]
+
+-- what stands behind a first byte with its top bit
+behind : (d v : ℕ) (r : List ℕ) (o : Option (ℕ × List ℕ)) → ◌≡◌ {A = Option (ℕ × List ℕ)} (option_map (λ p. ((d - 128) + 128 * p.0, p.1)) o) (Some (v, r)) → (w : ℕ) × (o ≡ Some (w, r)) × (v ≡ (d - 128) + 128 * w)
+behind d v r None e = absurd cc
+behind d v r (Some q) e =
+    let p = same_parts ((d - 128) + 128 * q.0) v q.1 r e in
+    (q.0, ap (λ l. Some (q.0, l)) p.1, sym p.0)
+
+pub sevens_front-sound : (k v : ℕ) (x r : List ℕ) → sevens_front k x ≡ Some (v, r) → Begins (Alone (IsSevens k)) v x r
+unfolding sevens_front
+sevens_front-sound zero v x r e = absurd cc
+sevens_front-sound (suc k) v [] r e = absurd cc
+sevens_front-sound (suc k) v (b ∷ x) r e = elim (leb_tells (suc b) 128) [
+  | inl t ↦
+      let f = rw t.0 at e in
+      let p = same_parts b v x r f in
+      record { bytes = b ∷ []; joined = rw p.1 refl; is = subst (λ n. IsSevens (suc k) n (b ∷ [])) p.0 (last t.1) }
+  | inr t ↦
+      let f = rw t.0 at e in
+      let q = behind b v r (sevens_front k x) f in
+      let rest = sevens_front-sound k q.0 x r q.1 in
+      record {
+        bytes = b ∷ rest.bytes;
+        joined = ap (λ l. b ∷ l) rest.joined;
+        is = subst (λ n. IsSevens (suc k) n (b ∷ rest.bytes)) (sym q.2) (more (omega (arith, t.1)) rest.is);
+      }
+]
+
+-- at most five bytes of seven bits
+pub sevens_fit : (n left high : ℕ) → left ≡ suc n → left ≤ 5 → high < 128 ^ n → (127 < 128 ^ left) × (127 + 128 * high < 128 ^ left) × (127 + 128 * high < 2 ^ 64)
+sevens_fit zero left high e room h = rw e (omega arith, omega (arith, h), omega (arith, h))
+sevens_fit (suc zero) left high e room h = rw e (omega arith, omega (arith, h), omega (arith, h))
+sevens_fit (suc (suc zero)) left high e room h = rw e (omega arith, omega (arith, h), omega (arith, h))
+sevens_fit (suc (suc (suc zero))) left high e room h = rw e (omega arith, omega (arith, h), omega (arith, h))
+sevens_fit (suc (suc (suc (suc zero)))) left high e room h = rw e (omega arith, omega (arith, h), omega (arith, h))
+sevens_fit (suc (suc (suc (suc (suc n))))) left high e room h = absurd (omega (arith, e, room))
+
+pub sevens_one : (n left : ℕ) → left ≡ suc n → left ≤ 5 → 127 < 128 ^ left
+sevens_one zero left e room = rw e (omega arith)
+sevens_one (suc zero) left e room = rw e (omega arith)
+sevens_one (suc (suc zero)) left e room = rw e (omega arith)
+sevens_one (suc (suc (suc zero))) left e room = rw e (omega arith)
+sevens_one (suc (suc (suc (suc zero)))) left e room = rw e (omega arith)
+sevens_one (suc (suc (suc (suc (suc n))))) left e room = absurd (omega (arith, e, room))
+
+begins_varlen : (v : ℕ) (x r : List ℕ) → Begins (Alone IsVarLen) v x r → sevens_front 5 x ≡ Some (v, r)
+begins_varlen v x r t = rw t.joined (sevens_front-complete 5 v t.bytes r t.is.sevens)
+
+pub varlen_reads : (v : ℕ) (x r : List ℕ) → sevens_front 5 x ≡ Some (v, r) → v < 2 ^ 32 → Reads (Alone IsVarLen) Equal v x r
+varlen_reads v x r e fits =
+    let t = sevens_front-sound 5 v x r e in
+    record {
+      begins = record { bytes = t.bytes; joined = t.joined; is = record { sevens = t.is; fits = fits } };
+      only = λ w s u. let p = same_parts w v s r (sym (begins_varlen w x s u) ∙ e) in (p.1, sym p.0);
+    }
+
+pub varlen_lacks : (x : List ℕ) → sevens_front 5 x ≡ None → Lacks (Alone IsVarLen) x
+varlen_lacks x e v r t = let f : ◌≡◌ {A = Option (ℕ × List ℕ)} (Some (v, r)) None = sym (begins_varlen v x r t) ∙ e in absurd cc
+
+pub varlen_lacks_big : (v : ℕ) (x r : List ℕ) → sevens_front 5 x ≡ Some (v, r) → 2 ^ 32 ≤ v → Lacks (Alone IsVarLen) x
+varlen_lacks_big v x r e big w s t =
+    let p = same_parts w v s r (sym (begins_varlen w x s t) ∙ e) in
+    let fits = t.is.fits in
+    omega (arith, p.0, fits, big)
+
+-- where a number is found, some byte is the last
+more_is_false : (k v : ℕ) (x r : List ℕ) → sevens_front k x ≡ Some (v, r) → list_all (λ b. nat_le 128 b) x ≡ false
+unfolding sevens_front
+more_is_false zero v x r e = absurd cc
+more_is_false (suc k) v [] r e = absurd cc
+more_is_false (suc k) v (b ∷ x) r e = elim (leb_tells (suc b) 128) [
+  | inl t ↦ elim (leb_tells 128 b) [
+    | inl s ↦ absurd (omega (arith, t.1, s.1))
+    | inr s ↦ rw s.0 refl
+  ]
+  | inr t ↦
+      let f = rw t.0 at e in
+      let q = behind b v r (sevens_front k x) f in
+      let tail = more_is_false k q.0 x r q.1 in
+      elim (leb_tells 128 b) [
+        | inl s ↦ rw (s.0, tail) refl
+        | inr s ↦ rw s.0 refl
+      ]
+]
+
+pub varlen_fault-found : (v : ℕ) (x r : List ℕ) → sevens_front 5 x ≡ Some (v, r) → varlen_fault x ≡ BadNumber
+varlen_fault-found v x r e =
+    let f = more_is_false 5 v x r e in
+    elim (leb_tells (suc (length x)) 5) [
+      | inl t ↦ rw (t.0, f) refl
+      | inr t ↦ rw t.0 refl
+    ]
+
+-- in the array of five bytes there is room for one more
+pub room_for_more : (len rest : ℕ) → len ≤ 4 → rest < 128 ^ (5 - len) → 128 ≤ rest → (len + 1 ≤ 4) × (rest / 128 < 128 ^ (5 - (len + 1)))
+room_for_more zero rest room fits big = (omega arith, omega (arith, fits))
+room_for_more (suc zero) rest room fits big = (omega arith, omega (arith, fits))
+room_for_more (suc (suc zero)) rest room fits big = (omega arith, omega (arith, fits))
+room_for_more (suc (suc (suc zero))) rest room fits big = (omega arith, omega (arith, fits))
+room_for_more (suc (suc (suc (suc zero)))) rest room fits big = absurd (omega (arith, fits, big))
+room_for_more (suc (suc (suc (suc (suc n))))) rest room fits big = absurd (omega (arith, room))
+
+-- a number of more than seven bits is spelled by its lowest seven bits, and then by the rest
+sevens_step : (j rest : ℕ) → 128 ≤ rest → sevens_spelling (suc j) rest ≡ (rest % 128 + 128) ∷ sevens_spelling j (rest / 128)
+unfolding sevens_spelling
+sevens_step j rest big = elim (leb_tells (suc rest) 128) [
+  | inl t ↦ absurd (omega (arith, t.1, big))
+  | inr t ↦ rw t.0 refl
+]
+
+sevens_end : (j rest : ℕ) → rest < 128 → sevens_spelling (suc j) rest ≡ rest ∷ []
+unfolding sevens_spelling
+sevens_end j rest small = elim (leb_tells (suc rest) 128) [
+  | inl t ↦ rw t.0 refl
+  | inr t ↦ absurd (omega (arith, t.1, small))
+]
+
+-- one more byte in the array
+pub sevens_more : (len rest : ℕ) (bytes all : List ℕ) → 128 ≤ rest → len + 1 ≤ 4 → length bytes ≡ 5
+    → take len bytes ++ sevens_spelling (5 - len) rest ≡ all
+    → take (len + 1) (set bytes len (rest % 128 + 128)) ++ sevens_spelling (5 - (len + 1)) (rest / 128) ≡ all
+sevens_more len rest bytes all big room size e =
+    let left : 5 - len ≡ suc (5 - (len + 1)) = omega (arith, room) in
+    let inside : len < length bytes = omega (arith, room, size) in
+    let y = rest % 128 + 128 in
+    ap (λ (l : List ℕ). l ++ sevens_spelling (5 - (len + 1)) (rest / 128)) (take_more_set bytes len y inside)
+    ∙ append_assoc (take len bytes) (y ∷ []) (sevens_spelling (5 - (len + 1)) (rest / 128))
+    ∙ ap (λ (l : List ℕ). take len bytes ++ l) (sym (sevens_step (5 - (len + 1)) rest big))
+    ∙ ap (λ (n : ℕ). take len bytes ++ sevens_spelling n rest) (sym left) ∙ e
+
+-- the last byte in the array
+pub sevens_last : (len rest : ℕ) (bytes all : List ℕ) → rest < 128 → len ≤ 4 → length bytes ≡ 5
+    → take len bytes ++ sevens_spelling (5 - len) rest ≡ all → take (len + 1) (set bytes len rest) ≡ all
+sevens_last len rest bytes all small room size e =
+    let left : 5 - len ≡ suc (4 - len) = omega (arith, room) in
+    let inside : len < length bytes = omega (arith, room, size) in
+    take_more_set bytes len rest inside
+    ∙ ap (λ (l : List ℕ). take len bytes ++ l) (sym (sevens_end (4 - len) rest small))
+    ∙ ap (λ (n : ℕ). take len bytes ++ sevens_spelling n rest) (sym left) ∙ e
+
+-- the spelling spells its number
+sevens_is : (k v : ℕ) → v < 128 ^ suc k → IsSevens (suc k) v (sevens_spelling (suc k) v)
+sevens_is zero v fits = let small : v < 128 = omega (arith, fits) in rw (sevens_end zero v small) (last small)
+sevens_is (suc k) v fits = elim (leb_tells (suc v) 128) [
+  | inl t ↦ rw (sevens_end (suc k) v t.1) (last t.1)
+  | inr t ↦
+      let p : 128 ^ suc (suc k) ≡ 128 * 128 ^ suc k = omega arith in
+      let high : v / 128 < 128 ^ suc k = omega (arith, fits, p) in
+      let d = v % 128 + 128 in
+      let whole : (d - 128) + 128 * (v / 128) ≡ v = omega arith in
+      rw (sevens_step (suc k) v (omega (arith, t.1)))
+      (subst (λ (n : ℕ). IsSevens (suc (suc k)) n (d ∷ sevens_spelling (suc k) (v / 128))) whole (more (omega arith) (sevens_is k (v / 128) high)))
+]
+
+-- bytes after the first
+tail_bytes : (b : ℕ) (xs : List ℕ) → AreBytes (b ∷ xs) → AreBytes xs
+tail_bytes b xs h k = h (suc k)
+
+none_long : (v : ℕ) (other : List ℕ) → length (sevens_spelling zero v) ≤ length other
+unfolding sevens_spelling
+none_long v other = omega arith
+
+-- no spelling is shorter
+sevens_least : (k j v : ℕ) (other : List ℕ) → IsSevens j v other → AreBytes other → length (sevens_spelling k v) ≤ length other
+sevens_least zero j v other h bytes = none_long v other
+sevens_least (suc k) j v other (last {b = b} small) bytes = rw (sevens_end k b small) (omega arith)
+sevens_least (suc k) j v other (more {k = i} {d = d} {v = w} {bytes = xs} big h) bytes =
+    let n = (d - 128) + 128 * w in
+    elim (leb_tells (suc n) 128) [
+      | inl t ↦ rw (sevens_end k n t.1) (omega arith)
+      | inr t ↦
+          let byte : d < 256 = bytes 0 in
+          let high : n / 128 ≡ w = omega (arith, byte, big) in
+          let shorter = sevens_least k i w xs h (tail_bytes d xs bytes) in
+          rw (sevens_step k n (omega (arith, t.1)), high) (omega (arith, shorter))
+    ]
+
+pub varlen_writes : (v : ℕ) (old new : List ℕ) → v < 2 ^ 32 → new ≡ old ++ varlen_spelling v → Writes (λ w. Some (varlen_spelling w)) IsVarLen v old new
+varlen_writes v old new fits e = record {
+  bytes = varlen_spelling v;
+  is = refl;
+  appended = e;
+  least = record {
+    is = record { sevens = sevens_is 4 v (omega (arith, fits)); fits = fits };
+    least = λ other h bytes. sevens_least 5 5 v other h.sevens bytes;
+  };
+}

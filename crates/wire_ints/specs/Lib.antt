@@ -1,0 +1,7 @@
+pub mod Ints
+pub mod Faults
+pub mod Strings
+pub mod Sevens
+pub mod TrailingOnes
+pub mod Streams
+pub mod Version

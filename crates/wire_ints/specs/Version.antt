@@ -1,0 +1,32 @@
+-- Server versions: three decimal numbers, the first two followed by a point.
+use Rattle.std.specs.Prelude.{◌+◌, ◌*◌, ◌-◌, ℕ, List, [], ◌∷◌, length, drop, Option, Some, None, fold, nat_lt, ◌==◌, ◌&&◌, if◌then◌else◌, take_while, unwrap_or, option_and_then}
+use Rattle.std.specs.Char.{is_ascii_digit}
+
+-- the digits at the front
+abbrev pub leading_digits : List ℕ → List ℕ
+leading_digits x = take_while is_ascii_digit x
+
+-- the decimal number of digits
+abbrev pub decimal : List ℕ → ℕ
+decimal ds = fold (λ n d. 10 * n + (d - 48)) 0 ds
+
+-- a number below 256 of at least one digit at the front, and what follows its last digit
+unfoldable pub number_at : List ℕ → Option (ℕ × List ℕ)
+number_at x =
+    let ds = leading_digits x in
+    if nat_lt 0 (length ds) && nat_lt (decimal ds) 256 then Some (decimal ds, drop (length ds) x) else None
+
+-- what follows a point
+unfoldable pub behind_point : List ℕ → Option (List ℕ)
+behind_point [] = None
+behind_point (c ∷ r) = if c == 46 then Some r else None
+
+-- the three numbers at the front
+unfoldable pub numbers_at : List ℕ → Option (ℕ × ℕ × ℕ)
+numbers_at x =
+    option_and_then (λ a. option_and_then (λ r. option_and_then (λ b. option_and_then (λ s. option_and_then (λ c.
+    Some (a.0, b.0, c.0)) (number_at s)) (behind_point b.1)) (number_at r)) (behind_point a.1)) (number_at x)
+
+-- the three numbers, or zeros
+abbrev pub version_of : List ℕ → ℕ × ℕ × ℕ
+version_of x = unwrap_or (numbers_at x) (0, 0, 0)

@@ -1,0 +1,54 @@
+//! Integers of one byte.
+
+ghost use Rattle.wire_buf.specs.Numbers.{IsLittle, IsSignedLittle};
+ghost use Rattle.wire_ints.specs.Ints.{little_spelling, signed_little_spelling};
+
+use crate::int_repr::IntRepr;
+use std::alloc::Allocator;
+use wire_buf::{Bytes, ParseBuf, WireFault};
+
+impl IntRepr for u8 {
+    const SIZE: Option<usize> = Some(1);
+
+    type Size = Bytes<1>;
+
+    type Primitive = u8;
+
+    ghost spells = { IsLittle 1 };
+
+    ghost spelling = { little_spelling 1 };
+
+    fn deserialize(buf: &mut ParseBuf<'_>) -> Result<u8, WireFault> {
+        Ok(buf.eat_u8())
+    }
+
+    fn serialize<A: Allocator>(val: u8, buf: &mut Vec<u8, A>) -> Result<(), WireFault> {
+        buf.extend_from_slice(&val.to_le_bytes())?;
+        Ok(())
+    }
+
+    ghost sized = { λ v bytes h. h.size };
+}
+
+impl IntRepr for i8 {
+    const SIZE: Option<usize> = Some(1);
+
+    type Size = Bytes<1>;
+
+    type Primitive = i8;
+
+    ghost spells = { IsSignedLittle 1 };
+
+    ghost spelling = { signed_little_spelling 1 };
+
+    fn deserialize(buf: &mut ParseBuf<'_>) -> Result<i8, WireFault> {
+        Ok(buf.eat_i8())
+    }
+
+    fn serialize<A: Allocator>(val: i8, buf: &mut Vec<u8, A>) -> Result<(), WireFault> {
+        buf.extend_from_slice(&val.to_le_bytes())?;
+        Ok(())
+    }
+
+    ghost sized = { λ v bytes h. h.size };
+}

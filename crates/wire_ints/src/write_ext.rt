@@ -1,0 +1,76 @@
+//! Length-encoded numbers and strings to a writer.
+
+ghost use Rattle.std.specs.Prelude.{◌≡◌, ◌-◌, ◌^◌, OnOk, IfOk, IfErr, length, min};
+ghost use Rattle.std.specs.Io.KnownBytes.{Appends};
+ghost use Rattle.wire_buf.specs.Numbers.{lenenc_spelling};
+ghost use Rattle.wire_buf.specs.declared.fault.WireFault.TheVariants.{Write as WriteFault};
+ghost use Rattle.wire_ints.specs.Strings.{lenenc_string_spelling};
+ghost use Rattle.wire_ints.specs.Streams.{WritesSome};
+
+use crate::lenenc::{lenenc_bytes, lenenc_str_len};
+use crate::read_ext::MAX_TURNS;
+use std::io::{ErrorKind, Write};
+use wire_buf::WireFault;
+
+/// Writes length-encoded numbers and strings to any writer, as in `mysql_common`.
+///
+/// A writer that fails, that takes nothing of bytes that are there, or that is interrupted for
+/// 2^63 - 1 times, is `Write`; a front of the value's bytes is then written.
+pub trait WriteMysqlExt: Write {
+    /// Writes a length-encoded integer in its shortest form, and answers how many bytes that took.
+    final fn write_lenenc_int(&mut self, x: u64) -> Result<u64, WireFault>
+    where
+        Self: Sized,
+        ensures written { OnOk result (Appends (Self.contents self.old) (Self.contents self.new)
+            (lenenc_spelling x)) }
+        ensures count { IfOk result (λ n. n ≡ length (lenenc_spelling x)) }
+        ensures err { IfErr result (λ e. (e ≡ WriteFault) × WritesSome (lenenc_spelling x)
+            (Self.contents self.old) (Self.contents self.new)) }
+    {
+        let (bytes, len) = lenenc_bytes(x);
+        write_out(self, &bytes[..len])?;
+        Ok(len as u64)
+    }
+
+    /// Writes a length-encoded string, and answers how many bytes that took.
+    final fn write_lenenc_str(&mut self, bytes: &[u8]) -> Result<u64, WireFault>
+    where
+        Self: Sized,
+        ensures written { OnOk result (Appends (Self.contents self.old) (Self.contents self.new)
+            (lenenc_string_spelling bytes.now)) }
+        ensures count { IfOk result
+            (λ n. n ≡ min (length (lenenc_string_spelling bytes.now)) (2 ^ 64 - 1)) }
+        ensures err { IfErr result (λ e. (e ≡ WriteFault) × WritesSome
+            (lenenc_string_spelling bytes.now) (Self.contents self.old) (Self.contents self.new)) }
+    {
+        self.write_lenenc_int(bytes.len() as u64)?;
+        write_out(self, bytes)?;
+        Ok(lenenc_str_len(bytes))
+    }
+}
+
+impl<W: Write> WriteMysqlExt for W {}
+
+/// Writes all of the bytes.
+fn write_out<W: Write>(writer: &mut W, bytes: &[u8]) -> Result<(), WireFault>
+    ensures ok { OnOk result (Appends (W.contents writer.old) (W.contents writer.new) bytes.now) }
+    ensures err { IfErr result (λ e. (e ≡ WriteFault) × WritesSome bytes.now
+        (W.contents writer.old) (W.contents writer.new)) }
+{
+    let mut rest = bytes;
+    'turns: for _turn in 0..MAX_TURNS {
+        if rest.is_empty() {
+            return Ok(());
+        }
+        match writer.write(rest) {
+            Ok(0) => return Err(WireFault::Write),
+            Ok(n) => rest = &rest[n..],
+            Err(error) => {
+                if error.kind() != ErrorKind::Interrupted {
+                    return Err(WireFault::Write);
+                }
+            }
+        }
+    }
+    Err(WireFault::Write)
+}
