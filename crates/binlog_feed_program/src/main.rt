@@ -5,7 +5,7 @@ use binlog_feed::{Follower, Verdict, Watched, name_of, report, request, status};
 use std::alloc::Global;
 use std::env;
 use std::fs::File;
-use std::io::{self, BufReader, BufWriter, Read, Write};
+use std::io::{self, BufReader, BufWriter, ErrorKind, Read, Write};
 use std::process::ExitCode;
 use std::rt::{Env, Files};
 
@@ -71,8 +71,10 @@ fn report_to_stdout<P: Print, R: Read + Drop>(rt: &P, alloc: Global, reader: R) 
 
 /// Reports a file.
 fn report_file<P: Print + Eprint + Files>(rt: &P, alloc: Global, path: &str) -> ExitCode {
-    let Ok(file) = File::open(rt, path) else {
-        return fail(rt, "Open");
+    let file = match File::open(rt, path) {
+        Ok(file) => file,
+        Err(error) if error.kind() == ErrorKind::OutOfMemory => return fail(rt, "Memory"),
+        Err(_) => return fail(rt, "Open"),
     };
     let Ok(reader) = BufReader::new(alloc, file) else {
         return fail(rt, "Memory");
@@ -163,8 +165,10 @@ fn run(rt: &HostRuntime, words: &[String]) -> ExitCode {
 }
 
 fn main(rt: HostRuntime) -> ExitCode {
-    let Ok(words) = env::args(&rt) else {
-        return fail(&rt, "Usage");
+    let words = match env::args(&rt) {
+        Ok(words) => words,
+        Err(error) if error.kind() == ErrorKind::OutOfMemory => return fail(&rt, "Memory"),
+        Err(_) => return fail(&rt, "Usage"),
     };
     let Ok(words) = words.skip(1).collect::<Vec<String>>(rt.alloc()) else {
         return fail(&rt, "Memory");
