@@ -1,0 +1,4 @@
+pub mod Numbering
+pub mod ColumnTypes
+pub mod Constants
+pub mod Flags

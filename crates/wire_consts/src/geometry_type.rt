@@ -1,0 +1,60 @@
+ghost use Rattle.std.specs.Prelude.{◌≡◌};
+ghost use Rattle.wire_consts.specs.Numbering.{IsConstantOf};
+ghost use Rattle.wire_consts.specs.Constants.{geometry_type_number};
+
+use thiserror::Error;
+
+/// The real type of a `GEOMETRY` column, as the optional metadata of a table map numbers it.
+#[derive(Clone, Copy, Debug, PartialEq, Eq, Hash)]
+pub enum GeometryType {
+    /// Any geometry.
+    GEOM_GEOMETRY = 0,
+    /// One point.
+    GEOM_POINT = 1,
+    /// A line through points.
+    GEOM_LINESTRING = 2,
+    /// An area between rings.
+    GEOM_POLYGON = 3,
+    /// Several points.
+    GEOM_MULTIPOINT = 4,
+    /// Several lines.
+    GEOM_MULTILINESTRING = 5,
+    /// Several areas.
+    GEOM_MULTIPOLYGON = 6,
+    /// Several geometries of any kind.
+    GEOM_GEOMETRYCOLLECTION = 7,
+}
+
+/// A number that stands for no geometry type.
+#[derive(Clone, Copy, Debug, PartialEq, Eq, Hash, Error)]
+#[error("Unknown geometry type {0}")]
+pub struct UnknownGeometryType(pub u8);
+
+impl TryFrom<u8> for GeometryType {
+    type Error = UnknownGeometryType;
+
+    ghost try_from_gives = { IsConstantOf geometry_type_number (λ unknown. unknown.0) };
+
+    /// The geometry type of a number; refused from 8 on.
+    fn try_from(number: u8) -> Result<GeometryType, UnknownGeometryType> {
+        match number {
+            0 => Ok(GeometryType::GEOM_GEOMETRY),
+            1 => Ok(GeometryType::GEOM_POINT),
+            2 => Ok(GeometryType::GEOM_LINESTRING),
+            3 => Ok(GeometryType::GEOM_POLYGON),
+            4 => Ok(GeometryType::GEOM_MULTIPOINT),
+            5 => Ok(GeometryType::GEOM_MULTILINESTRING),
+            6 => Ok(GeometryType::GEOM_MULTIPOLYGON),
+            7 => Ok(GeometryType::GEOM_GEOMETRYCOLLECTION),
+            _ => Err(UnknownGeometryType(number)),
+        }
+    }
+}
+
+impl From<UnknownGeometryType> for u8 {
+    ghost from_gives = { λ unknown number. number ≡ unknown.0 };
+
+    fn from(unknown: UnknownGeometryType) -> u8 {
+        unknown.0
+    }
+}

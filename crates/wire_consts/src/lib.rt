@@ -1,0 +1,25 @@
+//! The constants of MySQL's client and server protocol, and their conversions from and to numbers.
+//!
+//! The tables stand in `specs/`: `ColumnTypes` and `Constants` have the number of each constant, `Flags` the bits of
+//! each flag, and `Numbering` says how numbers are taken as constants and sets of flags, and when they are refused.
+#![tactic(auto)]
+
+mod column_flags;
+mod column_type;
+mod command;
+mod geometry_type;
+mod item_result;
+mod limits;
+mod query_flags;
+#[cfg(test)]
+mod tests;
+
+pub use column_flags::{ColumnFlags, UnknownColumnFlags};
+pub use column_type::{ColumnType, UnknownColumnType};
+pub use command::Command;
+pub use geometry_type::{GeometryType, UnknownGeometryType};
+pub use item_result::{ItemResult, UnknownItemResultType};
+pub use limits::{
+    DEFAULT_MAX_ALLOWED_PACKET, MAX_PAYLOAD_LEN, UTF8_GENERAL_CI, UTF8MB4_GENERAL_CI,
+};
+pub use query_flags::{Flags2, SqlMode, UnknownFlags2, UnknownSqlMode};
