@@ -1,6 +1,5 @@
 pub mod Numbers
 pub mod Fields
-pub mod Watched
 pub mod TableMap
 pub mod RowsEvent
 pub mod Images

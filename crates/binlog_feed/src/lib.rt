@@ -12,8 +12,8 @@ mod wire;
 pub use feed::follower::Follower;
 pub use feed::reporting::report;
 pub use feed::request::{RequestError, request};
+pub use mysql_wire::{MAX_TURNS, Watched};
 pub use verdict::{Verdict, name_of, status};
-pub use wire::watched::{MAX_TURNS, Watched};
 
 #[cfg(test)]
 mod follower_tests;

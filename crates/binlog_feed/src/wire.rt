@@ -1,4 +1,3 @@
-//! The lowest layer: numbers and fields in bytes, readers and writers that are watched.
+//! The lowest layer: numbers and fields in bytes.
 
 pub mod fields;
-pub mod watched;

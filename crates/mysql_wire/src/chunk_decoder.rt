@@ -2,10 +2,10 @@ ghost use Rattle.std.specs.Prelude.{◌≡◌, ◌+◌, ◌≤◌, ◌++◌, len
 ghost use Rattle.mysql_wire.specs.Reading.{len_at};
 ghost use Rattle.mysql_wire.specs.Chunks.{header_of, EatsHeader, DecodesChunk};
 
-use crate::constants::MAX_PAYLOAD_LEN;
 use crate::error::PacketCodecError;
 use crate::header::{HEADER_LEN, exceeds, read_header};
 use bytes::BytesMut;
+use wire_consts::MAX_PAYLOAD_LEN;
 
 /// Whether a chunk ends its packet, with the chunk's number.
 #[derive(Clone, Copy, Debug, PartialEq, Eq)]

@@ -1,10 +1,10 @@
 ghost use Rattle.std.specs.Prelude.{◌≡◌, ◌≤◌, ◌+◌, ◌*◌, ◌++◌, length, OnOk, OnErr, IfOk, IsOkUnless};
 ghost use Rattle.mysql_wire.specs.Framing.{longest, chunk, framing, next_number};
 
-use crate::constants::MAX_PAYLOAD_LEN;
 use crate::error::PacketCodecError;
 use crate::header::HEADER_LEN;
 use bytes::BytesMut;
+use wire_consts::MAX_PAYLOAD_LEN;
 
 /// Appends the framing of a payload to `dst`, and answers the number of the chunk after it.
 ///

@@ -1,11 +1,11 @@
 ghost use Rattle.std.specs.Prelude.{◌≡◌, ℕ, ◌+◌, ◌<◌, ◌++◌, List, [], true, length, OnOk, OnErr, IfOk, IfErr, IfSome, None, Some, Err, IsErrOf, ◌↔◌, ◌⊎◌};
 ghost use Rattle.mysql_wire.specs.Framing.{framing, next_number};
 
-use crate::constants::{DEFAULT_MAX_ALLOWED_PACKET, MAX_PAYLOAD_LEN};
 use crate::error::PacketCodecError;
 use crate::framing::packet_to_chunks;
 use crate::header::{Front, HEADER_LEN, read_front};
 use bytes::BytesMut;
+use wire_consts::{DEFAULT_MAX_ALLOWED_PACKET, MAX_PAYLOAD_LEN};
 
 /// Writes payloads as packets, and reads packets from a stream that comes in any pieces.
 ///

@@ -1,8 +1,9 @@
 use crate::{
-    ChunkDecoder, ChunkInfo, DEFAULT_MAX_ALLOWED_PACKET, PacketCodec, PacketCodecError,
-    decode_pieces, packet_to_chunks,
+    ChunkDecoder, ChunkInfo, DEFAULT_MAX_ALLOWED_PACKET, LeU24, LenEnc, MySerialize, PacketCodec,
+    PacketCodecError, ParseBuf, RawInt, Watched, WireFault, decode_pieces, packet_to_chunks,
 };
 use bytes::BytesMut;
+use std::alloc::Global;
 use std::test::Fail;
 
 #[test]
@@ -96,5 +97,53 @@ fn chunks_and_packets_are_read(rt: HostRuntime) -> Result<(), Fail> {
         codec.decode(&mut stream, &mut packet),
         Err(PacketCodecError::PacketsOutOfSync)
     );
+    Ok(())
+}
+
+/// A count in three bytes, and then a length-encoded number: the example of the documentation.
+fn read(alloc: Global, bytes: &[u8]) -> Result<(u32, u64), WireFault> {
+    let mut buf = ParseBuf(bytes);
+    let count = buf.parse::<RawInt<LeU24>>(alloc, ())?;
+    let number = buf.parse::<RawInt<LenEnc>>(alloc, ())?;
+    Ok((*count, *number))
+}
+
+fn write(out: &mut Vec<u8>, count: u32, number: u64) -> Result<(), WireFault> {
+    RawInt::<LeU24>::new(count).serialize(out)?;
+    RawInt::<LenEnc>::new(number).serialize(out)
+}
+
+#[test]
+fn field_read_and_written(rt: HostRuntime) -> Result<(), Fail> {
+    let bytes = [2, 0, 0, 0xfc, 0xfb, 0];
+    assert_eq!(rt; read(rt.alloc(), &bytes)?, (2, 251));
+    let mut out = Vec::new(rt.alloc());
+    write(&mut out, 2, 251)?;
+    assert_eq!(rt; out.as_slice(), bytes.as_slice());
+    assert_eq!(rt; write(&mut out, 16_777_216, 0), Err(WireFault::Form));
+    assert_eq!(rt; out.as_slice(), bytes.as_slice());
+    Ok(())
+}
+
+#[test]
+fn watched_reader_and_writer(rt: HostRuntime) -> Result<(), Fail> {
+    let bytes: [u8; 3] = [1, 2, 3];
+    let mut reader = Watched::new(bytes.as_slice());
+    let mut taken = [0; 2];
+    assert_eq!(rt; reader.pull(&mut taken)?, 2);
+    assert_eq!(rt; taken, [1, 2]);
+    assert!(rt; !reader.failed());
+    assert_eq!(rt; reader.into_inner(), [3].as_slice());
+
+    let mut writer = Watched::new(Vec::new(rt.alloc()));
+    assert_eq!(rt; writer.push(&taken)?, 2);
+    assert!(rt; !writer.failed());
+    assert_eq!(rt; writer.into_inner().as_slice(), [1, 2].as_slice());
+
+    let mut room = [0; 1];
+    let mut full = Watched::new(room.as_mut_slice());
+    assert_eq!(rt; full.push(&taken)?, 1);
+    assert!(rt; full.push(&taken[1..]).is_err());
+    assert!(rt; full.failed());
     Ok(())
 }

@@ -3,7 +3,7 @@
 ghost use Rattle.std.specs.Prelude.{◌≡◌, ◌+◌, ◌<◌, ◌≤◌, IsErr, OnOk, OnErr, true, false, length};
 ghost use Rattle.std.specs.Io.KnownBytes.{ReadConsumes, WriteAppends};
 ghost use Rattle.std.specs.Io.{ReadsAtMost, WritesAtMost};
-ghost use Rattle.binlog_feed.specs.Watched.{inner_of, turns_of, has_failed, IsTaken};
+ghost use Rattle.mysql_wire.specs.Watched.{inner_of, turns_of, has_failed, IsTaken};
 
 use std::io::{self, ErrorKind, Read, Write};
 
