@@ -23,6 +23,10 @@ pub use framing::packet_to_chunks;
 pub use packet_codec::PacketCodec;
 pub use pieces::decode_pieces;
 pub use watched::{MAX_TURNS, Watched};
+pub use wire_big::{
+    BeI16, BeI24, BeI32, BeI40, BeI48, BeI56, BeI64, BeI128, BeU16, BeU24, BeU32, BeU40, BeU48,
+    BeU56, BeU64, BeU128,
+};
 pub use wire_buf::{AnySize, Bytes, MyDeserialize, MySerialize, ParseBuf, WireFault, WireSize};
 pub use wire_consts::{
     ColumnFlags, ColumnType, Command, DEFAULT_MAX_ALLOWED_PACKET, Flags2, GeometryType, ItemResult,
