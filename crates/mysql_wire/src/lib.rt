@@ -17,25 +17,109 @@ mod pieces;
 mod tests;
 mod watched;
 
-pub use chunk_decoder::{ChunkDecoder, ChunkInfo};
+pub use chunk_decoder::ChunkDecoder;
+pub use chunk_decoder::ChunkInfo;
 pub use error::PacketCodecError;
 pub use framing::packet_to_chunks;
 pub use packet_codec::PacketCodec;
 pub use pieces::decode_pieces;
-pub use watched::{MAX_TURNS, Watched};
-pub use wire_big::{
-    BeI16, BeI24, BeI32, BeI40, BeI48, BeI56, BeI64, BeI128, BeU16, BeU24, BeU32, BeU40, BeU48,
-    BeU56, BeU64, BeU128,
-};
-pub use wire_buf::{AnySize, Bytes, MyDeserialize, MySerialize, ParseBuf, WireFault, WireSize};
-pub use wire_consts::{
-    ColumnFlags, ColumnType, Command, DEFAULT_MAX_ALLOWED_PACKET, Flags2, GeometryType, ItemResult,
-    MAX_PAYLOAD_LEN, SqlMode, UTF8_GENERAL_CI, UTF8MB4_GENERAL_CI, UnknownColumnFlags,
-    UnknownColumnType, UnknownFlags2, UnknownGeometryType, UnknownItemResultType, UnknownSqlMode,
-};
-pub use wire_ints::{
-    BufMutExt, IntRepr, InvalidLengthEncodedInteger, LeI16, LeI24, LeI32, LeI40, LeI48, LeI56,
-    LeI64, LeI128, LeU16, LeU24, LeU32, LeU32LowerHalf, LeU32UpperHalf, LeU40, LeU48, LeU56, LeU64,
-    LeU128, LenEnc, RawInt, ReadMysqlExt, VarLen, WriteMysqlExt, lenenc_int_len, lenenc_str_len,
-    read_back, read_varlen_uint, split_version, varlen_uint_size, write_varlen_uint,
-};
+pub use watched::MAX_TURNS;
+pub use watched::Watched;
+pub use wire_big::BeI16;
+pub use wire_big::BeI24;
+pub use wire_big::BeI32;
+pub use wire_big::BeI40;
+pub use wire_big::BeI48;
+pub use wire_big::BeI56;
+pub use wire_big::BeI64;
+pub use wire_big::BeI128;
+pub use wire_big::BeU16;
+pub use wire_big::BeU24;
+pub use wire_big::BeU32;
+pub use wire_big::BeU40;
+pub use wire_big::BeU48;
+pub use wire_big::BeU56;
+pub use wire_big::BeU64;
+pub use wire_big::BeU128;
+pub use wire_buf::AnySize;
+pub use wire_buf::Bytes;
+pub use wire_buf::MyDeserialize;
+pub use wire_buf::MySerialize;
+pub use wire_buf::ParseBuf;
+pub use wire_buf::WireFault;
+pub use wire_buf::WireSize;
+pub use wire_consts::ColumnFlags;
+pub use wire_consts::ColumnType;
+pub use wire_consts::Command;
+pub use wire_consts::DEFAULT_MAX_ALLOWED_PACKET;
+pub use wire_consts::Flags2;
+pub use wire_consts::GeometryType;
+pub use wire_consts::ItemResult;
+pub use wire_consts::MAX_PAYLOAD_LEN;
+pub use wire_consts::SqlMode;
+pub use wire_consts::UTF8_GENERAL_CI;
+pub use wire_consts::UTF8MB4_GENERAL_CI;
+pub use wire_consts::UnknownColumnFlags;
+pub use wire_consts::UnknownColumnType;
+pub use wire_consts::UnknownFlags2;
+pub use wire_consts::UnknownGeometryType;
+pub use wire_consts::UnknownItemResultType;
+pub use wire_consts::UnknownSqlMode;
+pub use wire_forms::BareBytes;
+pub use wire_forms::BareU8Bytes;
+pub use wire_forms::BareU16Bytes;
+pub use wire_forms::BytesRepr;
+pub use wire_forms::Const;
+pub use wire_forms::ConstBytes;
+pub use wire_forms::ConstBytesValue;
+pub use wire_forms::ConstU8;
+pub use wire_forms::ConstU32;
+pub use wire_forms::Constant;
+pub use wire_forms::Either;
+pub use wire_forms::EofBytes;
+pub use wire_forms::FixedLengthText;
+pub use wire_forms::NullBytes;
+pub use wire_forms::RawBytes;
+pub use wire_forms::RawConst;
+pub use wire_forms::RawFlags;
+pub use wire_forms::Skip;
+pub use wire_forms::U8Bytes;
+pub use wire_forms::U32Bytes;
+pub use wire_forms::read_back_bytes;
+pub use wire_ints::BufMutExt;
+pub use wire_ints::IntRepr;
+pub use wire_ints::InvalidLengthEncodedInteger;
+pub use wire_ints::LeI16;
+pub use wire_ints::LeI24;
+pub use wire_ints::LeI32;
+pub use wire_ints::LeI40;
+pub use wire_ints::LeI48;
+pub use wire_ints::LeI56;
+pub use wire_ints::LeI64;
+pub use wire_ints::LeI128;
+pub use wire_ints::LeU16;
+pub use wire_ints::LeU24;
+pub use wire_ints::LeU32;
+pub use wire_ints::LeU32LowerHalf;
+pub use wire_ints::LeU32UpperHalf;
+pub use wire_ints::LeU40;
+pub use wire_ints::LeU48;
+pub use wire_ints::LeU56;
+pub use wire_ints::LeU64;
+pub use wire_ints::LeU128;
+pub use wire_ints::LenEnc;
+pub use wire_ints::RawInt;
+pub use wire_ints::ReadMysqlExt;
+pub use wire_ints::VarLen;
+pub use wire_ints::WriteMysqlExt;
+pub use wire_ints::lenenc_int_len;
+pub use wire_ints::lenenc_str_len;
+pub use wire_ints::read_back;
+pub use wire_ints::read_varlen_uint;
+pub use wire_ints::split_version;
+pub use wire_ints::varlen_uint_size;
+pub use wire_ints::write_varlen_uint;
+pub use wire_seqs::RawSeq;
+pub use wire_seqs::Seq;
+pub use wire_seqs::SeqRepr;
+pub use wire_seqs::Unknown;

@@ -3,6 +3,9 @@ ghost use Rattle.wire_buf.specs.Spelling.{Reads, Lacks, HasSize, HasRoom, Alone,
 ghost use Rattle.wire_buf.specs.Writing.{Writes, Refuses};
 ghost use Rattle.wire_buf.specs.declared.fault.WireFault.TheVariants.{Eof, Memory};
 ghost use Rattle.wire_buf.specs.declared.fault.WireFault.{WireFault};
+ghost use Rattle.std.specs.Borrow.{Lends, sem};
+ghost use Rattle.wire_ints.specs.contracts.int_repr.RawInt.{the_row as raw_int_row};
+ghost use Rattle.wire_ints.specs.Raw.{with_number};
 
 use std::alloc::{Allocator, Global};
 use std::marker::PhantomData;
@@ -74,6 +77,18 @@ impl<T: IntRepr> Deref for RawInt<T> {
 
     fn deref(&self) -> &T::Primitive {
         &self.0
+    }
+}
+
+impl<T: IntRepr> DerefMut for RawInt<T> {
+    ghost deref_mut_gives = { λ raw value. value ≡ raw.0 };
+
+    /// What is written through the reference is the number from then on.
+    fn deref_mut(&mut self) -> &mut T::Primitive
+        ensures* writes_back { sem 𝓛 (Lends (raw_int_row T.row T.Size.row T.Primitive.row) T.Primitive.row self.entry result (with_number self.old)) }
+        ensures value { result.now ≡ self.old.0 }
+    {
+        &mut self.0
     }
 }
 

@@ -1,0 +1,29 @@
+-- A field that has one of two forms: its context says which.
+use Rattle.std.specs.Prelude.{ℕ, List, Option, ⊤}
+use Rattle.wire_buf.specs.Spelling.{ByteForm}
+use Rattle.wire_forms.specs.declared.either.Either.{Either}
+use Rattle.wire_forms.specs.declared.either.Either.TheVariants.{Left, Right}
+
+-- the value is on the side of the context, and is spelled in the form of that side
+abbrev pub IsEither : {C D A B : Type 0} → (C → ByteForm A) → (D → ByteForm B) → Either C D → ByteForm (Either A B)
+IsEither first second (Left c) (Left v) bytes rest = first c v bytes rest
+IsEither first second (Right d) (Right w) bytes rest = second d w bytes rest
+IsEither first second ctx v bytes rest = ⊥
+
+-- both are on one side, and the same there
+abbrev pub SameEither : {A B : Type 0} → (A → A → Type 0) → (B → B → Type 0) → Either A B → Either A B → Type 0
+SameEither first second (Left v) (Left w) = first v w
+SameEither first second (Right v) (Right w) = second v w
+SameEither first second v w = ⊥
+
+abbrev pub either_spelling : {A B : Type 0} → (A → Option (List ℕ)) → (B → Option (List ℕ)) → Either A B → Option (List ℕ)
+either_spelling first second (Left v) = first v
+either_spelling first second (Right w) = second w
+
+abbrev pub IsLeft : {A B : Type 0} → Either A B → Type 0
+IsLeft (Left v) = ⊤
+IsLeft (Right w) = ⊥
+
+abbrev pub IsRight : {A B : Type 0} → Either A B → Type 0
+IsRight (Left v) = ⊥
+IsRight (Right w) = ⊤

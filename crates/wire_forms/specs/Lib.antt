@@ -1,0 +1,4 @@
+pub mod Texts
+pub mod Eithers
+pub mod Consts
+pub mod Overwritten

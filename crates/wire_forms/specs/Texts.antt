@@ -1,0 +1,41 @@
+-- Byte strings as bytes: what is left of a packet, strings that end in a zero, strings of fixed length, and what is written for them. `Numbers` of wire_buf has the strings behind a count.
+use Rattle.std.specs.Prelude.{◌≡◌, ◌≢◌, ◌++◌, ◌<◌, ◌≤◌, ◌-◌, ◌⊎◌, ℕ, List, [], ◌∷◌, length, take, take_while, replicate, slice_index, not, ◌==◌}
+use Rattle.byteorder.specs.Endian.{little_bytes}
+use Rattle.wire_buf.specs.Spelling.{AreBytes, Alone, Stands, Lacks}
+use Rattle.wire_buf.specs.declared.fault.WireFault.{WireFault}
+use Rattle.wire_buf.specs.declared.fault.WireFault.TheVariants.{Eof}
+use Rattle.wire_ints.specs.Sevens.{IsVarLen, varlen_spelling}
+use Rattle.wire_ints.specs.Faults.{varlen_fault}
+
+-- all that is left
+pub record IsAll (v bytes rest : List ℕ) : Type 0 where
+  pub bytes_are : v ≡ bytes
+  pub ends : rest ≡ []
+
+-- bytes that aren't zero, and then a zero
+pub record IsNullEnded (v bytes : List ℕ) : Type 0 where
+  pub joined : bytes ≡ v ++ (0 ∷ [])
+  pub no_zero : (k : ℕ) → k < length v → slice_index v k ≢ 0
+
+-- the bytes before the first zero
+abbrev pub before_zero : List ℕ → List ℕ
+before_zero v = take_while (λ b. not (b == 0)) v
+
+-- the first n bytes, or all and then zeros up to n
+abbrev pub padded : ℕ → List ℕ → List ℕ
+padded n v = take n v ++ replicate (n - length v) 0
+
+-- the length as a VarLen, and then the bytes
+abbrev pub varlen_string_spelling : List ℕ → List ℕ
+varlen_string_spelling v = varlen_spelling (length v) ++ v
+
+-- where no string behind a VarLen stands: the fault of a length that is no number, or `Eof` where its bytes are missing
+abbrev pub IsVarlenStringFault : List ℕ → WireFault → Type 0
+IsVarlenStringFault x fault =
+    (Lacks (Alone IsVarLen) x × (fault ≡ varlen_fault x)) ⊎ (Stands (Alone IsVarLen) x × (fault ≡ Eof))
+
+-- The bytes of a text are appended: they spell it in each context, before each rest, that suits it, and no spelling of it is shorter.
+pub record WritesText {C : Type 0} (spells : C → List ℕ → List ℕ → List ℕ → Type 0) (suits : C → List ℕ → List ℕ → Type 0) (bytes text old new : List ℕ) : Type 0 where
+  pub appended : new ≡ old ++ bytes
+  pub is : (ctx : C) (rest : List ℕ) → suits ctx text rest → spells ctx text bytes rest
+  pub least : (ctx : C) (other rest : List ℕ) → spells ctx text other rest → AreBytes other → length bytes ≤ length other

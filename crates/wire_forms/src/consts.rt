@@ -1,0 +1,201 @@
+//! Constants as their numbers: kept raw, or taken as the constant.
+
+ghost use Rattle.std.specs.Prelude.{◌≡◌, Result, MatchResult, MatchOption};
+ghost use Rattle.std.specs.Borrow.{Lends, sem};
+ghost use Rattle.wire_forms.specs.contracts.consts.Const.{the_row as const_row};
+ghost use Rattle.wire_forms.specs.contracts.consts.RawConst.{the_row as raw_const_row};
+ghost use Rattle.wire_forms.specs.Overwritten.{with_value, with_number};
+ghost use Rattle.wire_buf.specs.Spelling.{Alone, Equal, Holding, SameBy};
+ghost use Rattle.wire_buf.specs.declared.fault.WireFault.TheVariants.{Memory};
+
+use std::alloc::{Allocator, Global};
+use std::marker::PhantomData;
+use std::ops::{Deref, DerefMut};
+use wire_buf::{MyDeserialize, MySerialize, ParseBuf, WireFault};
+use wire_ints::IntRepr;
+
+/// A type whose values have numbers of the type `P`, each its own: a number is taken as the value
+/// that has it, and refused where none has it.
+pub trait Constant<P>: TryFrom<P> + Copy {
+    /// The number of a value.
+    ghost number: { Self → P };
+
+    /// The number of the value.
+    fn to_number(self) -> P
+        ensures { result ≡ number self };
+
+    /// `TryFrom` answers the value that has the number, or refuses where none has it.
+    ghost reads_number: { (n : P) (r : Result Self Self.Error) → Self.TryFrom.try_from_gives n r → MatchResult r (λ v. n ≡ number v) (λ e. (v : Self) → n ≡ number v → ⊥) };
+}
+
+/// A number in the representation `T`, for a constant of the type `U`. It is kept also where no
+/// constant has it.
+#[derive(Drop)]
+#[derive_where(PartialEq, Eq, Hash, Debug; T::Primitive)]
+pub struct RawConst<T: IntRepr, U>(pub T::Primitive, PhantomData<U>);
+
+impl<T: IntRepr, U> RawConst<T, U> {
+    /// The number, to be written in the representation.
+    pub fn new(number: T::Primitive) -> RawConst<T, U>
+        ensures { result.0 ≡ number }
+    {
+        RawConst(number, PhantomData)
+    }
+
+    /// The constant that has the number, or the refusal of `U`.
+    pub fn get(&self) -> Result<U, U::Error>
+    where
+        U: TryFrom<T::Primitive>,
+        ensures { U.try_from_gives self.now.0 result }
+    {
+        U::try_from(self.0)
+    }
+}
+
+impl<T: IntRepr, U> Deref for RawConst<T, U> {
+    type Target = T::Primitive;
+
+    ghost deref_gives = { λ raw number. number ≡ raw.0 };
+
+    fn deref(&self) -> &T::Primitive {
+        &self.0
+    }
+}
+
+impl<T: IntRepr, U> DerefMut for RawConst<T, U> {
+    ghost deref_mut_gives = { λ raw number. number ≡ raw.0 };
+
+    /// What is written through the reference is the number from then on.
+    fn deref_mut(&mut self) -> &mut T::Primitive
+        ensures* writes_back { sem 𝓛 (Lends (raw_const_row T.row U.row T.Size.row T.Primitive.row) T.Primitive.row self.entry result (with_number self.old)) }
+        ensures value { result.now ≡ self.old.0 }
+    {
+        &mut self.0
+    }
+}
+
+impl<'de, T: IntRepr, U> MyDeserialize<'de> for RawConst<T, U> {
+    const SIZE: Option<usize> = T::SIZE;
+
+    type Size = T::Size;
+
+    type Ctx = ();
+
+    type Fault = WireFault;
+
+    ghost spells = { λ ctx. Holding (λ v. v.0) (Alone T.spells) };
+
+    ghost same = { SameBy (λ v. v.0) Equal };
+
+    ghost is_memory = { λ e. e ≡ Memory };
+
+    fn deserialize(
+        _alloc: Global,
+        _ctx: (),
+        buf: &mut ParseBuf<'de>,
+    ) -> Result<RawConst<T, U>, WireFault> {
+        let number = T::deserialize(buf)?;
+        Ok(RawConst::new(number))
+    }
+
+    ghost sized = { λ ctx v bytes rest h. T.sized v.0 bytes h };
+
+    ghost tells_memory = { λ f h. h };
+}
+
+impl<T: IntRepr, U> MySerialize for RawConst<T, U> {
+    ghost spelling = { λ v. T.spelling (T.kept v.0) };
+
+    fn serialize<A: Allocator>(&self, buf: &mut Vec<u8, A>) -> Result<(), WireFault> {
+        T::serialize(self.0, buf)
+    }
+}
+
+/// A constant, as its number in the representation `U`. A number that no constant has is refused
+/// as `BadConst`.
+#[derive(Drop)]
+#[derive_where(PartialEq, Eq, Hash, Debug; T)]
+pub struct Const<T, U>(pub T, PhantomData<U>);
+
+impl<T, U> Const<T, U> {
+    /// The constant, to be written in the representation.
+    pub fn new(value: T) -> Const<T, U>
+        ensures { result.0 ≡ value }
+    {
+        Const(value, PhantomData)
+    }
+}
+
+impl<T, U> Deref for Const<T, U> {
+    type Target = T;
+
+    ghost deref_gives = { λ c value. value ≡ c.0 };
+
+    fn deref(&self) -> &T {
+        &self.0
+    }
+}
+
+impl<T, U> DerefMut for Const<T, U> {
+    ghost deref_mut_gives = { λ c value. value ≡ c.0 };
+
+    /// What is written through the reference is the constant from then on.
+    fn deref_mut(&mut self) -> &mut T
+        ensures* writes_back { sem 𝓛 (Lends (const_row T.row U.row) T.row self.entry result (with_value self.old)) }
+        ensures value { result.now ≡ self.old.0 }
+    {
+        &mut self.0
+    }
+}
+
+impl<'de, U: IntRepr, T: Constant<U::Primitive>> MyDeserialize<'de> for Const<T, U>
+where
+    <T as TryFrom<U::Primitive>>::Error: Drop,
+{
+    const SIZE: Option<usize> = U::SIZE;
+
+    type Size = U::Size;
+
+    type Ctx = ();
+
+    type Fault = WireFault;
+
+    ghost spells = { λ ctx. Holding (λ v. T.number v.0) (Alone U.spells) };
+
+    ghost same = { SameBy (λ v. T.number v.0) Equal };
+
+    ghost is_memory = { λ e. e ≡ Memory };
+
+    fn deserialize(
+        _alloc: Global,
+        _ctx: (),
+        buf: &mut ParseBuf<'de>,
+    ) -> Result<Const<T, U>, WireFault> {
+        let number = U::deserialize(buf)?;
+        let Some(value) = constant_of(number) else {
+            return Err(WireFault::BadConst);
+        };
+        Ok(Const::new(value))
+    }
+
+    ghost sized = { λ ctx v bytes rest h. U.sized (T.number v.0) bytes h };
+
+    ghost tells_memory = { λ f h. h };
+}
+
+impl<U: IntRepr, T: Constant<U::Primitive>> MySerialize for Const<T, U> {
+    ghost spelling = { λ v. U.spelling (U.kept (T.number v.0)) };
+
+    fn serialize<A: Allocator>(&self, buf: &mut Vec<u8, A>) -> Result<(), WireFault> {
+        U::serialize(self.0.to_number(), buf)
+    }
+}
+
+/// The constant that has the number, if there is one.
+fn constant_of<P, T: Constant<P>>(number: P) -> Option<T>
+where
+    <T as TryFrom<P>>::Error: Drop,
+    ensures { MatchOption result ((v : _) → number ≡ T.number v → ⊥) (λ v. number ≡ T.number v) }
+{
+    T::try_from(number).ok()
+}

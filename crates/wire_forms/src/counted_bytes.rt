@@ -1,0 +1,172 @@
+//! Strings behind a count of their bytes.
+
+ghost use Rattle.std.specs.Prelude.{◌≡◌, ◌≤◌, length, take};
+ghost use Rattle.wire_buf.specs.Spelling.{Alone};
+ghost use Rattle.wire_buf.specs.Numbers.{IsCounted, IsLenencString, IsShortString, IsLongString};
+ghost use Rattle.wire_ints.specs.Strings.{lenenc_string_spelling, counted_bytes};
+ghost use Rattle.wire_ints.specs.Sevens.{IsVarLen};
+ghost use Rattle.wire_ints.specs.Faults.{lenenc_fault};
+ghost use Rattle.wire_forms.specs.Texts.{varlen_string_spelling, IsVarlenStringFault};
+
+use crate::bytes_repr::BytesRepr;
+use std::alloc::Allocator;
+use std::borrow::CowSlice;
+use wire_buf::{AnySize, ParseBuf, WireFault};
+use wire_ints::{BufMutExt, IntRepr, LenEnc, VarLen};
+
+/// A string behind its length in one byte. Of a longer one the first 255 bytes are written.
+pub struct U8Bytes;
+
+/// A string behind its length in four bytes, the lowest first. Of a longer one the first
+/// 4,294,967,295 bytes are written.
+pub struct U32Bytes;
+
+impl BytesRepr for U8Bytes {
+    const SIZE: Option<usize> = None;
+
+    type Size = AnySize;
+
+    type Ctx = ();
+
+    ghost spells = { λ ctx. Alone IsShortString };
+
+    ghost kept = { take 255 };
+
+    ghost spelling = { counted_bytes 1 };
+
+    fn deserialize<'de>(_ctx: (), buf: &mut ParseBuf<'de>) -> Result<CowSlice<'de, u8>, WireFault> {
+        let bytes = buf.checked_eat_u8_str().ok_or(WireFault::Eof)?;
+        Ok(CowSlice::Borrowed(bytes))
+    }
+
+    fn serialize<A: Allocator>(text: &[u8], buf: &mut Vec<u8, A>) -> Result<(), WireFault> {
+        let start = buf.len();
+        if let Err(fault) = buf.put_u8_str(text) {
+            buf.truncate(start);
+            return Err(fault);
+        }
+        Ok(())
+    }
+
+    ghost sized = { λ ctx v bytes rest h. tt };
+}
+
+impl BytesRepr for U32Bytes {
+    const SIZE: Option<usize> = None;
+
+    type Size = AnySize;
+
+    type Ctx = ();
+
+    ghost spells = { λ ctx. Alone IsLongString };
+
+    ghost kept = { take 4294967295 };
+
+    ghost spelling = { counted_bytes 4 };
+
+    fn deserialize<'de>(_ctx: (), buf: &mut ParseBuf<'de>) -> Result<CowSlice<'de, u8>, WireFault> {
+        let bytes = buf.checked_eat_u32_str().ok_or(WireFault::Eof)?;
+        Ok(CowSlice::Borrowed(bytes))
+    }
+
+    fn serialize<A: Allocator>(text: &[u8], buf: &mut Vec<u8, A>) -> Result<(), WireFault> {
+        let start = buf.len();
+        if let Err(fault) = buf.put_u32_str(text) {
+            buf.truncate(start);
+            return Err(fault);
+        }
+        Ok(())
+    }
+
+    ghost sized = { λ ctx v bytes rest h. tt };
+}
+
+/// A string behind its length as a length-encoded integer.
+impl BytesRepr for LenEnc {
+    const SIZE: Option<usize> = None;
+
+    type Size = AnySize;
+
+    type Ctx = ();
+
+    ghost spells = { λ ctx. Alone IsLenencString };
+
+    ghost spelling = { lenenc_string_spelling };
+
+    ghost is_fault = { λ x fault. fault ≡ lenenc_fault x };
+
+    fn deserialize<'de>(_ctx: (), buf: &mut ParseBuf<'de>) -> Result<CowSlice<'de, u8>, WireFault> {
+        let Some(bytes) = buf.checked_eat_lenenc_str() else {
+            return Err(length_fault(buf));
+        };
+        Ok(CowSlice::Borrowed(bytes))
+    }
+
+    fn serialize<A: Allocator>(text: &[u8], buf: &mut Vec<u8, A>) -> Result<(), WireFault> {
+        let start = buf.len();
+        if let Err(fault) = buf.put_lenenc_str(text) {
+            buf.truncate(start);
+            return Err(fault);
+        }
+        Ok(())
+    }
+
+    ghost sized = { λ ctx v bytes rest h. tt };
+}
+
+/// Why no length-encoded string stands there.
+fn length_fault(buf: &ParseBuf<'_>) -> WireFault
+    ensures { result ≡ lenenc_fault buf.now.0.now }
+{
+    match buf.0.first() {
+        Some(251 | 255) => WireFault::BadNumber,
+        _ => WireFault::Eof,
+    }
+}
+
+/// A string behind its length as a `VarLen`. Of a longer one the first 4,294,967,295 bytes are
+/// written.
+impl BytesRepr for VarLen {
+    const SIZE: Option<usize> = None;
+
+    type Size = AnySize;
+
+    type Ctx = ();
+
+    ghost spells = { λ ctx. Alone (IsCounted IsVarLen) };
+
+    ghost kept = { take 4294967295 };
+
+    ghost spelling = { varlen_string_spelling };
+
+    ghost is_fault = { IsVarlenStringFault };
+
+    fn deserialize<'de>(_ctx: (), buf: &mut ParseBuf<'de>) -> Result<CowSlice<'de, u8>, WireFault> {
+        let length = <VarLen as IntRepr>::deserialize(buf)?;
+        let Some(bytes) = buf.checked_eat(length as usize) else {
+            return Err(WireFault::Eof);
+        };
+        Ok(CowSlice::Borrowed(bytes))
+    }
+
+    fn serialize<A: Allocator>(text: &[u8], buf: &mut Vec<u8, A>) -> Result<(), WireFault> {
+        let start = buf.len();
+        let text = cut(text, 0xffff_ffff);
+        <VarLen as IntRepr>::serialize(text.len() as u32, buf)?;
+        let Ok(()) = buf.extend_from_slice(text) else {
+            buf.truncate(start);
+            return Err(WireFault::Memory);
+        };
+        Ok(())
+    }
+
+    ghost sized = { λ ctx v bytes rest h. tt };
+}
+
+/// The first `max` bytes of the text, or all there are.
+fn cut(text: &[u8], max: usize) -> &[u8]
+    ensures value { result.now ≡ take max text.now }
+    ensures size { length result.now ≤ max }
+{
+    &text[..text.len().min(max)]
+}

@@ -1,0 +1,79 @@
+ghost use Rattle.std.specs.Prelude.{◌≡◌, ◌⊎◌, IfOk, IfErr};
+ghost use Rattle.wire_buf.specs.Spelling.{Reads, Lacks};
+ghost use Rattle.wire_forms.specs.Eithers.{IsEither, SameEither, either_spelling, IsLeft, IsRight};
+ghost use Rattle.wire_forms.specs.declared.either.Either.TheVariants as side;
+
+use std::alloc::{Allocator, Global};
+use wire_buf::{MyDeserialize, MySerialize, ParseBuf, WireFault};
+
+/// A field that has one of two forms.
+#[derive(Clone, Copy, Debug, PartialEq, Eq, Hash, Drop)]
+pub enum Either<L, R> {
+    /// In the one form.
+    Left(L),
+    /// In the other.
+    Right(R),
+}
+
+impl<L: Drop, R: Drop> Either<L, R> {
+    /// The value on the left, which is known to be there.
+    pub fn unwrap_left(self) -> L
+        requires { IsLeft self }
+        ensures { self ≡ side.Left result }
+    {
+        match self {
+            Either::Left(value) => value,
+            Either::Right(_) => unreachable!(),
+        }
+    }
+
+    /// The value on the right, which is known to be there.
+    pub fn unwrap_right(self) -> R
+        requires { IsRight self }
+        ensures { self ≡ side.Right result }
+    {
+        match self {
+            Either::Left(_) => unreachable!(),
+            Either::Right(value) => value,
+        }
+    }
+}
+
+impl<L, R> Either<L, R> {
+    /// Reads the side that the context names, in that side's context.
+    pub fn deserialize<'de>(
+        alloc: Global,
+        ctx: Either<L::Ctx, R::Ctx>,
+        buf: &mut ParseBuf<'de>,
+    ) -> Result<Either<L, R>, L::Fault>
+    where
+        L: MyDeserialize<'de>,
+        R: MyDeserialize<'de, Fault = L::Fault>,
+        ensures ok { IfOk result (λ v. Reads (IsEither L.spells R.spells ctx) (SameEither L.same R.same) v
+            buf.old.0.now buf.new.0.now) }
+        ensures err { IfErr result (λ e. (L.is_memory e ⊎ R.is_memory e)
+            ⊎ Lacks (IsEither L.spells R.spells ctx) buf.old.0.now) }
+    {
+        match ctx {
+            Either::Left(ctx) => {
+                let value = buf.parse::<L>(alloc, ctx)?;
+                Ok(Either::Left(value))
+            }
+            Either::Right(ctx) => {
+                let value = buf.parse::<R>(alloc, ctx)?;
+                Ok(Either::Right(value))
+            }
+        }
+    }
+}
+
+impl<L: MySerialize, R: MySerialize> MySerialize for Either<L, R> {
+    ghost spelling = { either_spelling L.spelling R.spelling };
+
+    fn serialize<A: Allocator>(&self, buf: &mut Vec<u8, A>) -> Result<(), WireFault> {
+        match self {
+            Either::Left(value) => value.serialize(buf),
+            Either::Right(value) => value.serialize(buf),
+        }
+    }
+}

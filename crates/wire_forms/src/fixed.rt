@@ -1,0 +1,235 @@
+//! Fields whose bytes are always the same, or mean nothing.
+
+ghost use Rattle.std.specs.Prelude.{◌≡◌, ◌↔◌, ⊤, ℕ, List, length, replicate, IsTrue, Some};
+ghost use Rattle.byteorder.specs.Endian.{little_bytes};
+ghost use Rattle.wire_buf.specs.Spelling.{Alone, Equal, Holding, SameBy, IsBytes};
+ghost use Rattle.wire_buf.specs.Numbers.{IsLittle};
+ghost use Rattle.wire_buf.specs.declared.fault.WireFault.TheVariants.{Memory};
+
+use crate::plain_bytes::append_zeros;
+use std::alloc::{Allocator, Global};
+use std::marker::PhantomData;
+use wire_buf::{Bytes, MyDeserialize, MySerialize, ParseBuf, WireFault};
+
+/// The one byte `VALUE`. Another is refused as `BadConst`. `T` tells such fields apart.
+#[derive(Drop)]
+#[derive_where(PartialEq, Eq, Debug)]
+pub struct ConstU8<T, const VALUE: u8>(PhantomData<T>);
+
+impl<T, const VALUE: u8> ConstU8<T, VALUE> {
+    /// The field.
+    pub const fn new() -> ConstU8<T, VALUE> {
+        ConstU8(PhantomData)
+    }
+
+    /// The byte.
+    pub const fn value(&self) -> u8
+        ensures { result ≡ VALUE }
+    {
+        VALUE
+    }
+}
+
+impl<'de, T, const VALUE: u8> MyDeserialize<'de> for ConstU8<T, VALUE> {
+    const SIZE: Option<usize> = Some(1);
+
+    type Size = Bytes<1>;
+
+    type Ctx = ();
+
+    type Fault = WireFault;
+
+    ghost spells = { λ ctx. Holding (λ v. VALUE) (Alone (IsLittle 1)) };
+
+    ghost same = { SameBy (λ v. VALUE) Equal };
+
+    ghost is_memory = { λ e. e ≡ Memory };
+
+    fn deserialize(
+        _alloc: Global,
+        _ctx: (),
+        buf: &mut ParseBuf<'de>,
+    ) -> Result<ConstU8<T, VALUE>, WireFault> {
+        if buf.eat_u8() != VALUE {
+            return Err(WireFault::BadConst);
+        }
+        Ok(ConstU8::new())
+    }
+
+    ghost sized = { λ ctx v bytes rest h. h.size };
+
+    ghost tells_memory = { λ f h. h };
+}
+
+impl<T, const VALUE: u8> MySerialize for ConstU8<T, VALUE> {
+    ghost spelling = { λ v. Some (little_bytes 1 VALUE) };
+
+    fn serialize<A: Allocator>(&self, buf: &mut Vec<u8, A>) -> Result<(), WireFault> {
+        buf.extend_from_slice(&VALUE.to_le_bytes())?;
+        Ok(())
+    }
+}
+
+/// The four bytes of the number `VALUE`, the lowest first. Others are refused as `BadConst`. `T`
+/// tells such fields apart.
+#[derive(Drop)]
+#[derive_where(PartialEq, Eq, Debug)]
+pub struct ConstU32<T, const VALUE: u32>(PhantomData<T>);
+
+impl<T, const VALUE: u32> ConstU32<T, VALUE> {
+    /// The field.
+    pub const fn new() -> ConstU32<T, VALUE> {
+        ConstU32(PhantomData)
+    }
+}
+
+impl<'de, T, const VALUE: u32> MyDeserialize<'de> for ConstU32<T, VALUE> {
+    const SIZE: Option<usize> = Some(4);
+
+    type Size = Bytes<4>;
+
+    type Ctx = ();
+
+    type Fault = WireFault;
+
+    ghost spells = { λ ctx. Holding (λ v. VALUE) (Alone (IsLittle 4)) };
+
+    ghost same = { SameBy (λ v. VALUE) Equal };
+
+    ghost is_memory = { λ e. e ≡ Memory };
+
+    fn deserialize(
+        _alloc: Global,
+        _ctx: (),
+        buf: &mut ParseBuf<'de>,
+    ) -> Result<ConstU32<T, VALUE>, WireFault> {
+        if buf.eat_u32_le() != VALUE {
+            return Err(WireFault::BadConst);
+        }
+        Ok(ConstU32::new())
+    }
+
+    ghost sized = { λ ctx v bytes rest h. h.size };
+
+    ghost tells_memory = { λ f h. h };
+}
+
+impl<T, const VALUE: u32> MySerialize for ConstU32<T, VALUE> {
+    ghost spelling = { λ v. Some (little_bytes 4 VALUE) };
+
+    fn serialize<A: Allocator>(&self, buf: &mut Vec<u8, A>) -> Result<(), WireFault> {
+        buf.extend_from_slice(&VALUE.to_le_bytes())?;
+        Ok(())
+    }
+}
+
+/// The bytes of a field that always has the same ones.
+pub trait ConstBytesValue<const LEN: usize> {
+    /// The bytes.
+    ghost bytes: { List ℕ };
+
+    /// The bytes of the field.
+    fn value<'a>() -> &'a [u8]
+        ensures value { result.now ≡ bytes }
+        ensures size { length result.now ≡ LEN };
+}
+
+/// Exactly the bytes of `T`. Others are refused as `BadConst`.
+#[derive(Drop)]
+#[derive_where(PartialEq, Eq, Debug)]
+pub struct ConstBytes<T, const LEN: usize>(PhantomData<T>);
+
+impl<T, const LEN: usize> ConstBytes<T, LEN> {
+    /// The field.
+    pub const fn new() -> ConstBytes<T, LEN> {
+        ConstBytes(PhantomData)
+    }
+}
+
+impl<'de, T: ConstBytesValue<LEN>, const LEN: usize> MyDeserialize<'de> for ConstBytes<T, LEN> {
+    const SIZE: Option<usize> = Some(LEN);
+
+    type Size = Bytes<LEN>;
+
+    type Ctx = ();
+
+    type Fault = WireFault;
+
+    ghost spells = { λ ctx. Holding (λ v. T.bytes) (Alone (IsBytes LEN)) };
+
+    ghost same = { SameBy (λ v. T.bytes) Equal };
+
+    ghost is_memory = { λ e. e ≡ Memory };
+
+    fn deserialize(
+        _alloc: Global,
+        _ctx: (),
+        buf: &mut ParseBuf<'de>,
+    ) -> Result<ConstBytes<T, LEN>, WireFault> {
+        if !are_equal(buf.eat(LEN), T::value()) {
+            return Err(WireFault::BadConst);
+        }
+        Ok(ConstBytes::new())
+    }
+
+    ghost sized = { λ ctx v bytes rest h. h.size };
+
+    ghost tells_memory = { λ f h. h };
+}
+
+impl<T: ConstBytesValue<LEN>, const LEN: usize> MySerialize for ConstBytes<T, LEN> {
+    ghost spelling = { λ v. Some T.bytes };
+
+    fn serialize<A: Allocator>(&self, buf: &mut Vec<u8, A>) -> Result<(), WireFault> {
+        buf.extend_from_slice(T::value())?;
+        Ok(())
+    }
+}
+
+/// Whether the bytes are the same.
+fn are_equal(left: &[u8], right: &[u8]) -> bool
+    ensures { IsTrue result ↔ (left.now ≡ right.now) }
+{
+    left == right
+}
+
+/// `LEN` bytes that mean nothing. They are passed over, and written as zeros.
+#[derive(Clone, Copy, Debug, Default, PartialEq, Eq, Hash)]
+pub struct Skip<const LEN: usize>;
+
+impl<'de, const LEN: usize> MyDeserialize<'de> for Skip<LEN> {
+    const SIZE: Option<usize> = Some(LEN);
+
+    type Size = Bytes<LEN>;
+
+    type Ctx = ();
+
+    type Fault = WireFault;
+
+    ghost spells = { λ ctx v bytes rest. length bytes ≡ LEN };
+
+    ghost same = { λ v w. ⊤ };
+
+    ghost is_memory = { λ e. e ≡ Memory };
+
+    fn deserialize(
+        _alloc: Global,
+        _ctx: (),
+        buf: &mut ParseBuf<'de>,
+    ) -> Result<Skip<LEN>, WireFault> {
+        buf.skip(LEN);
+        Ok(Skip)
+    }
+
+    ghost sized = { λ ctx v bytes rest h. h };
+
+    ghost tells_memory = { λ f h. h };
+}
+
+impl<const LEN: usize> MySerialize for Skip<LEN> {
+    ghost spelling = { λ v. Some (replicate LEN 0) };
+
+    fn serialize<A: Allocator>(&self, buf: &mut Vec<u8, A>) -> Result<(), WireFault> {
+        append_zeros(LEN, buf)
+    }
+}

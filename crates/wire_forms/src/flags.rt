@@ -1,0 +1,71 @@
+ghost use Rattle.std.specs.Prelude.{◌≡◌};
+ghost use Rattle.std.specs.Int.RustNames.{bit_and};
+ghost use Rattle.bitflags.specs.Sets.{known_bits};
+ghost use Rattle.wire_buf.specs.Spelling.{Alone, Equal, Holding, SameBy};
+ghost use Rattle.wire_buf.specs.declared.fault.WireFault.TheVariants.{Memory};
+
+use bitflags::Flags;
+use std::alloc::{Allocator, Global};
+use std::marker::PhantomData;
+use wire_buf::{MyDeserialize, MySerialize, ParseBuf, WireFault};
+use wire_ints::IntRepr;
+
+/// A set of flags as its number, in the representation `U`. Bits that no flag of `T` has are kept.
+#[derive(Drop)]
+#[derive_where(PartialEq, Eq, Hash, Debug; U::Primitive)]
+pub struct RawFlags<T: Flags, U: IntRepr>(pub U::Primitive, PhantomData<T>);
+
+impl<T: Flags, U: IntRepr> RawFlags<T, U> {
+    /// The bits, to be written in the representation.
+    pub fn new(bits: U::Primitive) -> RawFlags<T, U>
+        ensures { result.0 ≡ bits }
+    {
+        RawFlags(bits, PhantomData)
+    }
+}
+
+impl<T: Flags<Bits = U::Primitive>, U: IntRepr> RawFlags<T, U> {
+    /// The set of the flags that are known; other bits are dropped.
+    pub fn get(&self) -> T
+        ensures { T.exact → T.set_of result ≡ bit_and (U.Primitive.pattern self.now.0) (known_bits T.table) }
+    {
+        T::from_bits_truncate(self.0)
+    }
+}
+
+impl<'de, T: Flags, U: IntRepr> MyDeserialize<'de> for RawFlags<T, U> {
+    const SIZE: Option<usize> = U::SIZE;
+
+    type Size = U::Size;
+
+    type Ctx = ();
+
+    type Fault = WireFault;
+
+    ghost spells = { λ ctx. Holding (λ v. v.0) (Alone U.spells) };
+
+    ghost same = { SameBy (λ v. v.0) Equal };
+
+    ghost is_memory = { λ e. e ≡ Memory };
+
+    fn deserialize(
+        _alloc: Global,
+        _ctx: (),
+        buf: &mut ParseBuf<'de>,
+    ) -> Result<RawFlags<T, U>, WireFault> {
+        let bits = U::deserialize(buf)?;
+        Ok(RawFlags::new(bits))
+    }
+
+    ghost sized = { λ ctx v bytes rest h. U.sized v.0 bytes h };
+
+    ghost tells_memory = { λ f h. h };
+}
+
+impl<T: Flags, U: IntRepr> MySerialize for RawFlags<T, U> {
+    ghost spelling = { λ v. U.spelling (U.kept v.0) };
+
+    fn serialize<A: Allocator>(&self, buf: &mut Vec<u8, A>) -> Result<(), WireFault> {
+        U::serialize(self.0, buf)
+    }
+}

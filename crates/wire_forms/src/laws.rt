@@ -1,0 +1,25 @@
+//! Laws over all representations of byte strings.
+
+ghost use Rattle.std.specs.Prelude.{◌≡◌, [], IfOk};
+
+use crate::bytes_repr::BytesRepr;
+use std::alloc::Global;
+use wire_buf::{ParseBuf, WireFault};
+
+/// What was written of a string is read back, in every representation: as much of it as the
+/// representation keeps, where the context suits it and nothing follows.
+pub fn read_back_bytes<T: BytesRepr>(
+    alloc: Global,
+    ctx: T::Ctx,
+    text: &[u8],
+) -> Result<Vec<u8>, WireFault>
+    requires { T.suits ctx (T.kept text.now) [] }
+    ensures { IfOk result (λ v. v.items ≡ T.kept text.now) }
+{
+    let mut bytes = Vec::new(alloc);
+    T::serialize(text, &mut bytes)?;
+    let mut buf = ParseBuf(&bytes);
+    let read = T::deserialize(ctx, &mut buf)?;
+    let items = read.into_owned(alloc)?;
+    Ok(items)
+}

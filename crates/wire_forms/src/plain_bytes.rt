@@ -1,0 +1,170 @@
+//! Strings without a count: up to a zero, to the end, or of a length that is known.
+
+ghost use Rattle.std.specs.Prelude.{◌≡◌, ◌++◌, ◌∷◌, [], ◌≤◌, length, take, replicate, OnOk, IfErr};
+ghost use Rattle.wire_buf.specs.Spelling.{Alone, IsBytes};
+ghost use Rattle.wire_buf.specs.declared.fault.WireFault.TheVariants.{Memory};
+ghost use Rattle.wire_forms.specs.Texts.{IsAll, IsNullEnded, before_zero, padded};
+
+use crate::bytes_repr::BytesRepr;
+use memchr::memchr;
+use std::alloc::Allocator;
+use std::borrow::CowSlice;
+use wire_buf::{AnySize, Bytes, ParseBuf, WireFault};
+
+/// The bytes before the first zero, which is eaten too; without a zero they are refused. What
+/// stands before the first zero of a string is written, and a zero.
+pub struct NullBytes;
+
+/// All that is left.
+pub struct EofBytes;
+
+/// As many bytes as the context says. Of a string longer than `MAX` the first `MAX` bytes are
+/// written.
+pub struct BareBytes<const MAX: usize>;
+
+/// Bytes whose count fits in one byte.
+pub type BareU8Bytes = BareBytes<255>;
+
+/// Bytes whose count fits in two bytes.
+pub type BareU16Bytes = BareBytes<65535>;
+
+/// Exactly `LEN` bytes. A longer string is cut when it is written, and a shorter one padded with
+/// zeros, which are read as a part of it.
+pub struct FixedLengthText<const LEN: usize>;
+
+impl BytesRepr for NullBytes {
+    const SIZE: Option<usize> = None;
+
+    type Size = AnySize;
+
+    type Ctx = ();
+
+    ghost spells = { λ ctx. Alone IsNullEnded };
+
+    ghost kept = { before_zero };
+
+    ghost spelling = { λ v. v ++ (0 ∷ []) };
+
+    fn deserialize<'de>(_ctx: (), buf: &mut ParseBuf<'de>) -> Result<CowSlice<'de, u8>, WireFault> {
+        let Some(at) = memchr(0, buf.0) else {
+            return Err(WireFault::Eof);
+        };
+        let bytes = buf.eat(at);
+        buf.skip(1);
+        Ok(CowSlice::Borrowed(bytes))
+    }
+
+    fn serialize<A: Allocator>(text: &[u8], buf: &mut Vec<u8, A>) -> Result<(), WireFault> {
+        let start = buf.len();
+        buf.extend_from_slice(before_first_zero(text))?;
+        let Ok(()) = buf.push(0) else {
+            buf.truncate(start);
+            return Err(WireFault::Memory);
+        };
+        Ok(())
+    }
+
+    ghost sized = { λ ctx v bytes rest h. tt };
+}
+
+impl BytesRepr for EofBytes {
+    const SIZE: Option<usize> = None;
+
+    type Size = AnySize;
+
+    type Ctx = ();
+
+    ghost spells = { λ ctx. IsAll };
+
+    ghost suits = { λ ctx v rest. rest ≡ [] };
+
+    fn deserialize<'de>(_ctx: (), buf: &mut ParseBuf<'de>) -> Result<CowSlice<'de, u8>, WireFault> {
+        Ok(CowSlice::Borrowed(buf.eat_all()))
+    }
+
+    fn serialize<A: Allocator>(text: &[u8], buf: &mut Vec<u8, A>) -> Result<(), WireFault> {
+        buf.extend_from_slice(text)?;
+        Ok(())
+    }
+
+    ghost sized = { λ ctx v bytes rest h. tt };
+}
+
+impl<const MAX: usize> BytesRepr for BareBytes<MAX> {
+    const SIZE: Option<usize> = None;
+
+    type Size = AnySize;
+
+    type Ctx = usize;
+
+    ghost spells = { λ ctx. Alone (IsBytes ctx) };
+
+    ghost kept = { take MAX };
+
+    ghost suits = { λ ctx v rest. ctx ≡ length v };
+
+    fn deserialize<'de>(
+        ctx: usize,
+        buf: &mut ParseBuf<'de>,
+    ) -> Result<CowSlice<'de, u8>, WireFault> {
+        let Some(bytes) = buf.checked_eat(ctx) else {
+            return Err(WireFault::Eof);
+        };
+        Ok(CowSlice::Borrowed(bytes))
+    }
+
+    fn serialize<A: Allocator>(text: &[u8], buf: &mut Vec<u8, A>) -> Result<(), WireFault> {
+        buf.extend_from_slice(&text[..text.len().min(MAX)])?;
+        Ok(())
+    }
+
+    ghost sized = { λ ctx v bytes rest h. tt };
+}
+
+impl<const LEN: usize> BytesRepr for FixedLengthText<LEN> {
+    const SIZE: Option<usize> = Some(LEN);
+
+    type Size = Bytes<LEN>;
+
+    type Ctx = ();
+
+    ghost spells = { λ ctx. Alone (IsBytes LEN) };
+
+    ghost kept = { padded LEN };
+
+    fn deserialize<'de>(_ctx: (), buf: &mut ParseBuf<'de>) -> Result<CowSlice<'de, u8>, WireFault> {
+        Ok(CowSlice::Borrowed(buf.eat(LEN)))
+    }
+
+    fn serialize<A: Allocator>(text: &[u8], buf: &mut Vec<u8, A>) -> Result<(), WireFault> {
+        let start = buf.len();
+        buf.extend_from_slice(&text[..text.len().min(LEN)])?;
+        if let Err(fault) = append_zeros(LEN.saturating_sub(text.len()), buf) {
+            buf.truncate(start);
+            return Err(fault);
+        }
+        Ok(())
+    }
+
+    ghost sized = { λ ctx v bytes rest h. h.size };
+}
+
+/// The bytes before the first zero, or all where there is none.
+fn before_first_zero(text: &[u8]) -> &[u8]
+    ensures { result.now ≡ before_zero text.now }
+{
+    match memchr(0, text) {
+        Some(at) => &text[..at],
+        None => text,
+    }
+}
+
+/// Appends `n` zeros, or none.
+pub(crate) fn append_zeros<A: Allocator>(n: usize, buf: &mut Vec<u8, A>) -> Result<(), WireFault>
+    ensures ok { OnOk result (buf.new.items ≡ buf.old.items ++ replicate n 0) }
+    ensures err { IfErr result (λ e. (e ≡ Memory) × (buf.new.items ≡ buf.old.items)) }
+{
+    let total = buf.len().checked_add(n).ok_or(WireFault::Memory)?;
+    buf.resize(total, 0)?;
+    Ok(())
+}

@@ -1,0 +1,51 @@
+//! Values one after the other.
+
+ghost use Rattle.std.specs.Prelude.{◌⊎◌, IfOk, IfErr, OnOk};
+ghost use Rattle.wire_buf.specs.Spelling.{Reads, Lacks, IsSequence, SameAll};
+ghost use Rattle.wire_buf.specs.Writing.{Appends, Refuses};
+ghost use Rattle.wire_seqs.specs.Sequences.{joined_spelling};
+
+use std::alloc::{Allocator, Global};
+use wire_buf::{MyDeserialize, MySerialize, ParseBuf, WireFault};
+
+/// Reads `count` values. Memory grows with what is read.
+pub(crate) fn read_items<'de, T: MyDeserialize<'de, Ctx = ()> + Drop>(
+    alloc: Global,
+    count: usize,
+    buf: &mut ParseBuf<'de>,
+) -> Result<Vec<T>, T::Fault>
+    ensures ok { IfOk result (λ v. Reads (IsSequence count (T.spells tt)) (SameAll T.same) v.items
+        buf.old.0.now buf.new.0.now) }
+    ensures err { IfErr result (λ e. T.is_memory e
+        ⊎ Lacks (IsSequence count (T.spells tt)) buf.old.0.now) }
+{
+    let mut items = Vec::new(alloc);
+    for i in 0..count {
+        let _ = i;
+        let item = buf.parse::<T>(alloc, ())?;
+        let Ok(()) = items.push(item) else {
+            return Err(T::Fault::from(WireFault::Memory));
+        };
+    }
+    Ok(items)
+}
+
+/// Appends the bytes of the values, or nothing where one of them is refused.
+pub(crate) fn write_items<T: MySerialize, A: Allocator>(
+    items: &[T],
+    buf: &mut Vec<u8, A>,
+) -> Result<(), WireFault>
+    ensures ok { OnOk result (Appends (joined_spelling T.spelling) items.now
+        buf.old.items buf.new.items) }
+    ensures err { IfErr result (λ e. Refuses (joined_spelling T.spelling) items.now e
+        buf.old.items buf.new.items) }
+{
+    let start = buf.len();
+    for item in items {
+        if let Err(fault) = item.serialize(buf) {
+            buf.truncate(start);
+            return Err(fault);
+        }
+    }
+    Ok(())
+}

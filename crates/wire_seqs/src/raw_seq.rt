@@ -1,0 +1,155 @@
+ghost use Rattle.std.specs.Prelude.{◌≡◌, ◌⊎◌, ◌↔◌, ◌<◌, ◌≤◌, [], length, slice_index_or, IfOk, IfErr, OnErr, IfSome, IfNone, IsTrue};
+ghost use Rattle.std.specs.Cow.{cow_slice_items};
+ghost use Rattle.wire_buf.specs.Spelling.{Reads, Lacks, Alone, Equal, Holding, SameBy, SameAll, IsSequence};
+ghost use Rattle.wire_buf.specs.declared.fault.WireFault.TheVariants.{Memory};
+ghost use Rattle.wire_seqs.specs.Sequences.{joined_spelling};
+
+use std::alloc::{AllocError, Allocator, Global};
+use std::borrow::CowSlice;
+use std::marker::PhantomData;
+use wire_buf::{AnySize, MyDeserialize, MySerialize, ParseBuf, WireFault, WireSize};
+use wire_forms::RawConst;
+use wire_ints::IntRepr;
+
+/// Numbers in the representation `T`, one after the other, for constants of the type `U`. The
+/// context is their count.
+#[derive(Drop)]
+#[derive_where(PartialEq, Eq, Debug; T::Primitive)]
+pub struct RawSeq<'a, T: IntRepr, U>(pub CowSlice<'a, T::Primitive>, PhantomData<U>);
+
+impl<'a, T: IntRepr, U> RawSeq<'a, T, U> {
+    /// The numbers, to be written one after the other.
+    pub fn new(numbers: CowSlice<'a, T::Primitive>) -> RawSeq<'a, T, U>
+        ensures { result.0 ≡ numbers.entry }
+    {
+        RawSeq(numbers, PhantomData)
+    }
+
+    /// How many numbers there are.
+    pub fn len(&self) -> usize
+        ensures { result ≡ length (cow_slice_items self.now.0) }
+    {
+        self.0.len()
+    }
+
+    /// Whether there is no number.
+    pub fn is_empty(&self) -> bool
+        ensures { IsTrue result ↔ (cow_slice_items self.now.0 ≡ []) }
+    {
+        self.0.is_empty()
+    }
+}
+
+impl<'a, T: IntRepr, U> RawSeq<'a, T, U> {
+    /// The number at `index`, for its constant, or None where there are not so many.
+    pub fn get(&self, index: usize) -> Option<RawConst<T, U>>
+        ensures some { IfSome result (λ raw. (index < length (cow_slice_items self.now.0))
+            × (raw.0 ≡ slice_index_or (cow_slice_items self.now.0) index raw.0)) }
+        ensures none { IfNone result (length (cow_slice_items self.now.0) ≤ index) }
+    {
+        let number = self.0.as_slice().get(index)?;
+        Some(RawConst::new(*number))
+    }
+}
+
+impl<'a, T: IntRepr, U> RawSeq<'a, T, U>
+where
+    T::Primitive: Clone,
+{
+    /// The same numbers, borrowed from nothing. Clones of them have to equal them.
+    pub fn into_owned(self, alloc: Global) -> Result<RawSeq<'a, T, U>, AllocError>
+        requires { (x y : T.Primitive) → T.Primitive.is_clone x y → y ≡ x }
+        ensures { IfOk result (λ s. cow_slice_items s.0 ≡ cow_slice_items self.entry.0) }
+    {
+        Ok(RawSeq(CowSlice::Owned(self.0.into_owned(alloc)?), PhantomData))
+    }
+
+    /// The same numbers, in memory of their own. Clones of them have to equal them.
+    pub fn clone(&self, alloc: Global) -> Result<RawSeq<'a, T, U>, AllocError>
+        requires { (x y : T.Primitive) → T.Primitive.is_clone x y → y ≡ x }
+        ensures { IfOk result (λ s. cow_slice_items s.0 ≡ cow_slice_items self.now.0) }
+    {
+        let numbers = CowSlice::Borrowed(self.0.as_slice()).into_owned(alloc)?;
+        Ok(RawSeq(CowSlice::Owned(numbers), PhantomData))
+    }
+}
+
+impl<'de, T: IntRepr, U> MyDeserialize<'de> for RawSeq<'de, T, U> {
+    const SIZE: Option<usize> = None;
+
+    type Size = AnySize;
+
+    type Ctx = usize;
+
+    type Fault = WireFault;
+
+    ghost spells = { λ ctx. Holding (λ v. cow_slice_items v.0) (IsSequence ctx (Alone T.spells)) };
+
+    ghost same = { SameBy (λ v. cow_slice_items v.0) Equal };
+
+    ghost is_memory = { λ e. e ≡ Memory };
+
+    fn deserialize(
+        alloc: Global,
+        ctx: usize,
+        buf: &mut ParseBuf<'de>,
+    ) -> Result<RawSeq<'de, T, U>, WireFault> {
+        let numbers = read_numbers::<T>(alloc, ctx, buf)?;
+        Ok(RawSeq::new(CowSlice::Owned(numbers)))
+    }
+
+    ghost sized = { λ ctx v bytes rest h. tt };
+
+    ghost tells_memory = { λ f h. h };
+}
+
+impl<'a, T: IntRepr, U> MySerialize for RawSeq<'a, T, U> {
+    ghost spelling = { λ v. joined_spelling (λ n. T.spelling (T.kept n)) (cow_slice_items v.0) };
+
+    fn serialize<A: Allocator>(&self, buf: &mut Vec<u8, A>) -> Result<(), WireFault> {
+        let start = buf.len();
+        for number in self.0.as_slice() {
+            if let Err(fault) = T::serialize(*number, buf) {
+                buf.truncate(start);
+                return Err(fault);
+            }
+        }
+        Ok(())
+    }
+}
+
+/// Reads `count` numbers. Memory grows with what is read.
+fn read_numbers<T: IntRepr>(
+    alloc: Global,
+    count: usize,
+    buf: &mut ParseBuf<'_>,
+) -> Result<Vec<T::Primitive>, WireFault>
+    ensures ok { IfOk result (λ v. Reads (IsSequence count (Alone T.spells)) (SameAll Equal) v.items
+        buf.old.0.now buf.new.0.now) }
+    ensures err { IfErr result (λ e. (e ≡ Memory)
+        ⊎ Lacks (IsSequence count (Alone T.spells)) buf.old.0.now) }
+{
+    let mut numbers = Vec::new(alloc);
+    for i in 0..count {
+        let _ = i;
+        let number = read_number::<T>(buf)?;
+        let Ok(()) = numbers.push(number) else {
+            return Err(WireFault::Memory);
+        };
+    }
+    Ok(numbers)
+}
+
+/// Reads a number, of which not all bytes need to stand there.
+fn read_number<T: IntRepr>(buf: &mut ParseBuf<'_>) -> Result<T::Primitive, WireFault>
+    ensures ok { IfOk result
+        (λ v. Reads (Alone T.spells) Equal v buf.old.0.now buf.new.0.now) }
+    ensures err { OnErr result (Lacks (Alone T.spells) buf.old.0.now) }
+{
+    if let Some(size) = <T::Size as WireSize>::SIZE {
+        if buf.len() < size {
+            return Err(WireFault::Eof);
+        }
+    }
+    T::deserialize(buf)
+}

@@ -1,0 +1,148 @@
+ghost use Rattle.std.specs.Prelude.{◌≡◌, ◌↔◌, ◌++◌, ◌∷◌, [], length, OnOk, OnErr, IfOk, IsTrue};
+ghost use Rattle.std.specs.Cow.{cow_slice_items};
+ghost use Rattle.wire_buf.specs.Spelling.{Holding, SameBy, SameAll};
+ghost use Rattle.wire_seqs.specs.Sequences.{IsCountedSequence, sequence_spelling};
+
+use crate::items::{read_items, write_items};
+use crate::seq_repr::SeqRepr;
+use std::alloc::{AllocError, Allocator, Global};
+use std::borrow::CowSlice;
+use std::marker::PhantomData;
+use std::ops::DerefSlice;
+use wire_buf::{AnySize, MyDeserialize, MySerialize, ParseBuf, WireFault};
+
+/// A sequence of elements, whose number is said in the form `U`.
+#[derive(Drop)]
+#[derive_where(PartialEq, Eq, Debug; T)]
+pub struct Seq<'a, T, U>(pub CowSlice<'a, T>, PhantomData<U>);
+
+impl<'a, T, U> Seq<'a, T, U> {
+    /// The elements, to be written with their number.
+    pub fn new(items: CowSlice<'a, T>) -> Seq<'a, T, U>
+        ensures { result.0 ≡ items.entry }
+    {
+        Seq(items, PhantomData)
+    }
+
+    /// No elements.
+    pub fn empty() -> Seq<'static, T, U>
+        ensures { cow_slice_items result.0 ≡ [] }
+    {
+        Seq(CowSlice::Borrowed(&[]), PhantomData)
+    }
+
+    /// How many elements there are.
+    pub fn len(&self) -> usize
+        ensures { result ≡ length (cow_slice_items self.now.0) }
+    {
+        self.0.len()
+    }
+
+    /// Whether there is no element.
+    pub fn is_empty(&self) -> bool
+        ensures { IsTrue result ↔ (cow_slice_items self.now.0 ≡ []) }
+    {
+        self.0.is_empty()
+    }
+}
+
+impl<'a, T: Clone, U> Seq<'a, T, U> {
+    /// Appends an element. Borrowed elements are cloned first, and their clones have to equal them.
+    /// Want of memory leaves the elements as they were.
+    pub fn push(&mut self, alloc: Global, element: T) -> Result<(), AllocError>
+        requires { (x y : T) → T.is_clone x y → y ≡ x }
+        ensures ok { OnOk result
+            (cow_slice_items self.new.0 ≡ cow_slice_items self.old.0 ++ (element ∷ [])) }
+        ensures err { OnErr result (cow_slice_items self.new.0 ≡ cow_slice_items self.old.0) }
+    {
+        if let CowSlice::Borrowed(items) = &self.0 {
+            self.0 = CowSlice::Owned(CowSlice::Borrowed(*items).into_owned(alloc)?);
+        }
+        if let CowSlice::Owned(items) = &mut self.0 {
+            items.push(element)?;
+        }
+        Ok(())
+    }
+
+    /// The same elements, borrowed from nothing. Borrowed elements are cloned, and their clones
+    /// have to equal them.
+    pub fn into_owned(self, alloc: Global) -> Result<Seq<'a, T, U>, AllocError>
+        requires { (x y : T) → T.is_clone x y → y ≡ x }
+        ensures { IfOk result (λ s. cow_slice_items s.0 ≡ cow_slice_items self.entry.0) }
+    {
+        Ok(Seq(CowSlice::Owned(self.0.into_owned(alloc)?), PhantomData))
+    }
+
+    /// The same elements, in memory of their own. Their clones have to equal them.
+    pub fn clone(&self, alloc: Global) -> Result<Seq<'a, T, U>, AllocError>
+        requires { (x y : T) → T.is_clone x y → y ≡ x }
+        ensures { IfOk result (λ s. cow_slice_items s.0 ≡ cow_slice_items self.now.0) }
+    {
+        let items = CowSlice::Borrowed(self.0.as_slice()).into_owned(alloc)?;
+        Ok(Seq(CowSlice::Owned(items), PhantomData))
+    }
+}
+
+impl<'a, T, U> DerefSlice for Seq<'a, T, U> {
+    type Elem = T;
+
+    ghost deref_gives = { λ s items. items ≡ cow_slice_items s.0 };
+
+    fn deref(&self) -> &[T] {
+        self.0.as_slice()
+    }
+}
+
+impl<'a, T, U> Default for Seq<'a, T, U> {
+    ghost is_default = { λ s. cow_slice_items s.0 ≡ [] };
+
+    fn default() -> Seq<'a, T, U> {
+        Seq(CowSlice::Borrowed(&[]), PhantomData)
+    }
+}
+
+impl<'de, T: MyDeserialize<'de, Ctx = ()> + Drop, U: SeqRepr> MyDeserialize<'de>
+    for Seq<'de, T, U> {
+    const SIZE: Option<usize> = None;
+
+    type Size = AnySize;
+
+    type Ctx = U::Ctx;
+
+    type Fault = T::Fault;
+
+    ghost spells = { λ ctx. Holding (λ v. cow_slice_items v.0) (IsCountedSequence (U.counts ctx) (T.spells tt)) };
+
+    ghost same = { SameBy (λ v. cow_slice_items v.0) (SameAll T.same) };
+
+    ghost is_memory = { T.is_memory };
+
+    fn deserialize(
+        alloc: Global,
+        ctx: U::Ctx,
+        buf: &mut ParseBuf<'de>,
+    ) -> Result<Seq<'de, T, U>, T::Fault> {
+        let count = U::read_count(ctx, buf)?;
+        let items = read_items(alloc, count, buf)?;
+        Ok(Seq::new(CowSlice::Owned(items)))
+    }
+
+    ghost sized = { λ ctx v bytes rest h. tt };
+
+    ghost tells_memory = { T.tells_memory };
+}
+
+impl<'a, T: MySerialize, U: SeqRepr> MySerialize for Seq<'a, T, U> {
+    ghost spelling = { λ v. sequence_spelling U.count_spelling U.MAX_LEN T.spelling (cow_slice_items v.0) };
+
+    fn serialize<A: Allocator>(&self, buf: &mut Vec<u8, A>) -> Result<(), WireFault> {
+        let start = buf.len();
+        let items = &self.0[..self.0.len().min(U::MAX_LEN)];
+        U::write_count(items.len(), buf)?;
+        if let Err(fault) = write_items(items, buf) {
+            buf.truncate(start);
+            return Err(fault);
+        }
+        Ok(())
+    }
+}
