@@ -1,0 +1,4 @@
+pub mod QuoteLemmas
+pub mod PieceLemmas
+pub mod PaddingLemmas
+pub mod InjectiveLemmas

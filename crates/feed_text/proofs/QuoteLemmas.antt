@@ -1,0 +1,30 @@
+-- Quoting, a run of plain bytes at a time.
+use Rattle.std.proofs.Common.{◌≡◌, ◌≤◌, ℕ, suc, ◌+◌, Bool, true, false, List, [], ◌∷◌, ◌++◌, length, take, drop, refl, sym, ap, ◌∙◌, append_assoc, arith, length-take}
+use Rattle.std.proofs.lemmas.List.{append-nil, take-append-le}
+use Rattle.std.specs.Prelude.{take_while}
+use Rattle.std.specs.List.{flat_map, prefix_len}
+use Rattle.feed_text.specs.Quoting.{is_plain_byte, quoted_byte, quoted}
+
+-- the plain bytes at the front stand for themselves
+pub plain_run : (xs : List ℕ) → flat_map quoted_byte xs ≡ take (length (take_while is_plain_byte xs)) xs ++ flat_map quoted_byte (drop (length (take_while is_plain_byte xs)) xs)
+plain_run [] = refl
+plain_run (x ∷ xs) = either (is_plain_byte x) refl (plain_run xs)
+  where
+    either : (b : Bool) → is_plain_byte x ≡ b → flat_map quoted_byte xs ≡ take (length (take_while is_plain_byte xs)) xs ++ flat_map quoted_byte (drop (length (take_while is_plain_byte xs)) xs)
+        → flat_map quoted_byte (x ∷ xs) ≡ take (length (take_while is_plain_byte (x ∷ xs))) (x ∷ xs) ++ flat_map quoted_byte (drop (length (take_while is_plain_byte (x ∷ xs))) (x ∷ xs))
+    either true h more =
+        let e : 1 + prefix_len is_plain_byte xs ≡ suc (prefix_len is_plain_byte xs) = omega arith in
+        rw h (simp e (ap (λ (t : List ℕ). x ∷ t) more))
+    either false h more = rw (h, h) refl
+
+-- nothing is left, and the second quote was written
+pub quote_done : (old out rest bytes new : List ℕ) → out ++ flat_map quoted_byte rest ≡ (old ++ 39 ∷ []) ++ flat_map quoted_byte bytes → length rest ≡ 0 → new ≡ out ++ 39 ∷ [] → new ≡ old ++ quoted bytes
+unfolding quoted
+quote_done old out [] bytes new h none is = is ∙ ap (λ (t : List ℕ). t ++ 39 ∷ []) (sym (append-nil out) ∙ h) ∙ simp append_assoc
+quote_done old out (x ∷ rest) bytes new h none is = absurd (omega arith)
+
+-- what is appended leaves the front as it was
+pub kept_more : (old out new more : List ℕ) → take (length old) out ≡ old → new ≡ out ++ more → take (length old) new ≡ old
+kept_more old out new more kept is =
+    let long : length old ≤ length out = let e = ap length kept in let l = length-take (length old) out in omega (arith, e, l) in
+    ap (take (length old)) is ∙ take-append-le (length old) out more long ∙ kept

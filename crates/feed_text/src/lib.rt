@@ -1,0 +1,16 @@
+//! The text of the feed: bytes between quotes, and the values of cells.
+//!
+//! Each call appends exactly its text, or refuses for want of memory and leaves what stood there as it
+//! was. `specs/` has the texts.
+#![tactic(auto)]
+
+pub mod laws;
+mod padding;
+mod pieces;
+mod quoting;
+#[cfg(test)]
+mod tests;
+mod values;
+
+pub use quoting::quote;
+pub use values::put_value;

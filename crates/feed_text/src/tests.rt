@@ -1,0 +1,85 @@
+use super::*;
+use rows_values::{
+    Value, datetime_from_packed, my_datetime_packed_from_binary, my_time_packed_from_binary,
+    time_from_packed,
+};
+use std::test::Fail;
+
+// What a value's text is.
+fn text_of(rt: &HostRuntime, value: Value) -> Result<Vec<u8>, Fail> {
+    let mut out = Vec::new(rt.alloc());
+    put_value(&value, &mut out)?;
+    Ok(out)
+}
+
+// Bytes that need a backslash, and one that doesn't.
+#[test]
+fn quoting_and_base64_quoted(rt: HostRuntime) -> Result<(), Fail> {
+    let mut out = Vec::new(rt.alloc());
+    quote(&[0x27, 0x5c, 0x0a, 0x41], &mut out)?;
+    assert_eq!(rt; out.as_slice(), br"'\27\5c\0aA'".as_slice());
+    Ok(())
+}
+
+// The time cell of two decimals.
+#[test]
+fn cell_values_time(rt: HostRuntime) -> Result<(), Fail> {
+    let mut input: &[u8] = &[0x7f, 0xff, 0xfe, 0xf6];
+    let packed = my_time_packed_from_binary(&mut input, 2)?;
+    let text = text_of(&rt, time_from_packed(packed))?;
+    assert_eq!(rt; text.as_slice(), b"-0d00:00:01.100000".as_slice());
+    Ok(())
+}
+
+// A date and time without decimals.
+#[test]
+fn packed_datetime(rt: HostRuntime) -> Result<(), Fail> {
+    let mut input: &[u8] = &[0x99, 0x83, 0xb0, 0x90, 0xf9];
+    let packed = my_datetime_packed_from_binary(&mut input, 0)?;
+    let text = text_of(&rt, datetime_from_packed(packed))?;
+    assert_eq!(rt; text.as_slice(), b"2009-09-24T09:03:57.000000".as_slice());
+    Ok(())
+}
+
+// A text of each kind of value.
+#[test]
+fn values_as_text(rt: HostRuntime) -> Result<(), Fail> {
+    let bytes = Vec::from_slice(rt.alloc(), b"it's")?;
+    let texts = [
+        (text_of(&rt, Value::NULL)?, b"NULL".as_slice()),
+        (text_of(&rt, Value::Bytes(bytes))?, br"'it\27s'".as_slice()),
+        (text_of(&rt, Value::Int(-5))?, b"-5".as_slice()),
+        (
+            text_of(&rt, Value::Int(i64::MIN))?,
+            b"-9223372036854775808".as_slice(),
+        ),
+        (
+            text_of(&rt, Value::UInt(u64::MAX))?,
+            b"u18446744073709551615".as_slice(),
+        ),
+        (
+            text_of(&rt, Value::Float(0x3f80_0000))?,
+            b"f3f800000".as_slice(),
+        ),
+        (
+            text_of(&rt, Value::Double(0x0ff0_0000_0000_0000))?,
+            b"d0ff0000000000000".as_slice(),
+        ),
+        (
+            text_of(&rt, Value::Date(2009, 9, 24, 9, 3, 57, 0))?,
+            b"2009-09-24T09:03:57.000000".as_slice(),
+        ),
+        (
+            text_of(&rt, Value::Date(10_000, 0, 31, 0, 0, 0, 1_000_000))?,
+            b"10000-00-31T00:00:00.1000000".as_slice(),
+        ),
+        (
+            text_of(&rt, Value::Time(false, 34, 22, 59, 59, 45))?,
+            b"34d22:59:59.000045".as_slice(),
+        ),
+    ];
+    for (text, wanted) in &texts {
+        assert_eq!(rt; text.as_slice(), *wanted);
+    }
+    Ok(())
+}

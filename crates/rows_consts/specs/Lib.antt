@@ -1,0 +1,5 @@
+pub mod EventTypes
+pub mod StatusVarKeys
+pub mod MetadataTypes
+pub mod Constants
+pub mod Refusals

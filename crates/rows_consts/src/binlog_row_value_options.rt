@@ -1,0 +1,39 @@
+ghost use Rattle.std.specs.Prelude.{◌≡◌};
+ghost use Rattle.wire_consts.specs.Numbering.{IsConstantOf};
+ghost use Rattle.rows_consts.specs.Constants.{binlog_row_value_options_number};
+
+use thiserror::Error;
+
+/// How JSON documents stand in updated rows: a bit of the options in a row's shared part.
+#[derive(Clone, Copy, Debug, PartialEq, Eq, Hash)]
+pub enum BinlogRowValueOptions {
+    /// Documents may stand as their changes.
+    PARTIAL_JSON_UPDATES = 1,
+}
+
+/// A number that stands for no such option.
+#[derive(Clone, Copy, Debug, PartialEq, Eq, Hash, Error)]
+#[error("Unknown binlog row value options {0}")]
+pub struct UnknownBinlogRowValueOptions(pub u64);
+
+impl TryFrom<u64> for BinlogRowValueOptions {
+    type Error = UnknownBinlogRowValueOptions;
+
+    ghost try_from_gives = { IsConstantOf binlog_row_value_options_number (λ unknown. unknown.0) };
+
+    /// The option of a number; all but 1 are refused.
+    fn try_from(number: u64) -> Result<BinlogRowValueOptions, UnknownBinlogRowValueOptions> {
+        match number {
+            1 => Ok(BinlogRowValueOptions::PARTIAL_JSON_UPDATES),
+            _ => Err(UnknownBinlogRowValueOptions(number)),
+        }
+    }
+}
+
+impl From<UnknownBinlogRowValueOptions> for u64 {
+    ghost from_gives = { λ unknown number. number ≡ unknown.0 };
+
+    fn from(unknown: UnknownBinlogRowValueOptions) -> u64 {
+        unknown.0
+    }
+}

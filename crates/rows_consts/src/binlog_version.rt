@@ -1,0 +1,56 @@
+ghost use Rattle.std.specs.Prelude.{◌≡◌};
+ghost use Rattle.wire_consts.specs.Numbering.{IsConstantOf};
+ghost use Rattle.rows_consts.specs.Constants.{binlog_version_number};
+
+use thiserror::Error;
+
+/// The version of the format of a binary log, as its description says it.
+#[derive(Clone, Copy, Debug, PartialEq, Eq, PartialOrd, Ord, Hash)]
+pub enum BinlogVersion {
+    /// The format of servers before 4.0.
+    Version1 = 1,
+    /// The format of 4.0.0 and 4.0.1; no log was written in it.
+    Version2 = 2,
+    /// The format of 4.0.2 to 4.1.
+    Version3 = 3,
+    /// The format since 5.0.
+    Version4 = 4,
+}
+
+/// A number that stands for no version of the format.
+#[derive(Clone, Copy, Debug, PartialEq, Eq, Hash, Error)]
+#[error("Unknown binlog version {0}")]
+pub struct UnknownBinlogVersion(pub u16);
+
+impl TryFrom<u16> for BinlogVersion {
+    type Error = UnknownBinlogVersion;
+
+    ghost try_from_gives = { IsConstantOf binlog_version_number (λ unknown. unknown.0) };
+
+    /// The version of a number; 0 is refused, and all from 5 on.
+    fn try_from(number: u16) -> Result<BinlogVersion, UnknownBinlogVersion> {
+        match number {
+            1 => Ok(BinlogVersion::Version1),
+            2 => Ok(BinlogVersion::Version2),
+            3 => Ok(BinlogVersion::Version3),
+            4 => Ok(BinlogVersion::Version4),
+            _ => Err(UnknownBinlogVersion(number)),
+        }
+    }
+}
+
+impl From<BinlogVersion> for u16 {
+    ghost from_gives = { λ binlog_version number. number ≡ binlog_version_number binlog_version };
+
+    fn from(binlog_version: BinlogVersion) -> u16 {
+        binlog_version as u16
+    }
+}
+
+impl From<UnknownBinlogVersion> for u16 {
+    ghost from_gives = { λ unknown number. number ≡ unknown.0 };
+
+    fn from(unknown: UnknownBinlogVersion) -> u16 {
+        unknown.0
+    }
+}

@@ -1,0 +1,50 @@
+ghost use Rattle.std.specs.Prelude.{◌≡◌};
+ghost use Rattle.wire_consts.specs.Numbering.{IsConstantOf};
+ghost use Rattle.rows_consts.specs.Constants.{incident_type_number};
+
+use thiserror::Error;
+
+/// What went wrong in the source of a log.
+#[derive(Clone, Copy, Debug, PartialEq, Eq, Hash)]
+pub enum IncidentType {
+    /// Nothing.
+    INCIDENT_NONE = 0,
+    /// Events were lost, so that a replica no longer has the same data.
+    INCIDENT_LOST_EVENTS = 1,
+}
+
+/// A number that stands for no incident.
+#[derive(Clone, Copy, Debug, PartialEq, Eq, Hash, Error)]
+#[error("Unknown item incident type {0}")]
+pub struct UnknownIncidentType(pub u16);
+
+impl TryFrom<u16> for IncidentType {
+    type Error = UnknownIncidentType;
+
+    ghost try_from_gives = { IsConstantOf incident_type_number (λ unknown. unknown.0) };
+
+    /// The incident of a number; refused from 2 on.
+    fn try_from(number: u16) -> Result<IncidentType, UnknownIncidentType> {
+        match number {
+            0 => Ok(IncidentType::INCIDENT_NONE),
+            1 => Ok(IncidentType::INCIDENT_LOST_EVENTS),
+            _ => Err(UnknownIncidentType(number)),
+        }
+    }
+}
+
+impl From<IncidentType> for u16 {
+    ghost from_gives = { λ incident_type number. number ≡ incident_type_number incident_type };
+
+    fn from(incident_type: IncidentType) -> u16 {
+        incident_type as u16
+    }
+}
+
+impl From<UnknownIncidentType> for u16 {
+    ghost from_gives = { λ unknown number. number ≡ unknown.0 };
+
+    fn from(unknown: UnknownIncidentType) -> u16 {
+        unknown.0
+    }
+}

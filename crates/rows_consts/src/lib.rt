@@ -1,0 +1,44 @@
+//! The numbers of MySQL's binary logs that have names, and their conversions.
+//!
+//! `specs/` has the number of each constant. How numbers are taken as constants, and when they are
+//! refused, is said once for all of them in `wire_consts`. The sets of flags stand in `rows_flags`.
+#![tactic(auto)]
+
+mod binlog_checksum_alg;
+mod binlog_row_value_options;
+mod binlog_version;
+mod event_type;
+mod gno;
+mod incident_type;
+mod intvar_event_type;
+mod lengths;
+mod load_duplicate_handling;
+mod optional_metadata_field_type;
+mod status_var_key;
+#[cfg(test)]
+mod tests;
+mod transaction_payload_compression_type;
+mod transaction_payload_fields;
+
+pub use binlog_checksum_alg::{BinlogChecksumAlg, UnknownChecksumAlg};
+pub use binlog_row_value_options::{BinlogRowValueOptions, UnknownBinlogRowValueOptions};
+pub use binlog_version::{BinlogVersion, UnknownBinlogVersion};
+pub use event_type::{EventType, UnknownEventType};
+pub use gno::{Gno, InvalidGno};
+pub use incident_type::{IncidentType, UnknownIncidentType};
+pub use intvar_event_type::{IntvarEventType, UnknownIntvarEventType};
+pub use lengths::{
+    BINLOG_CHECKSUM_ALG_DESC_LEN, BINLOG_CHECKSUM_LEN, CHECKSUM_VERSION_PRODUCT,
+    ENCODED_SID_LENGTH, GTID_HEADER_LEN, LOGICAL_TIMESTAMP_TYPECODE, QUERY_HEADER_LEN,
+    ROTATE_HEADER_LEN, ROWS_HEADER_LEN_V1, ROWS_HEADER_LEN_V2, SERVER_VER_LEN,
+    TABLE_MAP_HEADER_LEN,
+};
+pub use load_duplicate_handling::{LoadDuplicateHandling, UnknownDuplicateHandling};
+pub use optional_metadata_field_type::{
+    OptionalMetadataFieldType, UnknownOptionalMetadataFieldType,
+};
+pub use status_var_key::{StatusVarKey, UnknownStatusVarKey};
+pub use transaction_payload_compression_type::{
+    TransactionPayloadCompressionType, UnknownTransactionPayloadCompressionType,
+};
+pub use transaction_payload_fields::{TransactionPayloadFields, UnknownTransactionPayloadFields};

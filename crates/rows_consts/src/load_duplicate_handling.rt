@@ -1,0 +1,53 @@
+ghost use Rattle.std.specs.Prelude.{◌≡◌};
+ghost use Rattle.wire_consts.specs.Numbering.{IsConstantOf};
+ghost use Rattle.rows_consts.specs.Constants.{load_duplicate_handling_number};
+
+use thiserror::Error;
+
+/// What `LOAD DATA` does with a row whose key stands in the table.
+#[derive(Clone, Copy, Debug, PartialEq, Eq, Hash)]
+pub enum LoadDuplicateHandling {
+    /// It fails.
+    LOAD_DUP_ERROR = 0,
+    /// It passes the row by.
+    LOAD_DUP_IGNORE = 1,
+    /// It replaces the row that stands there.
+    LOAD_DUP_REPLACE = 2,
+}
+
+/// A number that stands for no handling of duplicates.
+#[derive(Clone, Copy, Debug, PartialEq, Eq, Hash, Error)]
+#[error("Unknown duplicate handling variant {0}")]
+pub struct UnknownDuplicateHandling(pub u8);
+
+impl TryFrom<u8> for LoadDuplicateHandling {
+    type Error = UnknownDuplicateHandling;
+
+    ghost try_from_gives = { IsConstantOf load_duplicate_handling_number (λ unknown. unknown.0) };
+
+    /// The handling of a number; refused from 3 on.
+    fn try_from(number: u8) -> Result<LoadDuplicateHandling, UnknownDuplicateHandling> {
+        match number {
+            0 => Ok(LoadDuplicateHandling::LOAD_DUP_ERROR),
+            1 => Ok(LoadDuplicateHandling::LOAD_DUP_IGNORE),
+            2 => Ok(LoadDuplicateHandling::LOAD_DUP_REPLACE),
+            _ => Err(UnknownDuplicateHandling(number)),
+        }
+    }
+}
+
+impl From<LoadDuplicateHandling> for u8 {
+    ghost from_gives = { λ load_duplicate_handling number. number ≡ load_duplicate_handling_number load_duplicate_handling };
+
+    fn from(load_duplicate_handling: LoadDuplicateHandling) -> u8 {
+        load_duplicate_handling as u8
+    }
+}
+
+impl From<UnknownDuplicateHandling> for u8 {
+    ghost from_gives = { λ unknown number. number ≡ unknown.0 };
+
+    fn from(unknown: UnknownDuplicateHandling) -> u8 {
+        unknown.0
+    }
+}

@@ -1,0 +1,53 @@
+ghost use Rattle.wire_consts.specs.Numbering.{IsConstantOf};
+ghost use Rattle.rows_consts.specs.Constants.{transaction_payload_compression_type_number};
+ghost use Rattle.rows_consts.specs.Refusals.{IsByteConstantOf};
+
+use thiserror::Error;
+
+/// How the payload of a transaction payload event is compressed.
+#[derive(Clone, Copy, Debug, PartialEq, Eq, Hash)]
+pub enum TransactionPayloadCompressionType {
+    /// By Zstandard.
+    ZSTD = 0,
+    /// Not at all.
+    NONE = 255,
+}
+
+/// A number that stands for no compression; 255 for all numbers past a byte.
+#[derive(Clone, Copy, Debug, PartialEq, Eq, Hash, Error)]
+#[error("Unknown TransactionPayloadCompressionType {0}")]
+pub struct UnknownTransactionPayloadCompressionType(pub u8);
+
+impl TryFrom<u8> for TransactionPayloadCompressionType {
+    type Error = UnknownTransactionPayloadCompressionType;
+
+    ghost try_from_gives = { IsConstantOf transaction_payload_compression_type_number (λ unknown. unknown.0) };
+
+    /// The compression of a number; refused from 1 to 254.
+    fn try_from(
+        number: u8,
+    ) -> Result<TransactionPayloadCompressionType, UnknownTransactionPayloadCompressionType> {
+        match number {
+            0 => Ok(TransactionPayloadCompressionType::ZSTD),
+            255 => Ok(TransactionPayloadCompressionType::NONE),
+            _ => Err(UnknownTransactionPayloadCompressionType(number)),
+        }
+    }
+}
+
+impl TryFrom<u64> for TransactionPayloadCompressionType {
+    type Error = UnknownTransactionPayloadCompressionType;
+
+    ghost try_from_gives = { IsByteConstantOf transaction_payload_compression_type_number (λ unknown. unknown.0) };
+
+    /// The compression of a number; refused from 1 to 254. Past a byte the refusal holds 255.
+    fn try_from(
+        number: u64,
+    ) -> Result<TransactionPayloadCompressionType, UnknownTransactionPayloadCompressionType> {
+        match number {
+            0 => Ok(TransactionPayloadCompressionType::ZSTD),
+            255 => Ok(TransactionPayloadCompressionType::NONE),
+            _ => Err(UnknownTransactionPayloadCompressionType(number.min(255) as u8)),
+        }
+    }
+}

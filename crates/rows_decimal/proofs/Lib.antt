@@ -1,0 +1,5 @@
+pub mod GroupLemmas
+pub mod TakingLemmas
+pub mod UnpackLemmas
+pub mod ReadingLemmas
+pub mod OrderLemmas

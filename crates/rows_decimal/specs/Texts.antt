@@ -1,0 +1,79 @@
+-- The text of a decimal, as it is shown and as it is taken.
+use Rattle.std.specs.Prelude.{◌≡◌, ⊤, ℕ, ◌+◌, ◌-◌, List, [], ◌∷◌, ◌++◌, length, drop, map, Bool, true, false, not, ◌==◌, ◌&&◌, ◌||◌, nat_lt, Option, Some, None, if◌then◌else◌}
+use Rattle.std.specs.List.{prefix_len, list_all, before_first, after_first}
+use Rattle.std.specs.Char.{is_ascii_digit}
+use Rattle.rows_decimal.specs.Decimals.{Value}
+use Rattle.rows_decimal.specs.declared.parse.ParseDecimalError.{ParseDecimalError}
+use Rattle.rows_decimal.specs.declared.parse.ParseDecimalError.TheVariants.{Text, Memory}
+
+-- digits as their characters
+abbrev pub glyphs : List ℕ → List ℕ
+glyphs ds = map (λ d. 48 + d) ds
+
+-- digits without the zeros in front
+abbrev pub significant : List ℕ → List ℕ
+significant ds = drop (prefix_len (λ d. d == 0) ds) ds
+
+-- the digits before the point without the zeros in front, or one zero
+abbrev pub whole_text : List ℕ → List ℕ
+whole_text ds = if length (significant ds) == 0 then 48 ∷ [] else glyphs (significant ds)
+
+-- a point and the digits after it, if there are any
+abbrev pub fraction_text : List ℕ → List ℕ
+fraction_text ds = if length ds == 0 then [] else 46 ∷ glyphs ds
+
+abbrev pub sign_text : Bool → List ℕ
+sign_text negative = if negative then 45 ∷ [] else []
+
+-- what is shown
+abbrev pub decimal_text : Value → List ℕ
+decimal_text v = sign_text v.negative ++ (whole_text v.before ++ fraction_text v.after)
+
+-- while a text begins with two zeros, its first character is dropped
+abbrev pub one_zero : List ℕ → List ℕ
+one_zero t = drop (prefix_len (λ c. c == 48) t - 1) t
+
+-- whether a text begins with a minus
+abbrev pub has_minus : List ℕ → Bool
+has_minus [] = false
+has_minus (c ∷ t) = c == 45
+
+-- what follows the sign, if there is one
+abbrev pub behind_sign : List ℕ → List ℕ
+behind_sign [] = []
+behind_sign (c ∷ t) = if (c == 45) || (c == 43) then t else c ∷ t
+
+-- the digits that characters stand for
+abbrev pub digits_of : List ℕ → List ℕ
+digits_of t = map (λ c. c - 48) t
+
+-- only characters of the zero
+abbrev pub are_zeros : List ℕ → Bool
+are_zeros t = list_all (λ c. c == 48) t
+
+-- at least one character before or after the point, and all of them digits
+unfoldable pub is_spelled : List ℕ → List ℕ → Bool
+is_spelled before after = nat_lt 0 (length before + length after) && (list_all is_ascii_digit before && list_all is_ascii_digit after)
+
+-- the decimal of the characters before and after the point; where all are zeros, there is no sign
+unfoldable pub spelled : Bool → List ℕ → List ℕ → Option Value
+spelled minus before after =
+    if is_spelled before after
+    then Some (record { negative = minus && not (are_zeros before && are_zeros after); before = digits_of before; after = digits_of after })
+    else None
+
+-- the decimal that a text stands for: a sign, digits, and a point and digits
+unfoldable pub text_value : List ℕ → Option Value
+text_value text =
+    let t = one_zero text in
+    let body = behind_sign t in
+    spelled (has_minus t) (before_first (λ c. c == 46) body) (after_first (λ c. c == 46) body)
+
+-- characters that a number has
+abbrev pub are_allowed : List ℕ → Bool
+are_allowed t = list_all (λ c. is_ascii_digit c || ((c == 43) || ((c == 45) || (c == 46)))) t
+
+-- what a refused text says: it stands for no decimal; want of memory says nothing
+abbrev pub IsTextFault : ParseDecimalError → Option Value → Type 0
+IsTextFault Text v = v ≡ None
+IsTextFault Memory v = ⊤

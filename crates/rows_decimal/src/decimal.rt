@@ -1,0 +1,30 @@
+//! Zero, and the size of a decimal.
+
+ghost use Rattle.std.specs.Prelude.{◌≡◌, IfOk, length};
+ghost use Rattle.rows_decimal.specs.Decimals.{value_of, zero_value, packed_size};
+
+use crate::digits::side_size;
+use crate::fields::Decimal;
+use std::alloc::{AllocError, Global};
+
+impl Decimal {
+    /// Zero: one digit, no sign. Want of memory is `AllocError`.
+    pub fn zero(alloc: Global) -> Result<Decimal, AllocError>
+        ensures { IfOk result (λ d. value_of d ≡ zero_value) }
+    {
+        let before = vec![in alloc; 0]?;
+        let after = Vec::new(alloc);
+        Ok(Decimal {
+            negative: false,
+            before,
+            after,
+        })
+    }
+
+    /// How many bytes the packed form takes.
+    pub fn bin_size(&self) -> usize
+        ensures { result ≡ packed_size (length self.now.before.items) (length self.now.after.items) }
+    {
+        side_size(self.before.len()) + side_size(self.after.len())
+    }
+}

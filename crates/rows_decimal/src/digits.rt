@@ -1,0 +1,71 @@
+//! Groups of decimal digits, and the bytes that they take.
+
+ghost use Rattle.std.specs.Prelude.{◌≡◌, ◌≤◌, ◌<◌, ◌+◌, ◌*◌, ◌/◌, ◌-◌, ◌==◌, length};
+ghost use Rattle.std.specs.List.{prefix_len};
+ghost use Rattle.rows_decimal.specs.Digits.{group_size as group_size_of, side_size as side_size_of};
+ghost use Rattle.rows_decimal.specs.Decimals.{packed_size};
+
+/// The number of a group of digits, as MySQL and `mysql_common` hold it.
+pub type Digit = i32;
+
+/// How many decimal digits a full group has.
+pub const DIG_PER_DEC: usize = 9;
+
+/// One more than the number of a full group can be.
+pub const DIG_BASE: usize = 1_000_000_000;
+
+/// How many bytes a group of 0 to 9 digits takes.
+pub const DIG_TO_BYTES: [u8; 10] = [0, 1, 1, 2, 2, 3, 3, 4, 4, 4];
+
+/// The powers of ten from 10^0 to 10^9.
+pub const POWERS_10: [Digit; 10] = [
+    1,
+    10,
+    100,
+    1_000,
+    10_000,
+    100_000,
+    1_000_000,
+    10_000_000,
+    100_000_000,
+    1_000_000_000,
+];
+
+/// How many bytes the packed form of a decimal takes. Of its `precision` digits, `scale` stand after
+/// the point: at most all of them.
+pub fn decimal_bin_size(precision: usize, scale: usize) -> usize
+    requires { scale ≤ precision }
+    ensures { result ≡ packed_size (precision - scale) scale }
+{
+    side_size(precision - scale) + side_size(scale)
+}
+
+/// How many bytes the digits on one side of the point take.
+pub(crate) fn side_size(digits: usize) -> usize
+    ensures size { result ≡ side_size_of digits }
+    ensures bound { result ≤ 4 * (digits / 9) + 4 }
+{
+    4 * (digits / DIG_PER_DEC) + group_size(digits % DIG_PER_DEC)
+}
+
+/// How many bytes a group of digits takes.
+pub(crate) fn group_size(digits: usize) -> usize
+    requires { digits ≤ 9 }
+    ensures size { result ≡ group_size_of digits }
+    ensures bound { result ≤ 4 }
+{
+    usize::from(DIG_TO_BYTES[digits])
+}
+
+/// How many of the first bytes are this one.
+pub(crate) fn leading(bytes: &[u8], byte: u8) -> usize
+    ensures count { result ≡ prefix_len (λ b. b == byte) bytes.now }
+    ensures bound { result ≤ length bytes.now }
+{
+    for (i, other) in bytes.iter().enumerate() {
+        if *other != byte {
+            return i;
+        }
+    }
+    bytes.len()
+}

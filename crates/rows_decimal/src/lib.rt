@@ -1,0 +1,22 @@
+//! MySQL's DECIMAL: its digits, its text, and the packed form of columns, JSON documents and keys.
+//!
+//! [`Decimal`] holds a sign and the digits before and after the point. `specs/Digits.antt` says how
+//! digits are packed, `specs/Decimals.antt` what is read and written, and `specs/Texts.antt` what is
+//! shown and taken as text.
+#![tactic(auto)]
+
+mod decimal;
+mod digits;
+mod display;
+mod fields;
+mod order;
+mod packing;
+mod parse;
+mod streams;
+#[cfg(test)]
+mod tests;
+mod unpacking;
+
+pub use digits::{DIG_BASE, DIG_PER_DEC, DIG_TO_BYTES, Digit, POWERS_10, decimal_bin_size};
+pub use fields::Decimal;
+pub use parse::ParseDecimalError;

@@ -1,0 +1,178 @@
+//! Text as a decimal.
+
+ghost use Rattle.std.specs.Prelude.{◌≡◌, ◌<◌, ◌+◌, ◌==◌, IfOk, IfErr, Some, true};
+ghost use Rattle.std.specs.Str.{trim, IsUtf8};
+ghost use Rattle.std.specs.List.{before_first, after_first, list_all};
+ghost use Rattle.std.specs.Char.{is_ascii_digit};
+ghost use Rattle.rows_decimal.specs.Decimals.{value_of};
+ghost use Rattle.rows_decimal.specs.declared.parse.ParseDecimalError.TheVariants.{Memory};
+ghost use Rattle.rows_decimal.specs.Texts.{text_value, spelled as spelled_as, is_spelled as is_spelled_as, one_zero as one_zero_of, has_minus, behind_sign, digits_of as digits_in, are_zeros as are_zeros_in, are_allowed as are_allowed_in, IsTextFault};
+
+use crate::digits::leading;
+use crate::fields::Decimal;
+use std::alloc::{AllocError, Global};
+use std::str;
+use thiserror::Error;
+
+/// Why a text is not taken as a decimal.
+#[derive(Clone, Copy, Debug, PartialEq, Eq, Error)]
+pub enum ParseDecimalError {
+    /// It isn't one: a sign, digits, and a point and digits, with at least one digit.
+    #[error("the text is no decimal")]
+    Text,
+    /// Memory was refused.
+    #[error("out of memory")]
+    Memory,
+}
+
+impl From<AllocError> for ParseDecimalError {
+    ghost from_gives = { λ e f. f ≡ Memory };
+
+    fn from(_error: AllocError) -> ParseDecimalError {
+        ParseDecimalError::Memory
+    }
+}
+
+impl Decimal {
+    /// Takes a text without the white space around it. While it begins with `00`, its first
+    /// character is dropped; then come a sign or none, digits, and a point and digits or none, with
+    /// at least one digit. Other zeros in front are kept as digits. Where all digits are zeros there
+    /// is no sign. An exponent is refused, as all else is: `Text`. Want of memory is `Memory`.
+    pub fn from_str(alloc: Global, text: &str) -> Result<Decimal, ParseDecimalError>
+        ensures ok { IfOk result (λ d. text_value (trim text.now) ≡ Some (value_of d)) }
+        ensures err { IfErr result (λ e. IsTextFault e (text_value (trim text.now))) }
+    {
+        parse_trimmed(alloc, text.trim().as_bytes())
+    }
+
+    /// Takes bytes as `from_str` takes a text, where they are digits, signs and points. All other
+    /// bytes are refused, white space too.
+    pub fn parse_str_bytes(alloc: Global, bytes: &[u8]) -> Result<Decimal, ParseDecimalError>
+        ensures ok { IfOk result (λ d. (are_allowed_in bytes.now ≡ true)
+            × (text_value bytes.now ≡ Some (value_of d))) }
+        ensures err { IfErr result (λ e. are_allowed_in bytes.now ≡ true → IsTextFault e (text_value bytes.now)) }
+    {
+        if !are_allowed(bytes) {
+            return Err(ParseDecimalError::Text);
+        }
+        parse_trimmed(alloc, bytes)
+    }
+
+    /// Takes bytes that are UTF-8 as `from_str` takes their text, and refuses others.
+    pub fn parse_bytes(alloc: Global, bytes: &[u8]) -> Result<Decimal, ParseDecimalError>
+        ensures ok { IfOk result (λ d. IsUtf8 bytes.now
+            × (text_value (trim bytes.now) ≡ Some (value_of d))) }
+        ensures err { IfErr result (λ e. IsUtf8 bytes.now → IsTextFault e (text_value (trim bytes.now))) }
+    {
+        match str::from_utf8(bytes) {
+            Ok(text) => Decimal::from_str(alloc, text),
+            Err(_) => Err(ParseDecimalError::Text),
+        }
+    }
+}
+
+/// The decimal of a text with no white space around it.
+#[tactic(auto, unfolding(crate::specs::Texts::text_value))]
+fn parse_trimmed(alloc: Global, text: &[u8]) -> Result<Decimal, ParseDecimalError>
+    ensures ok { IfOk result (λ d. text_value text.now ≡ Some (value_of d)) }
+    ensures err { IfErr result (λ e. IsTextFault e (text_value text.now)) }
+{
+    let text = one_zero(text);
+    let (minus, body) = split_sign(text);
+    let (before, after) = split_point(body);
+    spelled(alloc, minus, before, after)
+}
+
+/// The decimal of the characters before and after the point.
+#[tactic(auto, unfolding(crate::specs::Texts::spelled))]
+fn spelled(
+    alloc: Global,
+    minus: bool,
+    before: &[u8],
+    after: &[u8],
+) -> Result<Decimal, ParseDecimalError>
+    ensures ok { IfOk result (λ d. spelled_as minus before.now after.now ≡ Some (value_of d)) }
+    ensures err { IfErr result (λ e. IsTextFault e (spelled_as minus before.now after.now)) }
+{
+    if !is_spelled(before, after) {
+        return Err(ParseDecimalError::Text);
+    }
+    let negative = minus && !(are_zeros(before) && are_zeros(after));
+    let before = digits_of(alloc, before)?;
+    let after = digits_of(alloc, after)?;
+    Ok(Decimal {
+        negative,
+        before,
+        after,
+    })
+}
+
+/// The text without all but one of the zeros that it begins with.
+fn one_zero(text: &[u8]) -> &[u8]
+    ensures { result.now ≡ one_zero_of text.now }
+{
+    let zeros = leading(text, b'0');
+    &text[zeros.saturating_sub(1)..]
+}
+
+/// Whether the text begins with a minus, and what follows a sign.
+fn split_sign(text: &[u8]) -> (bool, &[u8])
+    ensures minus { result.0 ≡ has_minus text.now }
+    ensures body { result.1.now ≡ behind_sign text.now }
+{
+    match text.split_first() {
+        Some((b'-', body)) => (true, body),
+        Some((b'+', body)) => (false, body),
+        _ => (false, text),
+    }
+}
+
+/// What stands before the first point, and what stands after it.
+fn split_point(body: &[u8]) -> (&[u8], &[u8])
+    ensures before { result.0.now ≡ before_first (λ c. c == 46) body.now }
+    ensures after { result.1.now ≡ after_first (λ c. c == 46) body.now }
+{
+    for (i, byte) in body.iter().enumerate() {
+        if *byte == b'.' {
+            return (&body[..i], &body[i + 1..]);
+        }
+    }
+    (body, &body[body.len()..])
+}
+
+/// Whether there is a digit, and nothing but digits.
+#[tactic(auto, unfolding(crate::specs::Texts::is_spelled))]
+fn is_spelled(before: &[u8], after: &[u8]) -> bool
+    ensures { result ≡ is_spelled_as before.now after.now }
+{
+    let none = before.is_empty() && after.is_empty();
+    !none && are_digits(before) && are_digits(after)
+}
+
+/// The digits that characters stand for.
+fn digits_of(alloc: Global, text: &[u8]) -> Result<Vec<u8>, AllocError>
+    ensures { IfOk result (λ ds. ds.items ≡ digits_in text.now) }
+{
+    text.iter().map(|c| c.saturating_sub(b'0')).collect(alloc)
+}
+
+/// Whether all characters are digits.
+fn are_digits(text: &[u8]) -> bool
+    ensures { result ≡ list_all is_ascii_digit text.now }
+{
+    text.iter().all(|c| c.is_ascii_digit())
+}
+
+/// Whether all characters are zeros.
+fn are_zeros(text: &[u8]) -> bool
+    ensures { result ≡ are_zeros_in text.now }
+{
+    text.iter().all(|c| *c == b'0')
+}
+
+/// Whether all characters are digits, signs and points.
+fn are_allowed(text: &[u8]) -> bool
+    ensures { result ≡ are_allowed_in text.now }
+{
+    text.iter().all(|c| c.is_ascii_digit() || *c == b'+' || *c == b'-' || *c == b'.')
+}

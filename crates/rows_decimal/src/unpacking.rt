@@ -1,0 +1,230 @@
+//! The packed form of a decimal, read.
+
+ghost use Rattle.std.specs.Prelude.{◌≡◌, ◌≤◌, ◌<◌, ◌-◌, ◌*◌, ◌^◌, ◌++◌, ◌/◌, ◌⊎◌, OnOk, IfOk, IfErr, length, if◌then◌else◌};
+ghost use Rattle.rows_values.specs.declared.fault.RowsError.TheVariants.{Decimal as BadDecimal, Memory};
+ghost use Rattle.rows_decimal.specs.Digits.{AreDigits, group_size as group_size_of, side_size as side_size_of, group_bytes, nines_bytes, before_bytes, after_bytes, top_turned, signed, has_minus_bit as has_minus_bit_in};
+ghost use Rattle.byteorder.specs.Endian.{big_number};
+ghost use Rattle.wire_buf.specs.Spelling.{AreBytes};
+ghost use Rattle.rows_decimal.specs.Decimals.{value_of, packed_size, some_digit, without_zero_groups, Unpacks, NonePacked, ReadsDecimal, FailsDecimal, ReadsPacked, FailsPacked, Gains, NoDigits, digits_in};
+
+use crate::digits::{DIG_PER_DEC, decimal_bin_size, group_size, leading, side_size};
+use crate::fields::Decimal;
+use crate::packing::{turn_all, turn_top};
+use crate::streams::gather;
+use byteorder::{BigEndian, ByteOrder};
+use rows_values::RowsError;
+use std::alloc::{AllocError, Global};
+use std::io::Read;
+
+impl Decimal {
+    /// Reads the packed form of `precision` digits, `scale` of them after the point, as column values
+    /// have it. Leading groups of nine zeros, or of the digits left over, are dropped unless
+    /// `keep_precision`; where no digit is left on either side of the point it is one zero without
+    /// a sign.
+    ///
+    /// `Decimal` where `scale` is past `precision`, and nothing is read then, or where a group of k
+    /// digits is 10^k or more; `EndOfBody` where the bytes end too early, `Read` where the reader
+    /// fails, `Memory` for want of memory.
+    pub fn read_bin<R: Read>(
+        alloc: Global,
+        input: &mut R,
+        precision: usize,
+        scale: usize,
+        keep_precision: bool,
+    ) -> Result<Decimal, RowsError>
+        ensures ok { IfOk result (λ d. ReadsDecimal keep_precision precision scale (value_of d)
+            (R.remaining input.old) (R.remaining input.new)) }
+        ensures err { IfErr result (λ e. FailsDecimal precision scale e
+            (R.remaining input.old) (R.remaining input.new)) }
+    {
+        if scale > precision {
+            return Err(RowsError::Decimal);
+        }
+        let mut bytes = Vec::new(alloc);
+        gather(input, decimal_bin_size(precision, scale) as u64, &mut bytes)?;
+        unpack(alloc, &mut bytes, precision - scale, scale, keep_precision)
+    }
+
+    /// Reads the packed form behind its precision and its scale in one byte each, as JSON documents
+    /// have it. The refusals are those of `read_bin`.
+    pub fn read_packed<R: Read>(
+        alloc: Global,
+        input: &mut R,
+        keep_precision: bool,
+    ) -> Result<Decimal, RowsError>
+        ensures ok { IfOk result (λ d. ReadsPacked keep_precision (value_of d)
+            (R.remaining input.old) (R.remaining input.new)) }
+        ensures err { IfErr result
+            (λ e. FailsPacked e (R.remaining input.old) (R.remaining input.new)) }
+    {
+        let mut sizes = Vec::new(alloc);
+        gather(input, 2, &mut sizes)?;
+        let precision = usize::from(sizes[0]);
+        let scale = usize::from(sizes[1]);
+        Decimal::read_bin(alloc, input, precision, scale, keep_precision)
+    }
+}
+
+/// The decimal that the bytes pack, of so many digits before and after the point.
+fn unpack(
+    alloc: Global,
+    bytes: &mut [u8],
+    before: usize,
+    after: usize,
+    keep: bool,
+) -> Result<Decimal, RowsError>
+    requires { length bytes.old ≡ packed_size before after }
+    ensures ok { IfOk result (λ d. Unpacks keep before after (value_of d) bytes.old) }
+    ensures err { IfErr result (λ e. e ≡ Memory ⊎ ((e ≡ BadDecimal) × NonePacked before after bytes.old)) }
+{
+    let negative = turn_back(bytes);
+    let (front, back) = bytes.split_at(side_size(before));
+    let mut whole = Vec::new(alloc);
+    take_before(front, before, &mut whole)?;
+    let mut fraction = Vec::new(alloc);
+    take_after(back, after, &mut fraction)?;
+    let whole = kept_digits(alloc, whole, keep)?;
+    let decimal = finish(alloc, negative, whole, fraction)?;
+    Ok(decimal)
+}
+
+/// Turns packed bits back, and says whether they were those of a negative number.
+fn turn_back(bytes: &mut [u8]) -> bool
+    ensures sign { result ≡ has_minus_bit_in bytes.old }
+    ensures plain { bytes.new ≡ top_turned (signed result bytes.old) }
+    ensures bytes { AreBytes bytes.old }
+{
+    let negative = has_minus_bit(bytes);
+    if negative {
+        turn_all(bytes);
+    }
+    turn_top(bytes);
+    negative
+}
+
+/// Whether packed bytes are those of a negative number.
+fn has_minus_bit(bytes: &[u8]) -> bool
+    ensures sign { result ≡ has_minus_bit_in bytes.now }
+    ensures bytes { AreBytes bytes.now }
+{
+    match bytes.first() {
+        Some(first) => *first < 128,
+        None => false,
+    }
+}
+
+/// The decimal of these digits, or zero where there is none.
+fn finish(
+    alloc: Global,
+    negative: bool,
+    before: Vec<u8>,
+    after: Vec<u8>,
+) -> Result<Decimal, AllocError>
+    requires before_are { AreDigits before.items }
+    requires after_are { AreDigits after.items }
+    ensures { IfOk result (λ d. value_of d ≡ some_digit
+        (record { negative = negative; before = before.items; after = after.items })) }
+{
+    if before.is_empty() && after.is_empty() {
+        return Decimal::zero(alloc);
+    }
+    Ok(Decimal {
+        negative,
+        before,
+        after,
+    })
+}
+
+/// All of the digits, or those without the leading groups that are zero.
+fn kept_digits(alloc: Global, digits: Vec<u8>, keep: bool) -> Result<Vec<u8>, AllocError>
+    ensures { IfOk result (λ ds. ds.items ≡
+        (if keep then digits.items else without_zero_groups digits.items)) }
+{
+    if keep {
+        return Ok(digits);
+    }
+    let shown = digits.len() - leading(&digits, 0);
+    let groups = shown / DIG_PER_DEC + usize::from(shown % DIG_PER_DEC > 0);
+    let unused = digits.len().saturating_sub(DIG_PER_DEC * groups);
+    if unused == 0 {
+        return Ok(digits);
+    }
+    let mut kept = Vec::new(alloc);
+    kept.extend_from_slice(&digits[unused..])?;
+    Ok(kept)
+}
+
+/// Appends the digits before the point.
+fn take_before(bytes: &[u8], count: usize, digits: &mut Vec<u8>) -> Result<(), RowsError>
+    requires { length bytes.now ≡ side_size_of count }
+    ensures ok { OnOk result (Gains before_bytes count bytes.now digits.old.items digits.new.items) }
+    ensures err { IfErr result (λ e. e ≡ Memory ⊎ ((e ≡ BadDecimal) × NoDigits before_bytes count bytes.now)) }
+{
+    let left = count % DIG_PER_DEC;
+    let (front, rest) = bytes.split_at(group_size(left));
+    take_group(front, left, digits)?;
+    take_nines(rest, count / DIG_PER_DEC, digits)
+}
+
+/// Appends the digits after the point.
+fn take_after(bytes: &[u8], count: usize, digits: &mut Vec<u8>) -> Result<(), RowsError>
+    requires { length bytes.now ≡ side_size_of count }
+    ensures ok { OnOk result (Gains after_bytes count bytes.now digits.old.items digits.new.items) }
+    ensures err { IfErr result (λ e. e ≡ Memory ⊎ ((e ≡ BadDecimal) × NoDigits after_bytes count bytes.now)) }
+{
+    let whole = count / DIG_PER_DEC;
+    let (front, rest) = bytes.split_at(4 * whole);
+    take_nines(front, whole, digits)?;
+    take_group(rest, count % DIG_PER_DEC, digits)
+}
+
+/// Appends the digits of groups of nine.
+fn take_nines(bytes: &[u8], count: usize, digits: &mut Vec<u8>) -> Result<(), RowsError>
+    requires { length bytes.now ≡ 4 * count }
+    ensures ok { OnOk result (Gains (nines_bytes count) (9 * count) bytes.now digits.old.items digits.new.items) }
+    ensures err { IfErr result (λ e. e ≡ Memory ⊎ ((e ≡ BadDecimal) × NoDigits (nines_bytes count) (9 * count) bytes.now)) }
+{
+    for i in 0..count {
+        take_group(&bytes[4 * i..4 * i + 4], 9, digits)?;
+    }
+    Ok(())
+}
+
+/// Appends the digits of one group.
+fn take_group(bytes: &[u8], count: usize, digits: &mut Vec<u8>) -> Result<(), RowsError>
+    requires few { count ≤ 9 }
+    requires size { length bytes.now ≡ group_size_of count }
+    ensures ok { OnOk result (Gains group_bytes count bytes.now digits.old.items digits.new.items) }
+    ensures err { IfErr result (λ e. e ≡ Memory ⊎ ((e ≡ BadDecimal) × NoDigits group_bytes count bytes.now)) }
+{
+    push_digits(number_at(bytes), count, digits)
+}
+
+/// The number in the bytes, the highest first.
+fn number_at(bytes: &[u8]) -> u64
+    requires { length bytes.now ≤ 8 }
+    ensures { result ≡ big_number (length bytes.now) bytes.now }
+{
+    if bytes.is_empty() {
+        return 0;
+    }
+    BigEndian::read_uint(bytes, bytes.len())
+}
+
+/// Appends the last digits of a number, if it has no more.
+fn push_digits(number: u64, count: usize, digits: &mut Vec<u8>) -> Result<(), RowsError>
+    ensures ok { OnOk result ((number < 10 ^ count)
+        × (digits.new.items ≡ digits.old.items ++ digits_in count number)) }
+    ensures err { IfErr result (λ e. e ≡ Memory ⊎ ((e ≡ BadDecimal) × (10 ^ count ≤ number))) }
+{
+    if count == 0 {
+        return if number == 0 {
+            Ok(())
+        } else {
+            Err(RowsError::Decimal)
+        };
+    }
+    push_digits(number / 10, count - 1, digits)?;
+    digits.push((number % 10) as u8)?;
+    Ok(())
+}

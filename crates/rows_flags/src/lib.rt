@@ -1,0 +1,19 @@
+//! The sets of flags of MySQL's binary logs, and their conversions.
+//!
+//! `specs/` has the bits of each flag. How numbers are taken as sets of flags, and when they are
+//! refused, is said once for all of them in `wire_consts`.
+#![tactic(auto)]
+
+mod event_flags;
+mod gtid_flags;
+mod rows_event_flags;
+mod semi_sync_flags;
+#[cfg(test)]
+mod tests;
+mod user_var_flags;
+
+pub use event_flags::{EventFlags, UnknownEventFlags};
+pub use gtid_flags::{GtidFlags, UnknownGtidFlags};
+pub use rows_event_flags::{RowsEventFlags, UnknownRowsEventFlags};
+pub use semi_sync_flags::{SemiSyncFlags, UnknownSemiSyncFlags};
+pub use user_var_flags::{UnknownUserVarFlags, UserVarFlags};

@@ -1,0 +1,35 @@
+-- Bits that stand in bytes: null bits, the bits of columns and of signs.
+use Rattle.std.specs.Prelude.{◌≡◌, ℕ, zero, suc, ◌+◌, ◌-◌, ◌/◌, ◌%◌, ◌^◌, Bool, List, slice_index, Option, Some, None, nat_lt, ◌==◌, if◌then◌else◌}
+use Rattle.rows_values.specs.declared.bits.Bits.{Bits}
+use Rattle.rows_values.specs.declared.bits.BitsIter.{BitsIter}
+
+-- bit i, where each byte begins with its lowest bit
+abbrev pub lowest_bit : List ℕ → ℕ → Bool
+lowest_bit bytes i = slice_index bytes (i / 8) / 2 ^ (i % 8) % 2 == 1
+
+-- bit i, where each byte begins with its highest bit
+abbrev pub highest_bit : List ℕ → ℕ → Bool
+highest_bit bytes i = slice_index bytes (i / 8) / 2 ^ (7 - i % 8) % 2 == 1
+
+abbrev pub bit_of : Bits → ℕ → Bool
+bit_of b i = if b.from_highest then highest_bit b.bytes.now i else lowest_bit b.bytes.now i
+
+abbrev pub len_of : Bits → ℕ
+len_of b = b.len
+
+-- bit i, where there is one
+abbrev pub bit_at : Bits → ℕ → Option Bool
+bit_at b i = if nat_lt i (len_of b) then Some (bit_of b i) else None
+
+-- how many of the first n are set
+abbrev pub count_below : (ℕ → Bool) → ℕ → ℕ
+count_below is_set zero = 0
+count_below is_set (suc n) = count_below is_set n + (if is_set n then 1 else 0)
+
+-- one step over bits: the next bit is given and passed, where there is one
+abbrev pub TakesBit : BitsIter → Option Bool → BitsIter → Type 0
+TakesBit it bit after =
+    (bit ≡ bit_at it.bits it.next) × (after.bits ≡ it.bits) × (after.next ≡ (if nat_lt it.next (len_of it.bits) then it.next + 1 else it.next))
+
+abbrev pub left_of : BitsIter → ℕ
+left_of it = len_of it.bits - it.next

@@ -1,0 +1,9 @@
+pub mod Faults
+pub mod PackedTimes
+pub mod ReadTimes
+pub mod TimeFields
+pub mod Values
+pub mod Columns
+pub mod BitLists
+pub mod Rows
+pub mod TimeTexts

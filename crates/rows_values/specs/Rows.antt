@@ -1,0 +1,20 @@
+-- The values and the columns of a row.
+use Rattle.std.specs.Prelude.{ℕ, List, Option, Some, None, slice_get}
+use Rattle.std.specs.Rc.{rc_slice_items}
+use Rattle.rows_values.specs.declared.row.Row.{Row}
+use Rattle.rows_values.specs.declared.column.Column.{Column}
+use Rattle.rows_values.specs.declared.value.Value.{Value}
+
+abbrev pub values_of : Row → List (Option Value)
+values_of row = row.values.items
+
+abbrev pub columns_of : Row → List Column
+columns_of row = rc_slice_items row.columns
+
+-- the value at an index, if there is one that wasn't taken
+abbrev pub some_value : Option (Option Value) → Option Value
+some_value None = None
+some_value (Some v) = v
+
+abbrev pub value_at : List (Option Value) → ℕ → Option Value
+value_at values i = some_value (slice_get values i)

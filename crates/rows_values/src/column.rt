@@ -1,0 +1,177 @@
+ghost use Rattle.std.specs.Prelude.{◌≡◌, IfOk, []};
+ghost use Rattle.std.specs.Str.{IsUtf8};
+ghost use Rattle.std.specs.Cow.{cow_str_bytes};
+ghost use Rattle.rows_values.specs.Columns.{parts_of};
+
+use std::alloc::{AllocError, Global};
+use std::borrow::CowStr;
+use std::str;
+use wire_consts::{ColumnFlags, ColumnType};
+
+/// The definition of a column, as far as the rows of a binary log have it.
+#[derive(Debug, PartialEq, Eq, Drop)]
+pub struct Column {
+    column_type: ColumnType,
+    schema: Vec<u8>,
+    table: Vec<u8>,
+    org_table: Vec<u8>,
+    name: Vec<u8>,
+    flags: ColumnFlags,
+    character_set: u16,
+}
+
+impl Column {
+    /// A column of this type, without names, flags and character set.
+    pub fn new(alloc: Global, column_type: ColumnType) -> Column
+        ensures { parts_of result ≡ record { column_type = column_type; schema = []; table = []; org_table = []; name = []; flags = record { 0 = 0 }; character_set = 0 } }
+    {
+        Column {
+            column_type,
+            schema: Vec::new(alloc),
+            table: Vec::new(alloc),
+            org_table: Vec::new(alloc),
+            name: Vec::new(alloc),
+            flags: ColumnFlags::default(),
+            character_set: 0,
+        }
+    }
+
+    /// The type of the column.
+    pub fn column_type(&self) -> ColumnType
+        ensures { result ≡ (parts_of self.now).column_type }
+    {
+        self.column_type
+    }
+
+    /// The column with the name of its schema. Where memory is refused the column is dropped.
+    pub fn with_schema(mut self, schema: &[u8]) -> Result<Column, AllocError>
+        ensures { IfOk result (λ c. parts_of c ≡ record (parts_of self) { schema = schema.now }) }
+    {
+        self.schema.clear();
+        self.schema.extend_from_slice(schema)?;
+        Ok(self)
+    }
+
+    /// The name of the schema.
+    pub fn schema_ref(&self) -> &[u8]
+        ensures { result.now ≡ (parts_of self.now).schema }
+    {
+        &self.schema
+    }
+
+    /// The name of the schema as text; what isn't UTF-8 in it is replaced.
+    pub fn schema_str(&self, alloc: Global) -> Result<CowStr<'_, Global>, AllocError>
+        ensures { IfOk result (λ t. IsUtf8 (parts_of self.now).schema → cow_str_bytes t ≡ (parts_of self.now).schema) }
+    {
+        lossy(alloc, &self.schema)
+    }
+
+    /// The column with the name of its table. Where memory is refused the column is dropped.
+    pub fn with_table(mut self, table: &[u8]) -> Result<Column, AllocError>
+        ensures { IfOk result (λ c. parts_of c ≡ record (parts_of self) { table = table.now }) }
+    {
+        self.table.clear();
+        self.table.extend_from_slice(table)?;
+        Ok(self)
+    }
+
+    /// The name of the table, which may be an alias.
+    pub fn table_ref(&self) -> &[u8]
+        ensures { result.now ≡ (parts_of self.now).table }
+    {
+        &self.table
+    }
+
+    /// The name of the table, which may be an alias as text; what isn't UTF-8 in it is replaced.
+    pub fn table_str(&self, alloc: Global) -> Result<CowStr<'_, Global>, AllocError>
+        ensures { IfOk result (λ t. IsUtf8 (parts_of self.now).table → cow_str_bytes t ≡ (parts_of self.now).table) }
+    {
+        lossy(alloc, &self.table)
+    }
+
+    /// The column with the name of its table in the schema. Where memory is refused the column is dropped.
+    pub fn with_org_table(mut self, org_table: &[u8]) -> Result<Column, AllocError>
+        ensures { IfOk result (λ c. parts_of c ≡ record (parts_of self) { org_table = org_table.now }) }
+    {
+        self.org_table.clear();
+        self.org_table.extend_from_slice(org_table)?;
+        Ok(self)
+    }
+
+    /// The name of the table in its schema.
+    pub fn org_table_ref(&self) -> &[u8]
+        ensures { result.now ≡ (parts_of self.now).org_table }
+    {
+        &self.org_table
+    }
+
+    /// The name of the table in its schema as text; what isn't UTF-8 in it is replaced.
+    pub fn org_table_str(&self, alloc: Global) -> Result<CowStr<'_, Global>, AllocError>
+        ensures { IfOk result (λ t. IsUtf8 (parts_of self.now).org_table → cow_str_bytes t ≡ (parts_of self.now).org_table) }
+    {
+        lossy(alloc, &self.org_table)
+    }
+
+    /// The column with its name. Where memory is refused the column is dropped.
+    pub fn with_name(mut self, name: &[u8]) -> Result<Column, AllocError>
+        ensures { IfOk result (λ c. parts_of c ≡ record (parts_of self) { name = name.now }) }
+    {
+        self.name.clear();
+        self.name.extend_from_slice(name)?;
+        Ok(self)
+    }
+
+    /// The name of the column.
+    pub fn name_ref(&self) -> &[u8]
+        ensures { result.now ≡ (parts_of self.now).name }
+    {
+        &self.name
+    }
+
+    /// The name of the column as text; what isn't UTF-8 in it is replaced.
+    pub fn name_str(&self, alloc: Global) -> Result<CowStr<'_, Global>, AllocError>
+        ensures { IfOk result (λ t. IsUtf8 (parts_of self.now).name → cow_str_bytes t ≡ (parts_of self.now).name) }
+    {
+        lossy(alloc, &self.name)
+    }
+
+    /// The column with its flags.
+    pub fn with_flags(mut self, flags: ColumnFlags) -> Column
+        ensures { parts_of result ≡ record (parts_of self) { flags = flags } }
+    {
+        self.flags = flags;
+        self
+    }
+
+    /// The flags.
+    pub fn flags(&self) -> ColumnFlags
+        ensures { result ≡ (parts_of self.now).flags }
+    {
+        self.flags
+    }
+
+    /// The column with its character set, by the number of a collation.
+    pub fn with_character_set(mut self, character_set: u16) -> Column
+        ensures { parts_of result ≡ record (parts_of self) { character_set = character_set } }
+    {
+        self.character_set = character_set;
+        self
+    }
+
+    /// The number of the collation.
+    pub fn character_set(&self) -> u16
+        ensures { result ≡ (parts_of self.now).character_set }
+    {
+        self.character_set
+    }
+}
+
+/// The bytes as text, which is borrowed where they are UTF-8.
+fn lossy<'a>(alloc: Global, bytes: &'a [u8]) -> Result<CowStr<'a, Global>, AllocError>
+    ensures { IfOk result (λ t. IsUtf8 bytes.now → cow_str_bytes t ≡ bytes.now) }
+{
+    match str::from_utf8(bytes) {
+        Ok(text) => Ok(CowStr::Borrowed(text)),
+        Err(_) => Ok(CowStr::Owned(String::from_utf8_lossy(alloc, bytes)?)),
+    }
+}

@@ -1,0 +1,202 @@
+//! Packed times: arithmetic, and what is packed in the cells of times.
+
+ghost use Rattle.std.specs.Prelude.{◌≡◌, ◌+◌, ◌-◌, ◌≤◌, ◌<◌, ◌^◌, ◌*◌, pos, length, IfOk, IfErr, OnOk};
+ghost use Rattle.std.specs.Io.KnownBytes.{Consumes};
+ghost use Rattle.byteorder.specs.Endian.{big_number};
+ghost use Rattle.rows_values.specs.PackedTimes.{packed, packed_int, int_part, frac_part, fraction_len, fraction, time2, datetime2, timestamp2};
+ghost use Rattle.rows_values.specs.ReadTimes.{ReadsValue, IsCut};
+
+use crate::fault::RowsError;
+use byteorder::{BigEndian, ByteOrder};
+use std::io::{ErrorKind, Read};
+
+/// What the three bytes of a `TIME2` without fraction hold above its hours, minutes and seconds.
+pub const TIMEF_INT_OFS: i64 = 0x80_0000;
+
+/// The same of the six bytes of a `TIME2` with microseconds.
+pub const TIMEF_OFS: i64 = 0x8000_0000_0000;
+
+/// What the first five bytes of a `DATETIME2` hold above its date and time.
+pub const DATETIMEF_INT_OFS: i64 = 0x80_0000_0000;
+
+/// How many fractions a packed time has: 2^24.
+const FRACTIONS: i64 = 0x100_0000;
+
+/// How many reads are made at most for one value.
+const MAX_TURNS: u64 = 0x7fff_ffff_ffff_ffff;
+
+/// A packed time of its whole part, without a fraction; modulo 2^64.
+pub fn my_packed_time_make_int(i: i64) -> i64
+    ensures { result ≡ packed_int i }
+{
+    i.wrapping_mul(FRACTIONS)
+}
+
+/// A packed time of its whole part and its fraction in microseconds; modulo 2^64.
+pub fn my_packed_time_make(i: i64, f: i64) -> i64
+    ensures { result ≡ packed i f }
+{
+    my_packed_time_make_int(i).wrapping_add(f)
+}
+
+/// The whole part of a packed time, rounded down.
+pub fn my_packed_time_get_int_part(i: i64) -> i64
+    ensures { result ≡ int_part i }
+{
+    i >> 24
+}
+
+/// The fraction of a packed time, in microseconds and with the sign of the time.
+pub fn my_packed_time_get_frac_part(i: i64) -> i64
+    ensures { result ≡ frac_part i }
+{
+    i % FRACTIONS
+}
+
+/// Reads the cell of a `TIME2` column with so many decimals as a packed time: 3 bytes, and one for
+/// each two decimals. A number of decimals past 6 is taken as 0.
+///
+/// An end of the input within the cell is `EndOfBody`, and all bytes are then taken; a reader that
+/// fails, and one that is interrupted for 2^63 - 1 times, is `Read`.
+pub fn my_time_packed_from_binary<R: Read>(input: &mut R, dec: u32) -> Result<i64, RowsError>
+    ensures ok { IfOk result (λ v. ReadsValue (3 + fraction_len dec) (time2 (fraction_len dec)) v (R.remaining input.old) (R.remaining input.new)) }
+    ensures err { IfErr result (λ e. IsCut e (3 + fraction_len dec) (R.remaining input.old) (R.remaining input.new)) }
+{
+    let decimals = count_of_fraction(dec);
+    let mut buf = [0u8; 6];
+    let bytes = &mut buf[..3 + decimals];
+    fill(input, bytes)?;
+    Ok(time_of(bytes, decimals))
+}
+
+/// Reads the cell of a `DATETIME2` column with so many decimals as a packed time: 5 bytes, and one
+/// for each two decimals. A number of decimals past 6 is taken as 0. Refusals are as those of
+/// [`my_time_packed_from_binary`].
+pub fn my_datetime_packed_from_binary<R: Read>(input: &mut R, dec: u32) -> Result<i64, RowsError>
+    ensures ok { IfOk result (λ v. ReadsValue (5 + fraction_len dec) (datetime2 (fraction_len dec)) v (R.remaining input.old) (R.remaining input.new)) }
+    ensures err { IfErr result (λ e. IsCut e (5 + fraction_len dec) (R.remaining input.old) (R.remaining input.new)) }
+{
+    let decimals = count_of_fraction(dec);
+    let mut buf = [0u8; 8];
+    let bytes = &mut buf[..5 + decimals];
+    fill(input, bytes)?;
+    Ok(datetime_of(bytes, decimals))
+}
+
+/// Reads the cell of a `TIMESTAMP2` column with so many decimals: the seconds since 1970 and the
+/// microseconds, in 4 bytes and one for each two decimals. A number of decimals past 6 is taken as
+/// 0. Refusals are as those of [`my_time_packed_from_binary`].
+pub fn my_timestamp_from_binary<R: Read>(input: &mut R, dec: u8) -> Result<(i32, i32), RowsError>
+    ensures ok { IfOk result (λ v. ReadsValue (4 + fraction_len dec) (timestamp2 (fraction_len dec)) v (R.remaining input.old) (R.remaining input.new)) }
+    ensures err { IfErr result (λ e. IsCut e (4 + fraction_len dec) (R.remaining input.old) (R.remaining input.new)) }
+{
+    let decimals = count_of_fraction(u32::from(dec));
+    let mut buf = [0u8; 7];
+    let bytes = &mut buf[..4 + decimals];
+    fill(input, bytes)?;
+    Ok(timestamp_of(bytes, decimals))
+}
+
+/// How many bytes a fraction of so many decimals has.
+fn count_of_fraction(dec: u32) -> usize
+    ensures value { result ≡ fraction_len dec }
+    ensures bound { result ≤ 3 }
+{
+    match dec {
+        1 | 2 => 1,
+        3 | 4 => 2,
+        5 | 6 => 3,
+        _ => 0,
+    }
+}
+
+/// The packed time of a `TIME2` cell with so many bytes of fraction.
+fn time_of(bytes: &[u8], decimals: usize) -> i64
+    requires low { decimals ≤ 3 }
+    requires room { 3 + decimals ≤ length bytes.now }
+    ensures { result ≡ time2 decimals bytes.now }
+{
+    match decimals {
+        1 => {
+            let time = big_endian(bytes, 4) - TIMEF_INT_OFS * 0x100;
+            my_packed_time_make(time / 0x100, time % 0x100 * 10_000)
+        }
+        2 => {
+            let time = big_endian(bytes, 5) - TIMEF_INT_OFS * 0x1_0000;
+            my_packed_time_make(time / 0x1_0000, time % 0x1_0000 * 100)
+        }
+        3 => big_endian(bytes, 6) - TIMEF_OFS,
+        _ => my_packed_time_make_int(big_endian(bytes, 3) - TIMEF_INT_OFS),
+    }
+}
+
+/// The packed time of a `DATETIME2` cell with so many bytes of fraction.
+fn datetime_of(bytes: &[u8], decimals: usize) -> i64
+    requires low { decimals ≤ 3 }
+    requires room { 5 + decimals ≤ length bytes.now }
+    ensures { result ≡ datetime2 decimals bytes.now }
+{
+    let whole = big_endian(bytes, 5) - DATETIMEF_INT_OFS;
+    my_packed_time_make(whole, i64::from(fraction_of(&bytes[5..], decimals)))
+}
+
+/// Seconds and microseconds of a `TIMESTAMP2` cell with so many bytes of fraction.
+fn timestamp_of(bytes: &[u8], decimals: usize) -> (i32, i32)
+    requires low { decimals ≤ 3 }
+    requires room { 4 + decimals ≤ length bytes.now }
+    ensures { result ≡ timestamp2 decimals bytes.now }
+{
+    (
+        BigEndian::read_i32(bytes),
+        fraction_of(&bytes[4..], decimals),
+    )
+}
+
+/// A fraction of so many bytes, in microseconds.
+fn fraction_of(bytes: &[u8], decimals: usize) -> i32
+    requires low { decimals ≤ 3 }
+    requires room { decimals ≤ length bytes.now }
+    ensures { result ≡ fraction decimals bytes.now }
+{
+    match decimals {
+        1 => i32::from(bytes[0].cast_signed()) * 10_000,
+        2 => i32::from(BigEndian::read_i16(bytes)) * 100,
+        3 => BigEndian::read_i24(bytes),
+        _ => 0,
+    }
+}
+
+/// The number in the first n bytes, the highest first.
+fn big_endian(bytes: &[u8], n: usize) -> i64
+    requires low { 3 ≤ n }
+    requires high { n ≤ 6 }
+    requires room { n ≤ length bytes.now }
+    ensures value { result ≡ pos (big_number n bytes.now) }
+    ensures bound { big_number n bytes.now < 256 ^ n }
+{
+    BigEndian::read_uint(bytes, n) as i64
+}
+
+/// Fills the buffer with the next bytes.
+fn fill<R: Read>(reader: &mut R, buf: &mut [u8]) -> Result<(), RowsError>
+    ensures ok { OnOk result (Consumes (R.remaining reader.old) (R.remaining reader.new) buf.new) }
+    ensures err { IfErr result
+        (λ e. IsCut e (length buf.old) (R.remaining reader.old) (R.remaining reader.new)) }
+{
+    let mut filled = 0;
+    'turns: for _turn in 0..MAX_TURNS {
+        if filled == buf.len() {
+            return Ok(());
+        }
+        match reader.read(&mut buf[filled..]) {
+            Ok(0) => return Err(RowsError::EndOfBody),
+            Ok(n) => filled += n,
+            Err(error) => {
+                if error.kind() != ErrorKind::Interrupted {
+                    return Err(RowsError::Read);
+                }
+            }
+        }
+    }
+    Err(RowsError::Read)
+}
