@@ -1,6 +1,5 @@
 pub mod FieldLemmas
 pub mod BodyLemmas
-pub mod TextLemmas
 pub mod NumberLemmas
 pub mod FrameLemmas
 pub mod RowLemmas

@@ -1,21 +1,10 @@
--- The text of the feed: cells, lines, quoting.
-use Rattle.std.specs.Prelude.{ℕ, ◌/◌, ◌%◌, Bool, false, ◌&&◌, not, List, [], ◌∷◌, ◌++◌, Option, Some, None, nat_le, ◌==◌, if◌then◌else◌, codes}
+-- The text of the feed: cells and lines.
+use Rattle.std.specs.Prelude.{ℕ, List, [], ◌∷◌, ◌++◌, Option, Some, None, codes}
 use Rattle.std.specs.List.{flat_map}
-use Rattle.std.specs.Fmt.{decimal, signed_decimal, digit_glyph}
+use Rattle.std.specs.Fmt.{decimal, signed_decimal}
 use Rattle.std.specs.Int.{w32, cast_signed}
+use Rattle.feed_text.specs.Quoting.{quoted}
 use Rattle.binlog_feed.specs.Images.{Cell}
-
--- 0x20 to 0x7e, save quote and backslash
-abbrev pub is_plain_byte : ℕ → Bool
-is_plain_byte b = nat_le 32 b && nat_le b 126 && not (b == 39) && not (b == 92)
-
--- a byte within quotes: itself, or a backslash and two hexadecimal digits
-abbrev pub quoted_byte : ℕ → List ℕ
-quoted_byte b = if is_plain_byte b then b ∷ [] else 92 ∷ digit_glyph false (b / 16) ∷ digit_glyph false (b % 16) ∷ []
-
--- bytes between quotes
-unfoldable pub quoted : List ℕ → List ℕ
-quoted bytes = 39 ∷ flat_map quoted_byte bytes ++ 39 ∷ []
 
 -- a signed number in decimal, or NULL
 abbrev pub value_text : Option ℕ → List ℕ

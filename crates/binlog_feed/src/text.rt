@@ -1,69 +1,19 @@
 //! The text of the feed. Each call appends its text, or refuses for want of memory.
 
-ghost use Rattle.std.specs.Prelude.{◌≡◌, ◌<◌, ◌++◌, ◌^◌, OnOk, map, Option, false, length, take_while};
-ghost use Rattle.std.specs.Fmt.{decimal, signed_decimal, digit_glyph};
-ghost use Rattle.std.specs.Int.{w32, cast_signed};
-ghost use Rattle.binlog_feed.specs.Text.{is_plain_byte, quoted_byte, quoted, cell_text, value_text, begin_line, commit_line};
+ghost use Rattle.std.specs.Prelude.{◌≡◌, ◌++◌, OnOk};
+ghost use Rattle.std.specs.Fmt.{decimal, signed_decimal};
+ghost use Rattle.feed_text.specs.Quoting.{quoted};
+ghost use Rattle.binlog_feed.specs.Text.{cell_text, value_text, begin_line, commit_line};
 
+use feed_text::quote;
 use std::alloc::AllocError;
 use std::io::Write;
 
-/// Whether a byte stands for itself between quotes: 0x20 to 0x7e, save quote and backslash.
-fn is_plain(byte: u8) -> bool
-    ensures { result ≡ is_plain_byte byte }
-{
-    (0x20..=0x7e).contains(&byte) && byte != b'\'' && byte != b'\\'
-}
-
-/// A lower case hexadecimal digit.
-fn hex_digit(digit: u8) -> u8
-    requires { digit < 16 }
-    ensures { result ≡ digit_glyph false digit }
-{
-    if digit < 10 {
-        b'0' + digit
-    } else {
-        b'a' + (digit - 10)
-    }
-}
-
-/// Appends one byte as it stands between quotes.
-fn put_byte(byte: u8, out: &mut Vec<u8>) -> Result<(), AllocError>
-    ensures { OnOk result (out.new.items ≡ out.old.items ++ quoted_byte byte) }
-{
-    if is_plain(byte) {
-        out.push(byte)?;
-        return Ok(());
-    }
-    out.extend_from_slice(&[b'\\', hex_digit(byte / 16), hex_digit(byte % 16)])
-}
-
-/// How many bytes at the front stand for themselves.
-fn plain_len(bytes: &[u8]) -> usize
-    ensures { result ≡ length (take_while is_plain_byte bytes.now) }
-{
-    bytes.iter().take_while(|byte| is_plain(**byte)).count()
-}
-
-/// Appends bytes between single quotes: 0x20 to 0x7e save quote and backslash as they are, each other
-/// byte as a backslash and two lower case hexadecimal digits.
-pub fn quote(bytes: &[u8], out: &mut Vec<u8>) -> Result<(), AllocError>
+/// Appends bytes between single quotes.
+pub fn put_quoted(bytes: &[u8], out: &mut Vec<u8>) -> Result<(), AllocError>
     ensures { OnOk result (out.new.items ≡ out.old.items ++ quoted bytes.now) }
 {
-    out.push(b'\'')?;
-    let mut rest = bytes;
-    while let Some((first, _)) = rest.split_first() {
-        let (plain, after) = rest.split_at(plain_len(rest));
-        if plain.is_empty() {
-            put_byte(*first, out)?;
-            rest = &rest[1..];
-        } else {
-            out.extend_from_slice(plain)?;
-            rest = after;
-        }
-    }
-    out.push(b'\'')?;
-    Ok(())
+    quote(bytes, out).map_err(|_| AllocError)
 }
 
 /// Appends a number in decimal.

@@ -11,7 +11,7 @@ ghost use Rattle.binlog_feed.specs.Lines.{PutsCells, PutsRow, PutsRows};
 use super::tables::Table;
 use crate::rows::image::{cell, columns_in_image, is_readable};
 use crate::rows::rows_event::RowsEvent;
-use crate::text::{put_cell, quote};
+use crate::text::{put_cell, put_quoted};
 use crate::wire::fields::split_front;
 use std::alloc::{AllocError, Global};
 
@@ -88,9 +88,9 @@ fn insert_line_start(alloc: Global, table: &Table) -> Result<Vec<u8>, AllocError
 {
     let mut start = Vec::new(alloc);
     start.extend_from_slice(b"insert ")?;
-    quote(&table.database_name, &mut start)?;
+    put_quoted(&table.database_name, &mut start)?;
     start.push(b' ')?;
-    quote(&table.table_name, &mut start)?;
+    put_quoted(&table.table_name, &mut start)?;
     Ok(start)
 }
 

@@ -8,7 +8,8 @@ use Rattle.binlog_feed.specs.Queries.{query_text}
 use Rattle.binlog_feed.specs.Images.{places, cell_front, cells_front, image_front, images_in}
 use Rattle.binlog_feed.specs.Descriptions.{is_short_description}
 use Rattle.binlog_feed.specs.Kinds.{kind_of}
-use Rattle.binlog_feed.specs.Text.{quoted, cell_text, insert_start}
+use Rattle.feed_text.specs.Quoting.{quoted}
+use Rattle.binlog_feed.specs.Text.{cell_text, insert_start}
 use Rattle.binlog_feed.specs.Transactions.{is_inside, since_begin, newest_among, lines_of, fault_of, good_after, fault_after}
 use Rattle.mysql_wire.specs.Framing.{slice_of, chunks, framings, number_after}
 use Rattle.mysql_wire.specs.Packets.{payload_in, packets_in, full_run}
