@@ -1,9 +1,9 @@
 -- Digits, their groups, and the bytes of these.
-use Rattle.std.proofs.Common.{◌≡◌, ◌≤◌, ◌<◌, ◌+◌, ◌*◌, ◌-◌, ◌/◌, ◌%◌, ◌^◌, ◌++◌, ℕ, zero, suc, List, [], ◌∷◌, length, take, drop, map, get_or, eqb, ltb, true, false, inl, inr, append_assoc, arith, refl, sym, ap, subst, ◌∙◌}
+use Rattle.std.proofs.Common.{◌≡◌, ◌≤◌, ◌<◌, ◌+◌, ◌*◌, ◌-◌, ◌^◌, ◌++◌, ℕ, zero, suc, List, [], ◌∷◌, length, take, drop, map, get_or, eqb, ltb, true, false, inl, inr, append_assoc, arith, refl, sym, ap, ◌∙◌}
 use Rattle.std.proofs.Math.Nat.{pow-le-pow_right}
 use Rattle.std.proofs.Math.Seq.{take-length}
 use borrow.Author.Tests.{ltb-true}
-use Rattle.std.proofs.lemmas.List.{length-append, length-take-le, length-map, append-nil, length-drop, drop-append-le, take-append-le}
+use Rattle.std.proofs.lemmas.List.{length-take-le, length-map, append-nil, length-drop, drop-append-le, take-append-le}
 use Rattle.std.proofs.lemmas.Int.Digits.{number_lt}
 use Rattle.std.proofs.lemmas.List.Sums.{prefix_len_is}
 use Rattle.std.proofs.lemmas.Bool.Decides.{eqb_tells}

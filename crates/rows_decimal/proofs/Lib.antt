@@ -3,3 +3,4 @@ pub mod TakingLemmas
 pub mod UnpackLemmas
 pub mod ReadingLemmas
 pub mod OrderLemmas
+pub mod NumericLemmas

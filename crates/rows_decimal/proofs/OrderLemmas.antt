@@ -1,5 +1,5 @@
 -- The packed form byte by byte, and how two are compared.
-use Rattle.std.proofs.Common.{◌≡◌, ◌≢◌, ◌≤◌, ◌<◌, ◌+◌, ◌*◌, ◌-◌, ◌/◌, ◌%◌, ◌++◌, Bool, true, false, cond, eqb, ltb, ℕ, zero, suc, List, [], ◌∷◌, length, take, drop, map, get_or, min, inl, inr, arith, refl, sym, ap, subst, ◌∙◌, Ordering, Vec, Global, vec_len}
+use Rattle.std.proofs.Common.{◌≡◌, ◌≤◌, ◌<◌, ◌+◌, ◌*◌, ◌-◌, ◌/◌, ◌%◌, ◌++◌, Bool, true, false, eqb, ℕ, zero, suc, List, [], ◌∷◌, length, take, drop, map, get_or, inl, inr, arith, refl, sym, ap, ◌∙◌, Ordering, Vec, Global, vec_len}
 use Rattle.std.specs.Prelude.{slice_range, if◌then◌else◌}
 use Rattle.std.specs.Int.{bytes_high_first}
 use Rattle.std.specs.Int.Digits.{number_from_digits}
@@ -10,7 +10,7 @@ use Rattle.std.proofs.lemmas.Bool.Decides.{leb_tells, eqb_tells}
 use Rattle.std.proofs.lemmas.Bool.{true≢false}
 use Rattle.std.proofs.lemmas.List.{length-append, length-drop, length-take-le, length-map}
 use Rattle.std.proofs.Math.ListN.{get_or-append}
-use Rattle.rows_decimal.specs.Digits.{AreDigits, group_size, side_size, group_bytes, nines_bytes, before_bytes, after_bytes, top_turned, signed}
+use Rattle.rows_decimal.specs.Digits.{group_size, side_size, group_bytes, nines_bytes, before_bytes, after_bytes, top_turned, signed}
 use Rattle.rows_decimal.specs.Decimals.{Value, packed, packed_size}
 use Rattle.rows_decimal.proofs.GroupLemmas.{last_bytes}
 use Rattle.rows_decimal.proofs.TakingLemmas.{length-group, length-nines, nine_at}
@@ -53,7 +53,7 @@ nine_byte_is n at ds below room =
 
 -- ---- comparison
 
-self_equal : (x : ℕ) → nat_cmp x x ≡ Equal
+pub self_equal : (x : ℕ) → nat_cmp x x ≡ Equal
 self_equal x = elim (leb_tells (suc x) x) [
   | inl t ↦ absurd (omega (arith, t.1))
   | inr t ↦ rw t.0 (elim (eqb_tells x x) [ inl e ↦ rw e.0 refl | inr e ↦ absurd (e.1 refl) ])

@@ -1,11 +1,11 @@
 -- Digits from packed bytes, and bytes that pack none.
-use Rattle.std.proofs.Common.{◌≡◌, ◌≤◌, ◌<◌, ◌+◌, ◌*◌, ◌-◌, ◌/◌, ◌%◌, ◌^◌, ◌++◌, ℕ, zero, suc, List, [], ◌∷◌, length, take, drop, get_or, ◌⊎◌, inl, inr, Result, Ok, Err, IsErr, IsErrAnd, IfErr, append_assoc, arith, refl, sym, ap, subst, ◌∙◌}
+use Rattle.std.proofs.Common.{◌≡◌, ◌≤◌, ◌<◌, ◌+◌, ◌*◌, ◌-◌, ◌/◌, ◌%◌, ◌^◌, ◌++◌, ℕ, zero, suc, List, [], ◌∷◌, length, take, drop, ◌⊎◌, inl, inr, Result, Ok, Err, IsErr, IsErrAnd, IfErr, append_assoc, arith, refl, sym, ap, subst, ◌∙◌}
 use Rattle.std.specs.Prelude.{slice_range}
 use Rattle.std.proofs.lemmas.Bool.Decides.{leb_tells}
 use Rattle.std.proofs.Math.Nat.{pow-suc}
 use Rattle.std.proofs.Math.Arith.{digits_div, digits_mod}
-use Rattle.std.proofs.Math.Seq.{take-append_seam, drop-append_seam, take-length}
-use Rattle.std.proofs.lemmas.List.{length-append, length-take-le, length-drop, append-nil, drop-append-le, take-append-le, take-append-drop}
+use Rattle.std.proofs.Math.Seq.{drop-append_seam, take-length}
+use Rattle.std.proofs.lemmas.List.{length-append, length-take-le, length-drop, append-nil, drop-append-le, take-append-le}
 use Rattle.std.proofs.lemmas.Int.Digits.{number_push}
 use Rattle.std.specs.Int.{bytes_high_first, byte_at}
 use Rattle.std.specs.Int.Digits.{number_from_digits}
@@ -14,9 +14,9 @@ use Rattle.byteorder.specs.Numbers.{big_from-cons, big_from-lt, big_number-reads
 use Rattle.wire_buf.specs.Spelling.{AreBytes}
 use Rattle.rows_values.specs.declared.fault.RowsError.{RowsError}
 use Rattle.rows_values.specs.declared.fault.RowsError.TheVariants.{Decimal as BadDecimal, Memory}
-use Rattle.rows_decimal.specs.Digits.{AreDigits, group_size, side_size, group_bytes, nines_bytes, before_bytes, after_bytes}
+use Rattle.rows_decimal.specs.Digits.{AreDigits, group_size, group_bytes, nines_bytes}
 use Rattle.rows_decimal.specs.Decimals.{Gains, NoDigits, digits_in}
-use Rattle.rows_decimal.proofs.GroupLemmas.{take_digits, drop_digits, append_digits, number_bound, fits_group, nines_more, nines_append, drop_past}
+use Rattle.rows_decimal.proofs.GroupLemmas.{take_digits, drop_digits, append_digits, number_bound, fits_group, nines_more, nines_append}
 
 -- ---- the last digits of a number
 
@@ -98,7 +98,7 @@ are_bytes zero n j = omega arith
 are_bytes (suc k) n zero = low_byte k n
 are_bytes (suc k) n (suc j) = are_bytes k n j
 
-number_of_bytes : (k n : ℕ) → n < 256 ^ k → big_from 0 k (bytes_high_first k n) ≡ n
+pub number_of_bytes : (k n : ℕ) → n < 256 ^ k → big_from 0 k (bytes_high_first k n) ≡ n
 number_of_bytes k n small = ap (λ l. big_from 0 k l) (sym (append-nil (bytes_high_first k n))) ∙ big_number-reads_back k n [] small
 
 -- the bytes of the number of bytes
@@ -140,7 +140,7 @@ group_none count v bytes few long is over ds size are same =
 pub length-group : (ds : List ℕ) → length (group_bytes ds) ≡ group_size (length ds)
 length-group ds = length-bytes_high_first (group_size (length ds)) (number_from_digits 10 ds)
 
-nine_long : (ds : List ℕ) (i : ℕ) → 9 * i + 9 ≤ length ds → length (take 9 (drop (9 * i) ds)) ≡ 9
+pub nine_long : (ds : List ℕ) (i : ℕ) → 9 * i + 9 ≤ length ds → length (take 9 (drop (9 * i) ds)) ≡ 9
 nine_long ds i room = length-take-le 9 (drop (9 * i) ds) (omega (arith, room, length-drop (9 * i) ds))
 
 pub length-nines : (n : ℕ) (ds : List ℕ) → 9 * n ≤ length ds → length (nines_bytes n ds) ≡ 4 * n
@@ -175,7 +175,7 @@ take_none : (m : ℕ) → take m (let none : List ℕ = [] in none) ≡ []
 take_none zero = refl
 take_none (suc m) = refl
 
-take_parts : (n m : ℕ) (xs : List ℕ) → take n xs ++ take m (drop n xs) ≡ take (n + m) xs
+pub take_parts : (n m : ℕ) (xs : List ℕ) → take n xs ++ take m (drop n xs) ≡ take (n + m) xs
 take_parts zero m xs = let e : 0 + m ≡ m = omega arith in ap (λ k. take k xs) (sym e)
 take_parts (suc n) m [] = take_none m ∙ sym (take_none (suc n + m))
 take_parts (suc n) m (x ∷ xs) = let e : suc n + m ≡ suc (n + m) = omega arith in ap (λ l. x ∷ l) (take_parts n m xs) ∙ ap (λ k. take k (x ∷ xs)) (sym e)

@@ -1,10 +1,10 @@
 -- Both sides of the point, the sign, and the groups that are dropped.
 use Rattle.std.proofs.Common.{◌≡◌, ◌≤◌, ◌<◌, ◌+◌, ◌*◌, ◌-◌, ◌/◌, ◌%◌, ◌^◌, ◌++◌, Bool, true, false, ltb, eqb, ℕ, zero, suc, List, [], ◌∷◌, length, take, drop, map, get_or, inl, inr, append_assoc, arith, refl, sym, ap, subst, ◌∙◌}
 use Rattle.std.proofs.Math.Nat.{pow-suc, div-lt_iff_lt-mul}
-use Rattle.std.proofs.Math.Seq.{take-append_seam, drop-append_seam, take-length}
+use Rattle.std.proofs.Math.Seq.{take-append_seam, drop-append_seam}
 use Rattle.std.proofs.lemmas.Bool.Decides.{leb_tells}
 use Rattle.std.proofs.lemmas.List.{length-append, length-take, length-take-le, length-drop, take-append-drop}
-use Rattle.std.specs.Int.{bytes_high_first, byte_at}
+use Rattle.std.specs.Int.{bytes_high_first}
 use Rattle.std.specs.Int.Digits.{number_from_digits}
 use Rattle.byteorder.specs.Endian.{big_from}
 use Rattle.wire_buf.specs.Spelling.{AreBytes}
@@ -18,7 +18,7 @@ use Rattle.rows_decimal.proofs.TakingLemmas.{length-group, length-nines, are_byt
 
 -- ---- before the point
 
-before_of : (count : ℕ) (ds : List ℕ) → length ds ≡ count → before_bytes ds ≡ group_bytes (take (count % 9) ds) ++ nines_bytes (count / 9) (drop (count % 9) ds)
+pub before_of : (count : ℕ) (ds : List ℕ) → length ds ≡ count → before_bytes ds ≡ group_bytes (take (count % 9) ds) ++ nines_bytes (count / 9) (drop (count % 9) ds)
 unfolding before_bytes
 before_of count ds size = ap (λ k. group_bytes (take (k % 9) ds) ++ nines_bytes (k / 9) (drop (k % 9) ds)) size
 
@@ -63,7 +63,7 @@ before_lacks_rest count s bytes is none ds size are same =
 
 -- ---- after the point
 
-after_of : (count : ℕ) (ds : List ℕ) → length ds ≡ count → after_bytes ds ≡ nines_bytes (count / 9) (take (9 * (count / 9)) ds) ++ group_bytes (drop (9 * (count / 9)) ds)
+pub after_of : (count : ℕ) (ds : List ℕ) → length ds ≡ count → after_bytes ds ≡ nines_bytes (count / 9) (take (9 * (count / 9)) ds) ++ group_bytes (drop (9 * (count / 9)) ds)
 unfolding after_bytes
 after_of count ds size =
     let w = 9 * (count / 9) in
@@ -137,7 +137,7 @@ low_number (suc (suc j)) n h =
 group_low : (ds : List ℕ) → length ds ≤ 9 → AreDigits ds → get_or (group_bytes ds) 0 0 < 128
 group_low ds few are = low_number (group_size (length ds)) (number_from_digits 10 ds) (fits_group (length ds) (number_from_digits 10 ds) few (number_bound ds are)).1
 
-group_are_bytes : (ds : List ℕ) → AreBytes (group_bytes ds)
+pub group_are_bytes : (ds : List ℕ) → AreBytes (group_bytes ds)
 group_are_bytes ds = are_bytes (group_size (length ds)) (number_from_digits 10 ds)
 
 nine_few : (n : ℕ) (ds : List ℕ) → length (take 9 (drop (9 * n) ds)) ≤ 9
@@ -195,7 +195,7 @@ all_bytes [] k = omega arith
 all_bytes (x ∷ xs) zero = omega arith
 all_bytes (x ∷ xs) (suc k) = all_bytes xs k
 
-top_bytes : (xs : List ℕ) → AreBytes xs → AreBytes (top_turned xs)
+pub top_bytes : (xs : List ℕ) → AreBytes xs → AreBytes (top_turned xs)
 top_bytes [] h k = h k
 top_bytes (x ∷ xs) h zero = omega arith
 top_bytes (x ∷ xs) h (suc k) = h (suc k)

@@ -1,6 +1,10 @@
 -- What a decimal is: a sign, and digits before and after the point. Its packed form, and what is read from one.
-use Rattle.std.specs.Prelude.{◌≡◌, ◌≤◌, ◌<◌, ◌+◌, ◌*◌, ◌/◌, ◌%◌, ◌-◌, ◌⊎◌, ℕ, zero, suc, List, [], ◌∷◌, ◌++◌, length, take, drop, min, Bool, true, false, Option, Some, None, ⊤, if◌then◌else◌, ◌==◌}
+use Rattle.std.specs.Prelude.{◌≡◌, ◌≤◌, ◌<◌, ◌+◌, ◌*◌, ◌/◌, ◌%◌, ◌-◌, ◌⊎◌, ℕ, zero, suc, List, [], ◌∷◌, ◌++◌, length, drop, Bool, true, false, Option, ⊤, if◌then◌else◌, ◌==◌}
 use Rattle.std.specs.List.{prefix_len}
+use Rattle.std.specs.Int.Digits.{number_from_digits}
+use Rattle.std.specs.Ordering.{nat_cmp}
+use Rattle.std.specs.declared.cmp.Ordering.{Ordering}
+use Rattle.std.specs.declared.cmp.Ordering.TheVariants.{Less, Greater}
 use Rattle.std.specs.Io.KnownBytes.{Consumes, IsAtEnd}
 use Rattle.rows_decimal.specs.Digits.{AreDigits, side_size, before_bytes, after_bytes, top_turned, signed}
 use Rattle.rows_decimal.specs.declared.fields.Decimal.{Decimal}
@@ -28,6 +32,17 @@ packed v = signed v.negative (top_turned (before_bytes v.before ++ after_bytes v
 -- the packed form of what a decimal holds
 abbrev pub packed_of : Decimal → List ℕ
 packed_of d = packed (value_of d)
+
+-- the number of all digits, without the sign and the point
+abbrev pub digits_number : Value → ℕ
+digits_number v = number_from_digits 10 (v.before ++ v.after)
+
+-- the order of two numbers with signs, where a negative zero stands just below zero
+abbrev pub number_cmp : Bool → ℕ → Bool → ℕ → Ordering
+number_cmp true m true n = nat_cmp n m
+number_cmp true m false n = Less
+number_cmp false m true n = Greater
+number_cmp false m false n = nat_cmp m n
 
 -- how many bytes it takes
 abbrev pub packed_size : ℕ → ℕ → ℕ

@@ -9,6 +9,7 @@ mod decimal;
 mod digits;
 mod display;
 mod fields;
+mod laws;
 mod order;
 mod packing;
 mod parse;
@@ -19,4 +20,5 @@ mod unpacking;
 
 pub use digits::{DIG_BASE, DIG_PER_DEC, DIG_TO_BYTES, Digit, POWERS_10, decimal_bin_size};
 pub use fields::Decimal;
+pub use laws::{numbers_in_order, worked_decimals};
 pub use parse::ParseDecimalError;

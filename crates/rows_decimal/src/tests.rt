@@ -1,6 +1,6 @@
 //! Worked decimals.
 
-use crate::{Decimal, ParseDecimalError, decimal_bin_size};
+use crate::{Decimal, ParseDecimalError, decimal_bin_size, numbers_in_order, worked_decimals};
 use rows_values::RowsError;
 use std::alloc::Global;
 use std::cmp::Ordering;
@@ -159,6 +159,16 @@ fn decimals_in_order(rt: HostRuntime) -> Result<(), Fail> {
     assert!(rt; small < none);
     assert!(rt; none.cmp(&large) == Ordering::Less);
     assert!(rt; large == Decimal::from_str(alloc, "01.49")?);
+    Ok(())
+}
+
+#[test]
+fn laws_of_decimals(rt: HostRuntime) -> Result<(), Fail> {
+    let alloc = rt.alloc();
+    worked_decimals();
+    let one = Decimal::zero(alloc)?;
+    let other = Decimal::zero(alloc)?;
+    assert!(rt; numbers_in_order(&one, &other) == Ordering::Equal);
     Ok(())
 }
 

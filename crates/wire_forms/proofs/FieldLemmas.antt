@@ -1,8 +1,8 @@
 -- Fields whose bytes are always the same, or mean nothing, and fields of one of two forms.
-use Rattle.std.proofs.Common.{◌≡◌, ◌≤◌, ◌++◌, ◌⊎◌, inl, inr, ℕ, List, length, take, drop, arith, refl, sym, ◌∙◌, Result, IsErr, IsErrAnd, IfErr}
+use Rattle.std.proofs.Common.{◌≡◌, ◌≤◌, ◌⊎◌, inl, inr, ℕ, List, length, take, drop, sym, ◌∙◌, Result, IsErr, IsErrAnd, IfErr}
 use Rattle.std.specs.Bool.{⊤}
 use Rattle.std.proofs.lemmas.List.{take-append-drop, length-take-le}
-use Rattle.wire_buf.specs.Spelling.{ByteForm, Begins, Reads, Lacks, Alone, Equal, IsBytes}
+use Rattle.wire_buf.specs.Spelling.{Begins, Reads, Lacks, Alone, Equal, IsBytes}
 use Rattle.wire_buf.proofs.SpellingLemmas.{split_front, IfErr-of_part}
 use Rattle.wire_forms.specs.Eithers.{IsEither, SameEither}
 use Rattle.wire_forms.specs.declared.either.Either.{Either}

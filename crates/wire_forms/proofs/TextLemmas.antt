@@ -1,5 +1,5 @@
 -- Byte strings that end in a zero, and strings behind a VarLen.
-use Rattle.std.proofs.Common.{◌≡◌, ◌≢◌, ◌≤◌, ◌<◌, ◌+◌, ◌++◌, ℕ, List, [], ◌∷◌, length, take, drop, slice_index, get_or, zero, suc, drop-cons, arith, refl, sym, ap, subst, ◌∙◌, inl, inr, Some, Result, IsErr, IsErrAnd, IfErr}
+use Rattle.std.proofs.Common.{◌≡◌, ◌≢◌, ◌≤◌, ◌<◌, ◌++◌, ℕ, List, [], ◌∷◌, length, take, drop, slice_index, get_or, zero, suc, drop-cons, arith, refl, sym, ap, ◌∙◌, inl, inr, Some, Result, IsErr, IsErrAnd, IfErr}
 use Rattle.std.specs.Bool.{⊤}
 use Rattle.std.proofs.lemmas.List.{take-append-drop, length-take-le, append_assoc}
 use Rattle.std.proofs.lemmas.Result.{err_from_is_err_and}
@@ -9,7 +9,7 @@ use Rattle.std.proofs.lemmas.List.Sums.{take_while-cons}
 use Rattle.std.proofs.lemmas.Bool.{cases_order}
 use Rattle.std.proofs.lemmas.Bool.Decides.{Decides-eqb, eqb_tells}
 use Rattle.memchr.specs.Find.{NoneBefore, Passes, is_byte}
-use Rattle.wire_buf.specs.Spelling.{Begins, Reads, Lacks, Stands, Alone, Equal, IsShortest}
+use Rattle.wire_buf.specs.Spelling.{Reads, Lacks, Alone, Equal}
 use Rattle.wire_buf.specs.Numbers.{IsCounted}
 use Rattle.wire_buf.specs.Writing.{Writes}
 use Rattle.wire_buf.specs.declared.fault.WireFault.{WireFault}
@@ -18,7 +18,7 @@ use Rattle.wire_buf.proofs.SpellingLemmas.{split_front}
 use Rattle.wire_buf.proofs.StringLemmas.{Lacks-count, Lacks-counted}
 use Rattle.wire_ints.specs.Sevens.{IsVarLen, varlen_spelling}
 use Rattle.wire_ints.specs.Faults.{varlen_fault}
-use Rattle.wire_ints.proofs.WritingLemmas.{counted_least, Writes-appended}
+use Rattle.wire_ints.proofs.WritingLemmas.{counted_least}
 use Rattle.wire_forms.specs.Texts.{IsNullEnded, before_zero, WritesText, varlen_string_spelling, IsVarlenStringFault}
 
 -- the bytes before the first zero

@@ -1,6 +1,5 @@
 -- Byte strings as bytes: what is left of a packet, strings that end in a zero, strings of fixed length, and what is written for them. `Numbers` of wire_buf has the strings behind a count.
 use Rattle.std.specs.Prelude.{◌≡◌, ◌≢◌, ◌++◌, ◌<◌, ◌≤◌, ◌-◌, ◌⊎◌, ℕ, List, [], ◌∷◌, length, take, take_while, replicate, slice_index, not, ◌==◌}
-use Rattle.byteorder.specs.Endian.{little_bytes}
 use Rattle.wire_buf.specs.Spelling.{AreBytes, Alone, Stands, Lacks}
 use Rattle.wire_buf.specs.declared.fault.WireFault.{WireFault}
 use Rattle.wire_buf.specs.declared.fault.WireFault.TheVariants.{Eof}

@@ -21,15 +21,14 @@ fn written<T: BytesRepr>(alloc: Global, text: &[u8]) -> Result<Vec<u8>, WireFaul
     Ok(out)
 }
 
-/// The text at the front of the bytes, and how many bytes are left.
-fn parsed<T: BytesRepr>(
+/// The value at the front of the bytes, and how many bytes are left.
+fn parsed<'a, V: MyDeserialize<'a, Ctx = ()> + Drop>(
     alloc: Global,
-    ctx: T::Ctx,
-    bytes: &[u8],
-) -> Result<(Vec<u8>, usize), WireFault> {
+    bytes: &'a [u8],
+) -> Result<(V, usize), V::Fault> {
     let mut buf = ParseBuf(bytes);
-    let raw = buf.parse::<RawBytes<'_, T>>(alloc, ctx)?;
-    Ok((raw.0.into_owned(alloc)?, buf.len()))
+    let value = buf.parse::<V>(alloc, ())?;
+    Ok((value, buf.len()))
 }
 
 #[test]
@@ -43,11 +42,11 @@ fn fixed_length_text(rt: HostRuntime) -> Result<(), Fail> {
         written::<FixedLengthText<4>>(alloc, b"abcde")?.as_slice(),
         b"abcd".as_slice()
     );
-    let (text, left) = parsed::<FixedLengthText<4>>(alloc, (), b"ab\x00\x00c")?;
-    assert_eq!(rt; text.as_slice(), b"ab\x00\x00".as_slice());
+    let (text, left) = parsed::<RawBytes<'_, FixedLengthText<4>>>(alloc, b"ab\x00\x00c")?;
+    assert_eq!(rt; text.as_bytes(), b"ab\x00\x00".as_slice());
     assert_eq!(rt; left, 1);
     assert_eq!(rt;
-        parsed::<FixedLengthText<4>>(alloc, (), b"abc").err(),
+        parsed::<RawBytes<'_, FixedLengthText<4>>>(alloc, b"abc").err(),
         Some(WireFault::Eof)
     );
     Ok(())
@@ -61,11 +60,13 @@ fn counted_texts(rt: HostRuntime) -> Result<(), Fail> {
         b"\x03abc".as_slice()
     );
     assert_eq!(rt;
-        parsed::<U8Bytes>(alloc, (), b"\x03abcd")?.0.as_slice(),
+        parsed::<RawBytes<'_, U8Bytes>>(alloc, b"\x03abcd")?
+            .0
+            .as_bytes(),
         b"abc".as_slice()
     );
     assert_eq!(rt;
-        parsed::<U8Bytes>(alloc, (), b"\x03ab").err(),
+        parsed::<RawBytes<'_, U8Bytes>>(alloc, b"\x03ab").err(),
         Some(WireFault::Eof)
     );
     assert_eq!(rt;
@@ -73,9 +74,9 @@ fn counted_texts(rt: HostRuntime) -> Result<(), Fail> {
         b"\x02\x00\x00\x00ab".as_slice()
     );
     assert_eq!(rt;
-        parsed::<U32Bytes>(alloc, (), b"\x01\x00\x00\x00ab")?
+        parsed::<RawBytes<'_, U32Bytes>>(alloc, b"\x01\x00\x00\x00ab")?
             .0
-            .as_slice(),
+            .as_bytes(),
         b"a".as_slice()
     );
     assert_eq!(rt;
@@ -83,15 +84,17 @@ fn counted_texts(rt: HostRuntime) -> Result<(), Fail> {
         b"\x02ab".as_slice()
     );
     assert_eq!(rt;
-        parsed::<LenEnc>(alloc, (), b"\xfc\x01\x00a")?.0.as_slice(),
+        parsed::<RawBytes<'_, LenEnc>>(alloc, b"\xfc\x01\x00a")?
+            .0
+            .as_bytes(),
         b"a".as_slice()
     );
     assert_eq!(rt;
-        parsed::<LenEnc>(alloc, (), b"\xfbab").err(),
+        parsed::<RawBytes<'_, LenEnc>>(alloc, b"\xfbab").err(),
         Some(WireFault::BadNumber)
     );
     assert_eq!(rt;
-        parsed::<LenEnc>(alloc, (), b"\x02a").err(),
+        parsed::<RawBytes<'_, LenEnc>>(alloc, b"\x02a").err(),
         Some(WireFault::Eof)
     );
     let mut long = Vec::new(alloc);
@@ -102,13 +105,17 @@ fn counted_texts(rt: HostRuntime) -> Result<(), Fail> {
     let spelled = written::<VarLen>(alloc, &long)?;
     assert_eq!(rt; spelled.len(), 302);
     assert_eq!(rt; &spelled[..3], b"\xac\x02x".as_slice());
-    assert_eq!(rt; parsed::<VarLen>(alloc, (), &spelled)?.0, long);
+    assert!(rt;
+        parsed::<RawBytes<'_, VarLen>>(alloc, &spelled)?
+            .0
+            .eq_bytes(&long)
+    );
     assert_eq!(rt;
-        parsed::<VarLen>(alloc, (), b"\x02a").err(),
+        parsed::<RawBytes<'_, VarLen>>(alloc, b"\x02a").err(),
         Some(WireFault::Eof)
     );
     assert_eq!(rt;
-        parsed::<VarLen>(alloc, (), b"\x80\x80\x80\x80\x10").err(),
+        parsed::<RawBytes<'_, VarLen>>(alloc, b"\x80\x80\x80\x80\x10").err(),
         Some(WireFault::BadNumber)
     );
     Ok(())
@@ -121,30 +128,31 @@ fn texts_without_a_count(rt: HostRuntime) -> Result<(), Fail> {
         written::<NullBytes>(alloc, b"ab\x00c")?.as_slice(),
         b"ab\x00".as_slice()
     );
-    let (text, left) = parsed::<NullBytes>(alloc, (), b"ab\x00c")?;
-    assert_eq!(rt; text.as_slice(), b"ab".as_slice());
+    let (text, left) = parsed::<RawBytes<'_, NullBytes>>(alloc, b"ab\x00c")?;
+    assert_eq!(rt; text.as_bytes(), b"ab".as_slice());
     assert_eq!(rt; left, 1);
     assert_eq!(rt;
-        parsed::<NullBytes>(alloc, (), b"ab").err(),
+        parsed::<RawBytes<'_, NullBytes>>(alloc, b"ab").err(),
         Some(WireFault::Eof)
     );
     assert_eq!(rt;
         written::<EofBytes>(alloc, b"ab")?.as_slice(),
         b"ab".as_slice()
     );
-    let (text, left) = parsed::<EofBytes>(alloc, (), b"abc")?;
-    assert_eq!(rt; text.as_slice(), b"abc".as_slice());
+    let (text, left) = parsed::<RawBytes<'_, EofBytes>>(alloc, b"abc")?;
+    assert_eq!(rt; text.as_bytes(), b"abc".as_slice());
     assert_eq!(rt; left, 0);
     let mut long = Vec::new(alloc);
     long.resize(300, b'x')?;
     assert_eq!(rt; written::<BareU8Bytes>(alloc, &long)?.len(), 255);
     assert_eq!(rt; written::<BareU16Bytes>(alloc, &long)?.len(), 300);
-    assert_eq!(rt;
-        parsed::<BareU16Bytes>(alloc, 2, b"abc")?.0.as_slice(),
-        b"ab".as_slice()
+    let mut buf = ParseBuf(b"abc");
+    assert!(rt;
+        buf.parse::<RawBytes<'_, BareU16Bytes>>(alloc, 2)?
+            .eq_bytes(b"ab")
     );
     assert_eq!(rt;
-        parsed::<BareU8Bytes>(alloc, 4, b"abc").err(),
+        buf.parse::<RawBytes<'_, BareU8Bytes>>(alloc, 2).err(),
         Some(WireFault::Eof)
     );
     assert_eq!(rt;

@@ -1,11 +1,10 @@
 -- Counted sequences at the front of bytes, and the bytes of values one after the other.
-use Rattle.std.proofs.Common.{◌≡◌, ◌++◌, ◌≤◌, ◌+◌, ℕ, zero, suc, List, [], ◌∷◌, length, take, append_assoc, arith, refl, sym, ap, subst, ◌∙◌, Option, Some, None, Result, IsErr, IsErrAnd, IfErr, ◌⊎◌, inl, inr, ◌<◌, get_or, drop, drop-cons}
+use Rattle.std.proofs.Common.{◌≡◌, ◌++◌, ℕ, zero, suc, List, [], ◌∷◌, length, take, append_assoc, arith, refl, sym, ap, subst, ◌∙◌, Option, Some, None, Result, IsErr, IsErrAnd, IfErr, ◌⊎◌, inl, inr, ◌<◌, get_or, drop, drop-cons}
 use Rattle.std.proofs.lemmas.List.{length-append, append-nil, take-append-drop}
 use Rattle.std.proofs.Math.Seq.{take-append_seam}
 use Rattle.wire_buf.specs.Writing.{Appends, Refuses, Writes}
 use Rattle.wire_buf.specs.declared.fault.WireFault.{WireFault}
 use Rattle.wire_buf.specs.declared.fault.WireFault.TheVariants.{Memory, Form}
-use Rattle.std.specs.Prelude.{option_map}
 use Rattle.std.proofs.lemmas.Result.{err_from_is_err_and}
 use Rattle.wire_buf.specs.Spelling.{Begins, Reads, Lacks, Alone, Equal, IsSequence, SameAll}
 use Rattle.wire_seqs.specs.Sequences.{IsCountedSequence, with_front, joined_spelling}

@@ -11,44 +11,60 @@ use wire_ints::{LeU16, LeU24, LeU32, LeU40, LeU48, LeU56, LeU64, RawInt};
 
 type Numbers<'a, U> = Seq<'a, RawInt<LeU16>, U>;
 
-/// Two numbers behind their count in the form `U`, and those bytes read.
-fn two_numbers<U: SeqRepr<Ctx = ()>>(alloc: Global) -> Result<(Vec<u8>, usize), WireFault> {
+/// Two numbers behind their count in the form `U`.
+fn two_numbers<U: SeqRepr>(alloc: Global) -> Result<Vec<u8>, WireFault> {
     let mut items = Vec::new(alloc);
     items.push(RawInt::<LeU16>::new(1))?;
     items.push(RawInt::<LeU16>::new(0x0302))?;
     let mut out = Vec::new(alloc);
-    Numbers::<'_, U>::new(CowSlice::Owned(items)).serialize(&mut out)?;
-    let mut buf = ParseBuf(&out);
-    let read = buf.parse::<Numbers<'_, U>>(alloc, ())?;
-    let count = read.len();
-    Ok((out, count))
+    Seq::<'_, RawInt<LeU16>, U>::new(CowSlice::Owned(items)).serialize(&mut out)?;
+    Ok(out)
+}
+
+/// How many numbers the bytes hold behind a count in the form `U`.
+fn count_in<'a, U: SeqRepr<Ctx = ()>>(alloc: Global, bytes: &'a [u8]) -> Result<usize, WireFault> {
+    let mut buf = ParseBuf(bytes);
+    let read = buf.parse::<Seq<'a, RawInt<LeU16>, U>>(alloc, ())?;
+    Ok(read.len())
 }
 
 #[test]
 fn counts_of_each_form(rt: HostRuntime) -> Result<(), Fail> {
     let alloc = rt.alloc();
-    let (bytes, count) = two_numbers::<u8>(alloc)?;
+    let bytes = two_numbers::<u8>(alloc)?;
+    let count = count_in::<u8>(alloc, &bytes)?;
     assert_eq!(rt; bytes.as_slice(), b"\x02\x01\x00\x02\x03".as_slice());
     assert_eq!(rt; count, 2);
-    let (bytes, count) = two_numbers::<LeU16>(alloc)?;
+    let bytes = two_numbers::<LeU16>(alloc)?;
+    let count = count_in::<LeU16>(alloc, &bytes)?;
     assert_eq!(rt; bytes.as_slice(), b"\x02\x00\x01\x00\x02\x03".as_slice());
     assert_eq!(rt; count, 2);
-    let (bytes, count) = two_numbers::<LeU24>(alloc)?;
+    let bytes = two_numbers::<LeU24>(alloc)?;
+    let count = count_in::<LeU24>(alloc, &bytes)?;
     assert_eq!(rt;
         bytes.as_slice(),
         b"\x02\x00\x00\x01\x00\x02\x03".as_slice()
     );
     assert_eq!(rt; count, 2);
-    let (bytes, count) = two_numbers::<LeU32>(alloc)?;
+    let bytes = two_numbers::<LeU32>(alloc)?;
+    let count = count_in::<LeU32>(alloc, &bytes)?;
     assert_eq!(rt;
         bytes.as_slice(),
         b"\x02\x00\x00\x00\x01\x00\x02\x03".as_slice()
     );
     assert_eq!(rt; count, 2);
-    assert_eq!(rt; two_numbers::<LeU40>(alloc)?.0.len(), 9);
-    assert_eq!(rt; two_numbers::<LeU48>(alloc)?.0.len(), 10);
-    assert_eq!(rt; two_numbers::<LeU56>(alloc)?.0.len(), 11);
-    assert_eq!(rt; two_numbers::<LeU64>(alloc)?.0.len(), 12);
+    let bytes = two_numbers::<LeU40>(alloc)?;
+    assert_eq!(rt; bytes.len(), 9);
+    assert_eq!(rt; count_in::<LeU40>(alloc, &bytes)?, 2);
+    let bytes = two_numbers::<LeU48>(alloc)?;
+    assert_eq!(rt; bytes.len(), 10);
+    assert_eq!(rt; count_in::<LeU48>(alloc, &bytes)?, 2);
+    let bytes = two_numbers::<LeU56>(alloc)?;
+    assert_eq!(rt; bytes.len(), 11);
+    assert_eq!(rt; count_in::<LeU56>(alloc, &bytes)?, 2);
+    let bytes = two_numbers::<LeU64>(alloc)?;
+    assert_eq!(rt; bytes.len(), 12);
+    assert_eq!(rt; count_in::<LeU64>(alloc, &bytes)?, 2);
     Ok(())
 }
 

@@ -1,4 +1,4 @@
-use Rattle.std.proofs.Common.{◌-◌, ◌*◌, ◌/◌, ℕ, List, length, get_or, arith, ap, ◌∙◌}
+use Rattle.std.proofs.Common.{◌-◌, ◌*◌, ◌/◌, ℕ, List, length, get_or, ap, ◌∙◌}
 use Rattle.rows_decimal.specs.Digits.{group_bytes}
 use Rattle.rows_decimal.proofs.GroupLemmas.{to_end}
 use Rattle.rows_decimal.proofs.OrderLemmas.{after_first, after_rest}

@@ -1,4 +1,4 @@
-use Rattle.std.proofs.Common.{◌+◌, ◌-◌, ℕ, List, get_or, ap, sym, ◌∙◌}
+use Rattle.std.proofs.Common.{◌+◌, ◌-◌, ℕ, List, get_or, ap, ◌∙◌}
 use Rattle.std.specs.Int.{bytes_high_first}
 use Rattle.rows_decimal.proofs.OrderLemmas.{group_byte_is}
 use Rattle.rows_decimal.proofs.order.group_byte.Goals as goal

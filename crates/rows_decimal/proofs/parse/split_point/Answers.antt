@@ -1,4 +1,4 @@
-use Rattle.std.proofs.Common.{◌+◌, ℕ, length, take, drop, arith, sym, ap, ◌∙◌}
+use Rattle.std.proofs.Common.{◌+◌, length, take, drop, arith, sym, ap, ◌∙◌}
 use Rattle.std.proofs.Math.Seq.{take-length}
 use Rattle.rows_decimal.proofs.GroupLemmas.{point_is, drop_past, to_end}
 use Rattle.rows_decimal.proofs.parse.split_point.Goals as goal

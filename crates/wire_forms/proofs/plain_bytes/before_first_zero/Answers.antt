@@ -1,4 +1,4 @@
-use Rattle.std.proofs.Common.{◌≡◌, ◌<◌, ◌≤◌, length, slice_index, arith, sym, ◌∙◌, refl}
+use Rattle.std.proofs.Common.{◌<◌, length, slice_index, arith, sym, ◌∙◌}
 use Rattle.std.proofs.lemmas.Bool.Decides.{Decides-eqb}
 use Rattle.std.proofs.Math.Seq.{take-length}
 use Rattle.wire_forms.proofs.TextLemmas.{before_zero-at}

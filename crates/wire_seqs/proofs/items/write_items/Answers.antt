@@ -1,4 +1,4 @@
-use Rattle.std.proofs.Common.{◌≡◌, add-one, rules}
+use Rattle.std.proofs.Common.{add-one, rules}
 use Rattle.wire_seqs.proofs.SequenceLemmas.{appends_more, refuses_more}
 use Rattle.wire_seqs.proofs.items.write_items.Goals as goal
 

@@ -1,4 +1,4 @@
-use Rattle.std.proofs.Common.{◌≡◌, take}
+use Rattle.std.proofs.Common.{take}
 use Rattle.wire_buf.specs.Writing.{Appends}
 use Rattle.wire_seqs.specs.Sequences.{joined_spelling}
 use Rattle.wire_seqs.proofs.items.write_items.Given as goal

@@ -1,4 +1,4 @@
-use Rattle.std.proofs.Common.{◌++◌, ◌+◌, ◌%◌, eqb, length, ap, ◌∙◌}
+use Rattle.std.proofs.Common.{◌++◌, ◌+◌, ◌%◌, eqb, ap, ◌∙◌}
 use Rattle.std.specs.Prelude.{if◌then◌else◌}
 use Rattle.rows_decimal.specs.Digits.{before_bytes, after_bytes}
 use Rattle.rows_decimal.proofs.OrderLemmas.{byte_turned, byte_kept, at_plain}

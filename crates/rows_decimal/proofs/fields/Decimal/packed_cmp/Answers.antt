@@ -1,4 +1,4 @@
-use Rattle.std.proofs.Common.{◌≡◌, ◌<◌, length, get_or, arith, ap, sym, ◌∙◌}
+use Rattle.std.proofs.Common.{◌≡◌, length, get_or, arith, ap, sym, ◌∙◌}
 use Rattle.std.specs.Ordering.{nat_cmp}
 use Rattle.rows_decimal.specs.Decimals.{packed_of, value_of}
 use Rattle.rows_decimal.proofs.OrderLemmas.{cmp_differs, cmp_ends, length-packed, differs}

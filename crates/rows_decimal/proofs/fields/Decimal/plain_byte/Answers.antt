@@ -1,5 +1,5 @@
-use Rattle.std.proofs.Common.{◌≡◌, ◌<◌, ◌≤◌, ◌-◌, ℕ, List, length, get_or, arith, ap, subst, sym, ◌∙◌}
-use Rattle.rows_decimal.specs.Digits.{before_bytes, after_bytes, side_size}
+use Rattle.std.proofs.Common.{◌<◌, ◌≤◌, ◌-◌, ℕ, List, get_or, ap, subst, ◌∙◌}
+use Rattle.rows_decimal.specs.Digits.{before_bytes, after_bytes}
 use Rattle.rows_decimal.proofs.OrderLemmas.{side_front, side_back, front_long}
 use Rattle.rows_decimal.proofs.fields.Decimal.plain_byte.Goals as goal
 

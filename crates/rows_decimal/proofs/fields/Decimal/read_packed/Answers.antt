@@ -1,4 +1,4 @@
-use Rattle.std.proofs.Common.{◌≡◌, get_or, arith, sym, ◌∙◌}
+use Rattle.std.proofs.Common.{get_or, arith, sym, ◌∙◌}
 use Rattle.rows_decimal.specs.Decimals.{FailsPacked}
 use Rattle.rows_decimal.proofs.ReadingLemmas.{exit_same, packed_cut, packed_err, two_taken, two_long, get_any}
 use Rattle.rows_decimal.proofs.fields.Decimal.read_packed.Goals as goal

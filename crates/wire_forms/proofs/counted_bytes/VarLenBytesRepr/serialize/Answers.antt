@@ -1,4 +1,3 @@
-use Rattle.std.proofs.Common.{◌≡◌}
 use Rattle.wire_forms.proofs.TextLemmas.{varlen_writes}
 use Rattle.wire_forms.proofs.counted_bytes.VarLenBytesRepr.serialize.Goals as goal
 

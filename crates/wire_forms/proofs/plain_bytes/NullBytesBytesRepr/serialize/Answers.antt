@@ -1,4 +1,3 @@
-use Rattle.std.proofs.Common.{◌≡◌}
 use Rattle.wire_forms.proofs.TextLemmas.{null_writes}
 use Rattle.wire_forms.proofs.plain_bytes.NullBytesBytesRepr.serialize.Goals as goal
 

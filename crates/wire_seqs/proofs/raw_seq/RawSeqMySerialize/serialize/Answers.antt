@@ -1,4 +1,4 @@
-use Rattle.std.proofs.Common.{◌≡◌, add-one, refl, rules}
+use Rattle.std.proofs.Common.{add-one, refl, rules}
 use Rattle.std.specs.Cow.{cow_slice_items}
 use Rattle.wire_seqs.specs.Sequences.{joined_spelling}
 use Rattle.wire_seqs.proofs.SequenceLemmas.{appends_more, refuses_more, kept_appends, refuses_through}

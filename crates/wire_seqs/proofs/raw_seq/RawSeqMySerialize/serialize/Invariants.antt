@@ -1,4 +1,4 @@
-use Rattle.std.proofs.Common.{◌≡◌, take}
+use Rattle.std.proofs.Common.{take}
 use Rattle.wire_buf.specs.Writing.{Appends}
 use Rattle.wire_seqs.specs.Sequences.{joined_spelling}
 use Rattle.wire_seqs.proofs.raw_seq.RawSeqMySerialize.serialize.Given as goal

@@ -1,4 +1,4 @@
-use Rattle.std.proofs.Common.{◌≡◌, ap}
+use Rattle.std.proofs.Common.{ap}
 use Rattle.std.specs.Cow.{cow_slice_items}
 use Rattle.wire_buf.specs.Spelling.{SameAll}
 use Rattle.wire_buf.proofs.SpellingLemmas.{Reads-through, Lacks-through, IfErr-of_part}

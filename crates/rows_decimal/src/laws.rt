@@ -1,0 +1,31 @@
+//! Laws of decimals.
+
+ghost use Rattle.std.specs.Prelude.{◌≡◌, length, [], ◌∷◌, true, false, Some, codes};
+ghost use Rattle.rows_decimal.specs.Decimals.{value_of, packed, digits_number, number_cmp};
+ghost use Rattle.rows_decimal.specs.Texts.{text_value, decimal_text};
+
+use crate::fields::Decimal;
+use std::cmp::Ordering;
+
+/// The order of decimals, which is that of their packed forms, is the order of their numbers where
+/// as many digits stand before and after the point. A negative zero stands just below zero.
+pub fn numbers_in_order(first: &Decimal, second: &Decimal) -> Ordering
+    requires before { length first.now.before.items ≡ length second.now.before.items }
+    requires after { length first.now.after.items ≡ length second.now.after.items }
+    ensures { result ≡ number_cmp first.now.negative (digits_number (value_of first.now))
+        second.now.negative (digits_number (value_of second.now)) }
+{
+    first.cmp(second)
+}
+
+/// The definitions, computed: the packed forms of 1234567890.1234, of its negative and of 0.50, and
+/// the text and what it stands for.
+pub fn worked_decimals()
+    ensures positive { packed (record { negative = false; before = 1 ∷ 2 ∷ 3 ∷ 4 ∷ 5 ∷ 6 ∷ 7 ∷ 8 ∷ 9 ∷ 0 ∷ []; after = 1 ∷ 2 ∷ 3 ∷ 4 ∷ [] })
+        ≡ 129 ∷ 13 ∷ 251 ∷ 56 ∷ 210 ∷ 4 ∷ 210 ∷ [] }
+    ensures negative { packed (record { negative = true; before = 1 ∷ 2 ∷ 3 ∷ 4 ∷ 5 ∷ 6 ∷ 7 ∷ 8 ∷ 9 ∷ 0 ∷ []; after = 1 ∷ 2 ∷ 3 ∷ 4 ∷ [] })
+        ≡ 126 ∷ 242 ∷ 4 ∷ 199 ∷ 45 ∷ 251 ∷ 45 ∷ [] }
+    ensures half { packed (record { negative = false; before = 0 ∷ []; after = 5 ∷ 0 ∷ [] }) ≡ 128 ∷ 50 ∷ [] }
+    ensures taken { text_value (codes "0.50") ≡ Some (record { negative = false; before = 0 ∷ []; after = 5 ∷ 0 ∷ [] }) }
+    ensures shown { decimal_text (record { negative = true; before = 0 ∷ 0 ∷ 7 ∷ []; after = [] }) ≡ codes "-7" }
+{}
