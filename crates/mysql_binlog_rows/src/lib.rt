@@ -19,7 +19,7 @@ pub use rows_consts::{
 };
 pub use rows_decimal::{
     DIG_BASE, DIG_PER_DEC, DIG_TO_BYTES, Decimal, Digit, POWERS_10, ParseDecimalError,
-    decimal_bin_size, numbers_in_order, worked_decimals,
+    decimal_bin_size, numbers_in_order, read_back, worked_decimals,
 };
 pub use rows_flags::{
     EventFlags, GtidFlags, RowsEventFlags, SemiSyncFlags, UnknownEventFlags, UnknownGtidFlags,

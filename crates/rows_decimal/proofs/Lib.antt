@@ -4,3 +4,4 @@ pub mod UnpackLemmas
 pub mod ReadingLemmas
 pub mod OrderLemmas
 pub mod NumericLemmas
+pub mod ReadBackLemmas

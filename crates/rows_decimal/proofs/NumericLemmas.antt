@@ -171,7 +171,7 @@ nines_cmp (suc n) ds es a b h g =
 whole_of : (xs : List ℕ) (n : ℕ) → length xs ≡ n → take n xs ≡ xs
 whole_of xs n e = ap (λ k. take k xs) (sym e) ∙ take-length xs
 
-before_cmp : (n : ℕ) (ds es : List ℕ) → length ds ≡ n → length es ≡ n → AreDigits ds → AreDigits es → slice_cmp nat_cmp (before_bytes ds) (before_bytes es) ≡ slice_cmp nat_cmp ds es
+pub before_cmp : (n : ℕ) (ds es : List ℕ) → length ds ≡ n → length es ≡ n → AreDigits ds → AreDigits es → slice_cmp nat_cmp (before_bytes ds) (before_bytes es) ≡ slice_cmp nat_cmp ds es
 before_cmp n ds es a b h g =
     let left = n % 9 in
     let w = n / 9 in
@@ -194,7 +194,7 @@ before_cmp n ds es a b h g =
     ∙ sym (cmp_append p q r s (p_long ∙ sym q_long))
     ∙ ap (λ (l : List ℕ). slice_cmp nat_cmp l (q ++ s)) (take-append-drop left ds) ∙ ap (λ (l : List ℕ). slice_cmp nat_cmp ds l) (take-append-drop left es)
 
-after_cmp : (n : ℕ) (ds es : List ℕ) → length ds ≡ n → length es ≡ n → AreDigits ds → AreDigits es → slice_cmp nat_cmp (after_bytes ds) (after_bytes es) ≡ slice_cmp nat_cmp ds es
+pub after_cmp : (n : ℕ) (ds es : List ℕ) → length ds ≡ n → length es ≡ n → AreDigits ds → AreDigits es → slice_cmp nat_cmp (after_bytes ds) (after_bytes es) ≡ slice_cmp nat_cmp ds es
 after_cmp n ds es a b h g =
     let w = n / 9 in
     let m = 9 * w in
@@ -311,8 +311,7 @@ side_some n h = elim (leb_tells 1 (n % 9)) [
   | inr t ↦ omega (arith, t.1, h)
 ]
 
-sides_some : (v : Value) → 0 < length v.before + length v.after → 0 < length (sides v)
-unfolding sides
+pub sides_some : (v : Value) → 0 < length v.before + length v.after → 0 < length (before_bytes v.before ++ after_bytes v.after)
 sides_some v some = elim (leb_tells 1 (length v.before)) [
   | inl t ↦ omega (arith, side_some (length v.before) t.1, length-before v.before, length-append (before_bytes v.before) (after_bytes v.after))
   | inr t ↦ omega (arith, side_some (length v.after) (omega (arith, t.1, some)), length-after v.after, length-append (before_bytes v.before) (after_bytes v.after))

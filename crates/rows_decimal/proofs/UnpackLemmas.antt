@@ -212,10 +212,10 @@ signed_back false xs h = refl
 pub plain_packs : (n : Bool) (bytes x : List ℕ) → AreBytes bytes → x ≡ top_turned (signed n bytes) → signed n (top_turned x) ≡ bytes
 plain_packs n bytes x h e = ap (λ l. signed n (top_turned l)) e ∙ ap (signed n) (top_back (signed n bytes) (signed_bytes n bytes h)) ∙ signed_back n bytes h
 
-below-128 : (b : ℕ) → b < 128 → ltb b 128 ≡ true
+pub below-128 : (b : ℕ) → b < 128 → ltb b 128 ≡ true
 below-128 b h = elim (leb_tells (suc b) 128) [ inl t ↦ t.0 | inr t ↦ absurd (omega (arith, t.1, h)) ]
 
-above-128 : (b : ℕ) → 128 ≤ b → ltb b 128 ≡ false
+pub above-128 : (b : ℕ) → 128 ≤ b → ltb b 128 ≡ false
 above-128 b h = elim (leb_tells (suc b) 128) [ inl t ↦ absurd (omega (arith, t.1, h)) | inr t ↦ t.0 ]
 
 -- packed bytes tell the sign, and so what was packed
@@ -262,7 +262,7 @@ unpacks keep neg before after s bytes x whole fraction short d are plain a b cut
 }
 
 -- what was packed is what is turned back
-plain_of : (neg : Bool) (bytes x : List ℕ) (before after : ℕ) (v : Value) → neg ≡ has_minus_bit bytes → x ≡ top_turned (signed neg bytes) → IsPacked before after v bytes
+pub plain_of : (neg : Bool) (bytes x : List ℕ) (before after : ℕ) (v : Value) → neg ≡ has_minus_bit bytes → x ≡ top_turned (signed neg bytes) → IsPacked before after v bytes
     → x ≡ before_bytes v.before ++ after_bytes v.after
 plain_of neg bytes x before after v sign plain p =
     let y = before_bytes v.before ++ after_bytes v.after in

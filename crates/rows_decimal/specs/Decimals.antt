@@ -44,7 +44,7 @@ number_cmp true m false n = Less
 number_cmp false m true n = Greater
 number_cmp false m false n = nat_cmp m n
 
--- how many bytes it takes
+-- how many bytes the packed form of so many digits before and after the point takes
 abbrev pub packed_size : ℕ → ℕ → ℕ
 packed_size before after = side_size before + side_size after
 

@@ -1,10 +1,12 @@
 //! Laws of decimals.
 
-ghost use Rattle.std.specs.Prelude.{◌≡◌, length, [], ◌∷◌, true, false, Some, codes};
+ghost use Rattle.std.specs.Prelude.{◌≡◌, length, [], ◌∷◌, true, false, Some, IfOk, codes};
 ghost use Rattle.rows_decimal.specs.Decimals.{value_of, packed, digits_number, number_cmp};
 ghost use Rattle.rows_decimal.specs.Texts.{text_value, decimal_text};
 
 use crate::fields::Decimal;
+use rows_values::RowsError;
+use std::alloc::Global;
 use std::cmp::Ordering;
 
 /// The order of decimals, which is that of their packed forms, is the order of their numbers where
@@ -16,6 +18,18 @@ pub fn numbers_in_order(first: &Decimal, second: &Decimal) -> Ordering
         second.now.negative (digits_number (value_of second.now)) }
 {
     first.cmp(second)
+}
+
+/// What was written of a decimal is read back, where its precision is kept.
+pub fn read_back(alloc: Global, value: &Decimal) -> Result<Decimal, RowsError>
+    ensures { IfOk result (λ d. value_of d ≡ value_of value.now) }
+{
+    let mut bytes: Vec<u8> = Vec::new(alloc);
+    value.write_bin(alloc, &mut bytes)?;
+    let scale = value.after.len();
+    let precision = value.before.len() + scale;
+    let mut input = bytes.as_slice();
+    Decimal::read_bin(alloc, &mut input, precision, scale, true)
 }
 
 /// The definitions, computed: the packed forms of 1234567890.1234, of its negative and of 0.50, and

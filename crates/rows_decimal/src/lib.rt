@@ -20,5 +20,5 @@ mod unpacking;
 
 pub use digits::{DIG_BASE, DIG_PER_DEC, DIG_TO_BYTES, Digit, POWERS_10, decimal_bin_size};
 pub use fields::Decimal;
-pub use laws::{numbers_in_order, worked_decimals};
+pub use laws::{numbers_in_order, read_back, worked_decimals};
 pub use parse::ParseDecimalError;

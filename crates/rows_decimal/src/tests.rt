@@ -1,6 +1,8 @@
 //! Worked decimals.
 
-use crate::{Decimal, ParseDecimalError, decimal_bin_size, numbers_in_order, worked_decimals};
+use crate::{
+    Decimal, ParseDecimalError, decimal_bin_size, numbers_in_order, read_back, worked_decimals,
+};
 use rows_values::RowsError;
 use std::alloc::Global;
 use std::cmp::Ordering;
@@ -169,6 +171,7 @@ fn laws_of_decimals(rt: HostRuntime) -> Result<(), Fail> {
     let one = Decimal::zero(alloc)?;
     let other = Decimal::zero(alloc)?;
     assert!(rt; numbers_in_order(&one, &other) == Ordering::Equal);
+    assert!(rt; read_back(alloc, &one)? == one);
     Ok(())
 }
 

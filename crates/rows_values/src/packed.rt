@@ -62,11 +62,11 @@ pub fn my_time_packed_from_binary<R: Read>(input: &mut R, dec: u32) -> Result<i6
     ensures ok { IfOk result (λ v. ReadsValue (3 + fraction_len dec) (time2 (fraction_len dec)) v (R.remaining input.old) (R.remaining input.new)) }
     ensures err { IfErr result (λ e. IsCut e (3 + fraction_len dec) (R.remaining input.old) (R.remaining input.new)) }
 {
-    let decimals = count_of_fraction(dec);
+    let fraction_bytes = count_of_fraction(dec);
     let mut buf = [0u8; 6];
-    let bytes = &mut buf[..3 + decimals];
+    let bytes = &mut buf[..3 + fraction_bytes];
     fill(input, bytes)?;
-    Ok(time_of(bytes, decimals))
+    Ok(time_of(bytes, fraction_bytes))
 }
 
 /// Reads the cell of a `DATETIME2` column with so many decimals as a packed time: 5 bytes, and one
@@ -76,11 +76,11 @@ pub fn my_datetime_packed_from_binary<R: Read>(input: &mut R, dec: u32) -> Resul
     ensures ok { IfOk result (λ v. ReadsValue (5 + fraction_len dec) (datetime2 (fraction_len dec)) v (R.remaining input.old) (R.remaining input.new)) }
     ensures err { IfErr result (λ e. IsCut e (5 + fraction_len dec) (R.remaining input.old) (R.remaining input.new)) }
 {
-    let decimals = count_of_fraction(dec);
+    let fraction_bytes = count_of_fraction(dec);
     let mut buf = [0u8; 8];
-    let bytes = &mut buf[..5 + decimals];
+    let bytes = &mut buf[..5 + fraction_bytes];
     fill(input, bytes)?;
-    Ok(datetime_of(bytes, decimals))
+    Ok(datetime_of(bytes, fraction_bytes))
 }
 
 /// Reads the cell of a `TIMESTAMP2` column with so many decimals: the seconds since 1970 and the
@@ -90,11 +90,11 @@ pub fn my_timestamp_from_binary<R: Read>(input: &mut R, dec: u8) -> Result<(i32,
     ensures ok { IfOk result (λ v. ReadsValue (4 + fraction_len dec) (timestamp2 (fraction_len dec)) v (R.remaining input.old) (R.remaining input.new)) }
     ensures err { IfErr result (λ e. IsCut e (4 + fraction_len dec) (R.remaining input.old) (R.remaining input.new)) }
 {
-    let decimals = count_of_fraction(u32::from(dec));
+    let fraction_bytes = count_of_fraction(u32::from(dec));
     let mut buf = [0u8; 7];
-    let bytes = &mut buf[..4 + decimals];
+    let bytes = &mut buf[..4 + fraction_bytes];
     fill(input, bytes)?;
-    Ok(timestamp_of(bytes, decimals))
+    Ok(timestamp_of(bytes, fraction_bytes))
 }
 
 /// How many bytes a fraction of so many decimals has.
@@ -111,12 +111,13 @@ fn count_of_fraction(dec: u32) -> usize
 }
 
 /// The packed time of a `TIME2` cell with so many bytes of fraction.
-fn time_of(bytes: &[u8], decimals: usize) -> i64
-    requires low { decimals ≤ 3 }
-    requires room { 3 + decimals ≤ length bytes.now }
-    ensures { result ≡ time2 decimals bytes.now }
+fn time_of(bytes: &[u8], fraction_bytes: usize) -> i64
+    requires low { fraction_bytes ≤ 3 }
+    requires room { 3 + fraction_bytes ≤ length bytes.now }
+    ensures { result ≡ time2 fraction_bytes bytes.now }
 {
-    match decimals {
+    // Both parts are rounded toward zero, so that the fraction has the sign of the whole.
+    match fraction_bytes {
         1 => {
             let time = big_endian(bytes, 4) - TIMEF_INT_OFS * 0x100;
             my_packed_time_make(time / 0x100, time % 0x100 * 10_000)
@@ -131,34 +132,34 @@ fn time_of(bytes: &[u8], decimals: usize) -> i64
 }
 
 /// The packed time of a `DATETIME2` cell with so many bytes of fraction.
-fn datetime_of(bytes: &[u8], decimals: usize) -> i64
-    requires low { decimals ≤ 3 }
-    requires room { 5 + decimals ≤ length bytes.now }
-    ensures { result ≡ datetime2 decimals bytes.now }
+fn datetime_of(bytes: &[u8], fraction_bytes: usize) -> i64
+    requires low { fraction_bytes ≤ 3 }
+    requires room { 5 + fraction_bytes ≤ length bytes.now }
+    ensures { result ≡ datetime2 fraction_bytes bytes.now }
 {
     let whole = big_endian(bytes, 5) - DATETIMEF_INT_OFS;
-    my_packed_time_make(whole, i64::from(fraction_of(&bytes[5..], decimals)))
+    my_packed_time_make(whole, i64::from(fraction_of(&bytes[5..], fraction_bytes)))
 }
 
 /// Seconds and microseconds of a `TIMESTAMP2` cell with so many bytes of fraction.
-fn timestamp_of(bytes: &[u8], decimals: usize) -> (i32, i32)
-    requires low { decimals ≤ 3 }
-    requires room { 4 + decimals ≤ length bytes.now }
-    ensures { result ≡ timestamp2 decimals bytes.now }
+fn timestamp_of(bytes: &[u8], fraction_bytes: usize) -> (i32, i32)
+    requires low { fraction_bytes ≤ 3 }
+    requires room { 4 + fraction_bytes ≤ length bytes.now }
+    ensures { result ≡ timestamp2 fraction_bytes bytes.now }
 {
     (
         BigEndian::read_i32(bytes),
-        fraction_of(&bytes[4..], decimals),
+        fraction_of(&bytes[4..], fraction_bytes),
     )
 }
 
 /// A fraction of so many bytes, in microseconds.
-fn fraction_of(bytes: &[u8], decimals: usize) -> i32
-    requires low { decimals ≤ 3 }
-    requires room { decimals ≤ length bytes.now }
-    ensures { result ≡ fraction decimals bytes.now }
+fn fraction_of(bytes: &[u8], fraction_bytes: usize) -> i32
+    requires low { fraction_bytes ≤ 3 }
+    requires room { fraction_bytes ≤ length bytes.now }
+    ensures { result ≡ fraction fraction_bytes bytes.now }
 {
-    match decimals {
+    match fraction_bytes {
         1 => i32::from(bytes[0].cast_signed()) * 10_000,
         2 => i32::from(BigEndian::read_i16(bytes)) * 100,
         3 => BigEndian::read_i24(bytes),

@@ -1,4 +1,10 @@
-//! Raw forms of fields.
+//! Raw forms of the fields of MySQL's packets and events: byte strings in each of their spellings,
+//! constants as their numbers, sets of flags, bytes that are always the same, and fields of one of two
+//! forms.
+//!
+//! A form is a type with `MyDeserialize` and `MySerialize`. A spelling of byte strings is a type with the
+//! trait [`BytesRepr`], whose contract has its laws; [`RawBytes`] is a field in it. `specs/Texts.antt` says
+//! which bytes spell a string, and what of a text is written.
 #![tactic(auto)]
 
 mod bytes_repr;

@@ -1,6 +1,6 @@
 -- Sequences of fields: a count in some form, and then so many elements, one after the other.
 use Rattle.std.specs.Prelude.{◌≡◌, ◌++◌, ◌≤◌, ℕ, List, [], ◌∷◌, length, take, Option, Some, None, option_map}
-use Rattle.wire_buf.specs.Spelling.{ByteForm, IsSequence, AreBytes}
+use Rattle.wire_buf.specs.Spelling.{IsSequence, AreBytes}
 
 -- the number of the elements, and then the elements
 pub record IsCountedSequence {A : Type 0} (counts : ℕ → List ℕ → Type 0) (spells : A → List ℕ → List ℕ → Type 0) (vs : List A) (bytes rest : List ℕ) : Type 0 where

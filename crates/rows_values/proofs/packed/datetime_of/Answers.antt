@@ -13,7 +13,7 @@ returns c =
     let close = near n 549755813888 (omega (arith, c.big_endian-whole.ensures.bound)) in
     let above = seen _ n 549755813888 (record { sfits = c.big_endian-whole.type_inv }) c.big_endian-whole.ensures.value in
     let whole = to_z-of_z w64 (pos n -ℤ pos 549755813888) (fits_signed_from_abs w64 _ (omega (arith, close))) in
-    let micros : to_z w64 (of_z w64 c.from.result) ≡ fraction c.args.decimals (drop 5 c.args.bytes.now) =
+    let micros : to_z w64 (of_z w64 c.from.result) ≡ fraction c.args.fraction_bytes (drop 5 c.args.bytes.now) =
     to_z-of_z w64 _ (record { sfits = c.from.type_inv }) ∙ c.from.ensures ∙ to_z-of_z w32 _ (record { sfits = c.fraction_of.type_inv }) ∙ c.fraction_of.ensures
-    ∙ ap (fraction c.args.decimals) (take_rest c.args.bytes.now 5) in
+    ∙ ap (fraction c.args.fraction_bytes) (take_rest c.args.bytes.now 5) in
     to_z-of_z w64 _ (record { sfits = c.my_packed_time_make.type_inv }) ∙ c.my_packed_time_make.ensures ∙ rw (above, whole, micros) refl

@@ -23,7 +23,7 @@ returns-in-2 c =
 
 pub returns-in_default : goal.returns-in_default
 returns-in_default c =
-    let none : c.args.decimals ≡ 0 = omega arith in
+    let none : c.args.fraction_bytes ≡ 0 = omega arith in
     let n : ℕ = big_number 3 c.args.bytes.now in
     let close = near n 8388608 (omega (arith, c.big_endian-in_default.ensures.bound)) in
     to_z-of_z w64 _ (record { sfits = c.my_packed_time_make_int.type_inv })
