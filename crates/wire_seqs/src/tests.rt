@@ -4,6 +4,7 @@ use crate::{RawSeq, Seq, SeqRepr, Unknown};
 use std::alloc::Global;
 use std::borrow::CowSlice;
 use std::test::Fail;
+use wire_big::{BeU16, BeU24, BeU32, BeU40, BeU48, BeU56, BeU64};
 use wire_buf::{MyDeserialize, MySerialize, ParseBuf, WireFault, WireSize};
 use wire_consts::ColumnType;
 use wire_forms::{RawBytes, U8Bytes};
@@ -184,4 +185,31 @@ fn sizes_of_sequences(rt: HostRuntime) {
     assert_eq!(rt; <u8 as SeqRepr>::MAX_LEN, 255);
     assert_eq!(rt; <LeU24 as SeqRepr>::MAX_LEN, 16_777_215);
     assert_eq!(rt; <Unknown as SeqRepr>::MAX_LEN, usize::MAX);
+}
+
+#[test]
+fn counts_with_their_highest_byte_first(rt: HostRuntime) -> Result<(), Fail> {
+    let alloc = rt.alloc();
+    let bytes = two_numbers::<BeU16>(alloc)?;
+    assert_eq!(rt; bytes.as_slice(), b"\x00\x02\x01\x00\x02\x03".as_slice());
+    assert_eq!(rt; count_in::<BeU16>(alloc, &bytes)?, 2);
+    let bytes = two_numbers::<BeU24>(alloc)?;
+    assert_eq!(rt; bytes.len(), 7);
+    assert_eq!(rt; count_in::<BeU24>(alloc, &bytes)?, 2);
+    let bytes = two_numbers::<BeU32>(alloc)?;
+    assert_eq!(rt; bytes.len(), 8);
+    assert_eq!(rt; count_in::<BeU32>(alloc, &bytes)?, 2);
+    let bytes = two_numbers::<BeU40>(alloc)?;
+    assert_eq!(rt; bytes.len(), 9);
+    assert_eq!(rt; count_in::<BeU40>(alloc, &bytes)?, 2);
+    let bytes = two_numbers::<BeU48>(alloc)?;
+    assert_eq!(rt; bytes.len(), 10);
+    assert_eq!(rt; count_in::<BeU48>(alloc, &bytes)?, 2);
+    let bytes = two_numbers::<BeU56>(alloc)?;
+    assert_eq!(rt; bytes.len(), 11);
+    assert_eq!(rt; count_in::<BeU56>(alloc, &bytes)?, 2);
+    let bytes = two_numbers::<BeU64>(alloc)?;
+    assert_eq!(rt; bytes.len(), 12);
+    assert_eq!(rt; count_in::<BeU64>(alloc, &bytes)?, 2);
+    Ok(())
 }
