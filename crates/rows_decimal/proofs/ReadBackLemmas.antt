@@ -1,16 +1,21 @@
 -- What was packed is read back.
-use Rattle.std.proofs.Common.{◌≡◌, ◌≤◌, ◌<◌, ◌+◌, ◌-◌, ◌%◌, ◌++◌, Bool, true, false, ℕ, List, [], ◌∷◌, length, take, drop, get_or, Option, Some, None, Result, Ok, Err, IfOk, inl, inr, arith, refl, sym, ap, subst, ◌∙◌, Ordering}
+use Rattle.std.proofs.Common.{◌≡◌, ◌≤◌, ◌<◌, ◌+◌, ◌-◌, ◌%◌, ◌++◌, Bool, true, false, ℕ, List, [], ◌∷◌, length, take, drop, get_or, Option, Some, None, Result, Ok, Err, IfOk, IfErr, ◌⊎◌, inl, inr, arith, refl, sym, ap, subst, ◌∙◌, Ordering}
 use Rattle.std.specs.Ordering.{nat_cmp, ordering_then}
 use Rattle.std.specs.declared.cmp.Ordering.TheVariants.{Equal}
 use Rattle.std.specs.Cmp.Lexicographic.{slice_cmp}
 use Rattle.std.specs.FinMap.{slice_cmp-IsAntisymmetric, nat_cmp-IsAntisymmetric}
+use Rattle.std.specs.Io.KnownBytes.{Consumes, IsAtEnd}
 use Rattle.std.proofs.Math.Seq.{take-append_seam, drop-append_seam}
 use Rattle.std.proofs.lemmas.List.{length-append, append-nil}
 use Rattle.std.proofs.lemmas.Bool.Decides.{eqb_tells}
 use Rattle.rows_values.specs.declared.fault.RowsError.{RowsError}
+use Rattle.rows_values.specs.declared.fault.RowsError.TheVariants as fault
+use Rattle.wire_buf.specs.declared.fault.WireFault.{WireFault}
+use Rattle.wire_buf.specs.declared.fault.WireFault.TheVariants as wire
+use Rattle.rows_values.specs.Faults.{rows_error}
 use Rattle.rows_decimal.specs.declared.fields.Decimal.{Decimal}
 use Rattle.rows_decimal.specs.Digits.{AreDigits, side_size, before_bytes, after_bytes, top_turned, signed, has_minus_bit}
-use Rattle.rows_decimal.specs.Decimals.{Value, value_of, packed, packed_size, IsPacked, ReadsDecimal, kept}
+use Rattle.rows_decimal.specs.Decimals.{Value, value_of, packed, packed_size, IsPacked, ReadsDecimal, FailsDecimal, NonePacked, kept}
 use Rattle.rows_decimal.proofs.UnpackLemmas.{plain_of, length-before, sides_low, below-128, above-128}
 use Rattle.rows_decimal.proofs.OrderLemmas.{self_equal, length-packed}
 use Rattle.rows_decimal.proofs.NumericLemmas.{before_cmp, after_cmp, sides_some}
@@ -92,3 +97,45 @@ pub ok_read_back : (precision scale : ℕ) (v : Value) (bytes : List ℕ) (new :
     → bytes ≡ packed v → precision - scale ≡ length v.before → scale ≡ length v.after → IfOk r (λ d. ReadsDecimal true precision scale (value_of d) (Some bytes) new) → IfOk r (λ d. value_of d ≡ v)
 ok_read_back precision scale v bytes new (Ok d) h g some e a b reads = read_back_is precision scale (value_of d) v bytes new h g some e a b reads
 ok_read_back precision scale v bytes new (Err x) h g some e a b reads = tt
+
+-- the first of the packed bytes, as many as they are, are all of them
+all_taken : (before after : ℕ) (v : Value) (bytes taken : List ℕ) (new : Option (List ℕ)) → before ≡ length v.before → after ≡ length v.after → bytes ≡ packed v → Consumes (Some bytes) new taken
+    → length taken ≡ packed_size before after → bytes ≡ taken
+all_taken before after v bytes taken None a b e consumed long = absurd consumed
+all_taken before after v bytes taken (Some ys) a b e consumed long =
+    let whole = ap length e ∙ length-packed v ∙ ap (λ k. packed_size k (length v.after)) (sym a) ∙ ap (packed_size before) (sym b) in
+    let none : ys ≡ [] = empty_rest taken ys (ap length (sym consumed) ∙ whole ∙ sym long) in
+    consumed ∙ ap (λ l. taken ++ l) none ∙ append-nil taken
+
+-- fewer bytes were there than the packed ones only if some are left
+not_short : (before after : ℕ) (v : Value) (bytes taken : List ℕ) (new : Option (List ℕ)) → before ≡ length v.before → after ≡ length v.after → bytes ≡ packed v → Consumes (Some bytes) new taken
+    → length taken < packed_size before after → IsAtEnd new → ⊥
+not_short before after v bytes taken None a b e consumed short ended = consumed
+not_short before after v bytes taken (Some ys) a b e consumed short ended =
+    let whole = ap length e ∙ length-packed v ∙ ap (λ k. packed_size k (length v.after)) (sym a) ∙ ap (packed_size before) (sym b) in
+    let same : bytes ≡ taken = consumed ∙ ap (λ l. taken ++ l) ended ∙ append-nil taken in
+    let long = ap length (sym same) ∙ whole in
+    omega (arith, short, long)
+
+-- what was packed is never refused for its bytes
+pub err_read_back : (precision scale : ℕ) (v : Value) (bytes : List ℕ) (new : Option (List ℕ)) (r : Result Decimal RowsError) → AreDigits v.before → AreDigits v.after → scale ≤ precision
+    → bytes ≡ packed v → precision - scale ≡ length v.before → scale ≡ length v.after → IfErr r (λ e. FailsDecimal precision scale e (Some bytes) new) → IfErr r (λ e. e ≡ fault.Memory ⊎ e ≡ fault.Read)
+err_read_back precision scale v bytes new (Ok d) h g le e a b fails = tt
+err_read_back precision scale v bytes new (Err fault.Memory) h g le e a b fails = inl refl
+err_read_back precision scale v bytes new (Err fault.Read) h g le e a b fails = inr refl
+err_read_back precision scale v bytes new (Err fault.EndOfBody) h g le e a b fails = absurd (not_short (precision - scale) scale v bytes fails.taken new a b e fails.consumed fails.cause.0 fails.cause.1)
+err_read_back precision scale v bytes new (Err fault.Decimal) h g le e a b fails = elim fails.cause [
+  | inl past ↦ absurd (omega (arith, past.0, le))
+  | inr none ↦ absurd (none.1 v (record { before_size = sym a; after_size = sym b; before_are = h; after_are = g; bytes_are = sym e ∙ all_taken (precision - scale) scale v bytes fails.taken new a b e fails.consumed none.0 }))
+]
+err_read_back precision scale v bytes new (Err fault.RemainingBytes) h g le e a b fails = absurd fails.cause
+err_read_back precision scale v bytes new (Err fault.UnknownNumber) h g le e a b fails = absurd fails.cause
+err_read_back precision scale v bytes new (Err fault.Metadata) h g le e a b fails = absurd fails.cause
+err_read_back precision scale v bytes new (Err fault.Cell) h g le e a b fails = absurd fails.cause
+err_read_back precision scale v bytes new (Err (fault.Jsonb j)) h g le e a b fails = absurd fails.cause
+err_read_back precision scale v bytes new (Err fault.EmptyPair) h g le e a b fails = absurd fails.cause
+
+-- a buffer that was not written
+pub unwritten : (w : WireFault) (e : RowsError) → e ≡ rows_error w → w ≡ wire.Memory ⊎ w ≡ wire.Write → e ≡ fault.Memory ⊎ e ≡ fault.Read
+unwritten w e is (inl m) = inl (is ∙ ap rows_error m)
+unwritten w e is (inr m) = inr (is ∙ ap rows_error m)

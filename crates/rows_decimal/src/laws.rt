@@ -1,6 +1,7 @@
 //! Laws of decimals.
 
-ghost use Rattle.std.specs.Prelude.{◌≡◌, length, [], ◌∷◌, true, false, Some, IfOk, codes};
+ghost use Rattle.std.specs.Prelude.{◌≡◌, ◌⊎◌, length, [], ◌∷◌, true, false, Some, IfOk, IfErr, codes};
+ghost use Rattle.rows_values.specs.declared.fault.RowsError.TheVariants.{Memory, Read};
 ghost use Rattle.rows_decimal.specs.Decimals.{value_of, packed, digits_number, number_cmp};
 ghost use Rattle.rows_decimal.specs.Texts.{text_value, decimal_text};
 
@@ -20,9 +21,11 @@ pub fn numbers_in_order(first: &Decimal, second: &Decimal) -> Ordering
     first.cmp(second)
 }
 
-/// What was written of a decimal is read back, where its precision is kept.
+/// What was written of a decimal is read back, where its precision is kept. It is refused only for
+/// want of memory, in which a buffer may fail to be written.
 pub fn read_back(alloc: Global, value: &Decimal) -> Result<Decimal, RowsError>
-    ensures { IfOk result (λ d. value_of d ≡ value_of value.now) }
+    ensures ok { IfOk result (λ d. value_of d ≡ value_of value.now) }
+    ensures err { IfErr result (λ e. e ≡ Memory ⊎ e ≡ Read) }
 {
     let mut bytes: Vec<u8> = Vec::new(alloc);
     value.write_bin(alloc, &mut bytes)?;

@@ -1,20 +1,23 @@
 //! Laws over all representations of byte strings.
 
-ghost use Rattle.std.specs.Prelude.{◌≡◌, [], IfOk};
+ghost use Rattle.std.specs.Prelude.{◌≡◌, [], IfOk, IfErr};
+ghost use Rattle.wire_buf.specs.declared.fault.WireFault.TheVariants.{Memory};
 
 use crate::bytes_repr::BytesRepr;
 use std::alloc::Global;
 use wire_buf::{ParseBuf, WireFault};
 
 /// What was written of a string is read back, in every representation: as much of it as the
-/// representation keeps, where the context suits it and nothing follows.
+/// representation keeps, where the context suits it and nothing follows. Want of memory is the one
+/// refusal.
 pub fn read_back_bytes<T: BytesRepr>(
     alloc: Global,
     ctx: T::Ctx,
     text: &[u8],
 ) -> Result<Vec<u8>, WireFault>
     requires { T.suits ctx (T.kept text.now) [] }
-    ensures { IfOk result (λ v. v.items ≡ T.kept text.now) }
+    ensures ok { IfOk result (λ v. v.items ≡ T.kept text.now) }
+    ensures err { IfErr result (λ e. e ≡ Memory) }
 {
     let mut bytes = Vec::new(alloc);
     T::serialize(text, &mut bytes)?;

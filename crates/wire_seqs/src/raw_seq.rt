@@ -1,5 +1,5 @@
 ghost use Rattle.std.specs.Prelude.{◌≡◌, ◌⊎◌, ◌↔◌, ◌<◌, ◌≤◌, [], length, slice_index_or, IfOk, IfErr, OnErr, IfSome, IfNone, IsTrue};
-ghost use Rattle.std.specs.Cow.{cow_slice_items};
+ghost use Rattle.std.specs.Cow.{cow_slice_items, IsOwnedSlice};
 ghost use Rattle.wire_buf.specs.Spelling.{Reads, Lacks, Alone, Equal, Holding, SameBy, SameAll, IsSequence};
 ghost use Rattle.wire_buf.specs.declared.fault.WireFault.TheVariants.{Memory};
 ghost use Rattle.wire_seqs.specs.Sequences.{joined_spelling};
@@ -59,7 +59,8 @@ where
     /// The same numbers, borrowed from nothing. Clones of them have to equal them.
     pub fn into_owned(self, alloc: Global) -> Result<RawSeq<'a, T, U>, AllocError>
         requires { (x y : T.Primitive) → T.Primitive.is_clone x y → y ≡ x }
-        ensures { IfOk result (λ s. cow_slice_items s.0 ≡ cow_slice_items self.entry.0) }
+        ensures items { IfOk result (λ s. cow_slice_items s.0 ≡ cow_slice_items self.entry.0) }
+        ensures owned { IfOk result (λ s. IsOwnedSlice s.0) }
     {
         Ok(RawSeq(CowSlice::Owned(self.0.into_owned(alloc)?), PhantomData))
     }
@@ -67,7 +68,8 @@ where
     /// The same numbers, in memory of their own. Clones of them have to equal them.
     pub fn clone(&self, alloc: Global) -> Result<RawSeq<'a, T, U>, AllocError>
         requires { (x y : T.Primitive) → T.Primitive.is_clone x y → y ≡ x }
-        ensures { IfOk result (λ s. cow_slice_items s.0 ≡ cow_slice_items self.now.0) }
+        ensures items { IfOk result (λ s. cow_slice_items s.0 ≡ cow_slice_items self.now.0) }
+        ensures owned { IfOk result (λ s. IsOwnedSlice s.0) }
     {
         let numbers = CowSlice::Borrowed(self.0.as_slice()).into_owned(alloc)?;
         Ok(RawSeq(CowSlice::Owned(numbers), PhantomData))

@@ -1,5 +1,5 @@
 ghost use Rattle.std.specs.Prelude.{◌≡◌, ◌↔◌, ◌++◌, ◌∷◌, [], length, OnOk, OnErr, IfOk, IsTrue};
-ghost use Rattle.std.specs.Cow.{cow_slice_items};
+ghost use Rattle.std.specs.Cow.{cow_slice_items, IsOwnedSlice};
 ghost use Rattle.wire_buf.specs.Spelling.{Holding, SameBy, SameAll};
 ghost use Rattle.wire_seqs.specs.Sequences.{IsCountedSequence, sequence_spelling};
 
@@ -68,7 +68,8 @@ impl<'a, T: Clone, U> Seq<'a, T, U> {
     /// have to equal them.
     pub fn into_owned(self, alloc: Global) -> Result<Seq<'a, T, U>, AllocError>
         requires { (x y : T) → T.is_clone x y → y ≡ x }
-        ensures { IfOk result (λ s. cow_slice_items s.0 ≡ cow_slice_items self.entry.0) }
+        ensures items { IfOk result (λ s. cow_slice_items s.0 ≡ cow_slice_items self.entry.0) }
+        ensures owned { IfOk result (λ s. IsOwnedSlice s.0) }
     {
         Ok(Seq(CowSlice::Owned(self.0.into_owned(alloc)?), PhantomData))
     }
@@ -76,7 +77,8 @@ impl<'a, T: Clone, U> Seq<'a, T, U> {
     /// The same elements, in memory of their own. Their clones have to equal them.
     pub fn clone(&self, alloc: Global) -> Result<Seq<'a, T, U>, AllocError>
         requires { (x y : T) → T.is_clone x y → y ≡ x }
-        ensures { IfOk result (λ s. cow_slice_items s.0 ≡ cow_slice_items self.now.0) }
+        ensures items { IfOk result (λ s. cow_slice_items s.0 ≡ cow_slice_items self.now.0) }
+        ensures owned { IfOk result (λ s. IsOwnedSlice s.0) }
     {
         let items = CowSlice::Borrowed(self.0.as_slice()).into_owned(alloc)?;
         Ok(Seq(CowSlice::Owned(items), PhantomData))
