@@ -21,8 +21,8 @@ pub fn numbers_in_order(first: &Decimal, second: &Decimal) -> Ordering
     first.cmp(second)
 }
 
-/// What was written of a decimal is read back, where its precision is kept. It is refused only for
-/// want of memory, in which a buffer may fail to be written.
+/// What was written of a decimal is read back, where its precision is kept. It is refused only as
+/// `Memory`, or as `Read` where the buffer could not be written.
 pub fn read_back(alloc: Global, value: &Decimal) -> Result<Decimal, RowsError>
     ensures ok { IfOk result (λ d. value_of d ≡ value_of value.now) }
     ensures err { IfErr result (λ e. e ≡ Memory ⊎ e ≡ Read) }

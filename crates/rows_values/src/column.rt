@@ -82,7 +82,7 @@ impl Column {
         &self.table
     }
 
-    /// The name of the table, which may be an alias as text; what isn't UTF-8 in it is replaced.
+    /// The name of the table, which may be an alias, as text; what isn't UTF-8 in it is replaced.
     pub fn table_str(&self, alloc: Global) -> Result<CowStr<'_, Global>, AllocError>
         ensures { IfOk result (λ t. IsUtf8 (parts_of self.now).table → cow_str_bytes t ≡ (parts_of self.now).table) }
     {
