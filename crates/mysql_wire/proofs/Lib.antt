@@ -3,5 +3,5 @@ pub mod FramingLemmas
 pub mod StandingLemmas
 pub mod PacketLemmas
 pub mod PieceLemmas
-pub mod RowLemmas
 pub mod ChunkLemmas
+pub mod VersionLemmas

@@ -7,18 +7,20 @@ pub mod Standing
 pub mod Pieces
 pub mod Laws
 pub mod Watched
+pub mod Version
 pub use Rattle.wire_buf.specs.Spelling
 pub use Rattle.wire_buf.specs.Eating
 pub use Rattle.wire_buf.specs.Numbers
 pub use Rattle.wire_buf.specs.Writing
 pub use Rattle.wire_buf.specs.Fronts
+pub use Rattle.wire_buf.specs.Refusals
 pub use Rattle.wire_ints.specs.Ints
 pub use Rattle.wire_ints.specs.Faults
 pub use Rattle.wire_ints.specs.Strings
 pub use Rattle.wire_ints.specs.Sevens
 pub use Rattle.wire_ints.specs.TrailingOnes
 pub use Rattle.wire_ints.specs.Streams
-pub use Rattle.wire_ints.specs.Version
+pub use Rattle.wire_streams.specs.Transfers
 pub use Rattle.wire_consts.specs.Numbering
 pub use Rattle.wire_consts.specs.ColumnTypes
 pub use Rattle.wire_consts.specs.Constants
@@ -28,4 +30,5 @@ pub use Rattle.wire_forms.specs.Texts
 pub use Rattle.wire_forms.specs.Eithers
 pub use Rattle.wire_forms.specs.Consts
 pub use Rattle.wire_forms.specs.Overwritten
+pub use Rattle.wire_forms.specs.RawTexts
 pub use Rattle.wire_seqs.specs.Sequences

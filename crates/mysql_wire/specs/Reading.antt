@@ -1,11 +1,12 @@
 -- What a chunk's header at the front of bytes says: length in three bytes, then the number.
 use Rattle.std.specs.Prelude.{ℕ, ◌+◌, ◌<◌, ◌*◌, ◌%◌, Bool, ◌&&◌, List, length, take, drop, slice_index, Option, Some, None, nat_le, ◌==◌, if◌then◌else◌}
+use Rattle.byteorder.specs.Endian.{little_number}
 use Rattle.mysql_wire.specs.declared.error.PacketCodecError.{PacketCodecError}
 use Rattle.mysql_wire.specs.declared.error.PacketCodecError.TheVariants.{PacketTooLarge, PacketsOutOfSync}
 
--- the length that the header says
+-- the length that the header says, in its first three bytes
 abbrev pub len_at : List ℕ → ℕ
-len_at s = slice_index s 0 + 256 * slice_index s 1 + 65536 * slice_index s 2
+len_at s = little_number 3 s
 
 -- all of the chunk stands
 abbrev pub has_chunk : List ℕ → Bool

@@ -37,13 +37,7 @@ fn put_chunk(number: u8, slice: &[u8], dst: &mut BytesMut)
     ensures chunk { dst.new.items ≡ dst.old.items ++ chunk number slice.now }
     ensures spare { dst.new.spare + (4 + length slice.now) ≡ dst.old.spare }
 {
-    let len = slice.len();
-    let header = [
-        (len % 256) as u8,
-        (len / 256 % 256) as u8,
-        (len / 65536) as u8,
-        number,
-    ];
-    dst.extend_reserved(&header);
+    let len = (slice.len() as u32).to_le_bytes();
+    dst.extend_reserved(&[len[0], len[1], len[2], number]);
     dst.extend_reserved(slice);
 }

@@ -2,6 +2,7 @@ ghost use Rattle.std.specs.Prelude.{◌≡◌, ◌<◌, ◌+◌, ◌↔◌, IsTr
 ghost use Rattle.mysql_wire.specs.Front.{IsFront, SaysHeader};
 
 use crate::error::PacketCodecError;
+use byteorder::{ByteOrder, LittleEndian};
 
 /// The length of a chunk's header, in bytes.
 pub const HEADER_LEN: usize = 4;
@@ -31,9 +32,8 @@ pub fn read_header(bytes: &[u8]) -> Option<ChunkHeader>
     if bytes.len() < HEADER_LEN {
         return None;
     }
-    let len = bytes[0] as usize + 256 * bytes[1] as usize + 65536 * bytes[2] as usize;
     Some(ChunkHeader {
-        len,
+        len: LittleEndian::read_u24(bytes) as usize,
         number: bytes[3],
     })
 }

@@ -82,6 +82,8 @@ impl PacketCodec {
         ensures again { IfSome (fault_of self.old) (λ e. (result ≡ Err e)
             × (self.new ≡ self.old) × (src.new ≡ src.old) × (dst.new.items ≡ dst.old.items)) }
         ensures fault { IfErr result (λ e. fault_of self.new ≡ Some e) }
+        ensures kinds { IfErr result (λ e. fault_of self.old ≡ Some e ⊎ (e ≡ PacketCodecError.PacketTooLarge)
+            ⊎ (e ≡ PacketCodecError.PacketsOutOfSync) ⊎ (e ≡ PacketCodecError.Memory)) }
         ensures shorter { IfOk result (λ whole. whole ≡ true → length src.new.items < length src.old.items) }
     {
         if let Some(fault) = self.fault {

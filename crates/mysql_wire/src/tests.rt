@@ -1,9 +1,11 @@
 use crate::{
-    ChunkDecoder, ChunkInfo, DEFAULT_MAX_ALLOWED_PACKET, LeU24, LenEnc, MySerialize, PacketCodec,
-    PacketCodecError, ParseBuf, RawInt, Watched, WireFault, decode_pieces, packet_to_chunks,
+    ChunkDecoder, ChunkInfo, DEFAULT_MAX_ALLOWED_PACKET, EofBytes, LeU24, LenEnc, MySerialize,
+    PacketCodec, PacketCodecError, ParseBuf, RawBytes, RawInt, Skip, U8Bytes, Watched, WireFault,
+    decode_pieces, laws, packet_to_chunks, split_version,
 };
 use bytes::BytesMut;
 use std::alloc::Global;
+use std::io::{Error, ErrorKind, Read, Result as IoResult, Write};
 use std::test::Fail;
 
 #[test]
@@ -125,6 +127,49 @@ fn field_read_and_written(rt: HostRuntime) -> Result<(), Fail> {
     Ok(())
 }
 
+/// A name, two bytes that mean nothing, and the rest: the second example of the documentation.
+#[test]
+fn raw_forms_read(rt: HostRuntime) -> Result<(), Fail> {
+    let alloc = rt.alloc();
+    let mut buf = ParseBuf(b"\x02ab\x00\x00cd");
+    let name = buf.parse::<RawBytes<'_, U8Bytes>>(alloc, ())?;
+    buf.parse::<Skip<2>>(alloc, ())?;
+    let rest = buf.parse::<RawBytes<'_, EofBytes>>(alloc, ())?;
+    assert_eq!(rt; name.as_bytes(), b"ab".as_slice());
+    assert_eq!(rt; rest.as_bytes(), b"cd".as_slice());
+    Ok(())
+}
+
+/// Takes each packet that is whole, as more of a stream comes: the third example.
+fn take(
+    codec: &mut PacketCodec,
+    src: &mut BytesMut,
+    packet: &mut Vec<u8>,
+    piece: &[u8],
+) -> Result<usize, PacketCodecError> {
+    src.extend_from_slice(piece)?;
+    let mut packets = 0usize;
+    while codec.decode(src, packet)? {
+        packets = packets.wrapping_add(1);
+        packet.clear();
+    }
+    Ok(packets)
+}
+
+#[test]
+fn packets_taken(rt: HostRuntime) -> Result<(), Fail> {
+    let mut codec = PacketCodec::default();
+    let mut src = BytesMut::new(rt.alloc());
+    let mut packet = Vec::new(rt.alloc());
+    assert_eq!(rt; take(&mut codec, &mut src, &mut packet, &[1, 0, 0])?, 0);
+    assert_eq!(rt;
+        take(&mut codec, &mut src, &mut packet, &[0, 7, 0, 0, 0, 1, 9])?,
+        2
+    );
+    assert_eq!(rt; src.as_slice(), [9].as_slice());
+    Ok(())
+}
+
 #[test]
 fn watched_reader_and_writer(rt: HostRuntime) -> Result<(), Fail> {
     let bytes: [u8; 3] = [1, 2, 3];
@@ -146,4 +191,56 @@ fn watched_reader_and_writer(rt: HostRuntime) -> Result<(), Fail> {
     assert!(rt; full.push(&taken[1..]).is_err());
     assert!(rt; full.failed());
     Ok(())
+}
+
+#[test]
+fn server_version_split(rt: HostRuntime) {
+    assert_eq!(rt; split_version(b"8.0.32-log"), (8, 0, 32));
+    assert_eq!(rt; split_version(b"8.256.1"), (0, 0, 0));
+    assert_eq!(rt; split_version(b"5.7"), (0, 0, 0));
+}
+
+/// A device that always fails.
+#[derive(Drop)]
+struct Broken;
+
+impl Read for Broken {
+    fn read(&mut self, _buf: &mut [u8]) -> IoResult<usize> {
+        Err(Error::from(ErrorKind::Other))
+    }
+}
+
+impl Write for Broken {
+    fn write(&mut self, _buf: &[u8]) -> IoResult<usize> {
+        Err(Error::from(ErrorKind::Other))
+    }
+
+    fn flush(&mut self) -> IoResult<()> {
+        Ok(())
+    }
+}
+
+#[test]
+fn failing_reader_and_writer(rt: HostRuntime) {
+    let mut reader = Watched::new(Broken);
+    let mut taken = [0; 2];
+    assert!(rt; reader.pull(&mut taken).is_err());
+    assert!(rt; reader.failed());
+    let mut writer = Watched::new(Broken);
+    assert!(rt; writer.push(&[1]).is_err());
+    assert!(rt; writer.failed());
+}
+
+/// The laws are calls too, which do nothing.
+#[test]
+fn laws_hold() {
+    laws::framings_are_uniquely_read();
+    laws::packets_are_a_front();
+    laws::packets_are_longest();
+    laws::packets_end();
+    laws::framings_are_read_back();
+    laws::versions_are_their_numbers();
+    laws::worked_framings();
+    laws::worked_versions();
+    laws::worked_numbers();
 }

@@ -6,9 +6,7 @@ ghost use Rattle.std.specs.Io.{ReadsAtMost, WritesAtMost};
 ghost use Rattle.mysql_wire.specs.Watched.{inner_of, turns_of, has_failed, IsTaken};
 
 use std::io::{self, ErrorKind, Read, Write};
-
-/// How many reads are made of one reader at most: 2^63 - 1.
-pub const MAX_TURNS: u64 = 0x7fff_ffff_ffff_ffff;
+use wire_streams::MAX_TURNS;
 
 /// A reader or a writer that is watched: it counts its reads and keeps whether one of its calls failed.
 #[derive(Drop)]

@@ -4,6 +4,7 @@ use Rattle.std.proofs.lemmas.List.{take-append-drop, length-take-le}
 use Rattle.std.proofs.Math.Seq.{take-append_seam, drop-append_seam}
 use Rattle.std.proofs.lemmas.Result.{err_from_is_err_and}
 use Rattle.wire_buf.specs.Spelling.{Stands, Begins, Lacks, Reads, Both, SameBoth, Alone, Equal, IsFixed, IsShortest, IsSequence, SameAll, Then}
+use Rattle.wire_buf.specs.Writing.{Writes, AppendsOf}
 
 module _ {A B : Type 0} (first : A → List ℕ → List ℕ → Type 0) (second : B → List ℕ → List ℕ → Type 0) where
   pub Begins-both : (v : A) (w : B) (x m r : List ℕ) → Begins first v x m → Begins second w m r → Begins (Both first second) (v, w) x r
@@ -99,6 +100,10 @@ pub IfErr-of_part : {T E : Type 0} (M : E → Type 0) (P Q : Type 0) (r : Result
 IfErr-of_part M P Q r e h part wider =
     let p = err_from_is_err_and r h.1 in
     rw (p.1, p.2) (elim part as (λ _. M e ⊎ Q) [ inl m ↦ inl m | inr l ↦ inr (wider l) ])
+
+-- the same for a fact of the fault itself
+pub IfErr-of_same : {T E : Type 0} (P : E → Type 0) (r : Result T E) (e : E) → IsErr r × IsErrAnd r (λ y. y ≡ e) → P e → IfErr r P
+IfErr-of_same P r e h p = let f = err_from_is_err_and r h.1 in rw f.1 (subst P (sym f.2) p)
 
 -- the two halves of a list
 pub split_front : (n : ℕ) (x bytes rest : List ℕ) → length bytes ≡ n → x ≡ bytes ++ rest → (take n x ≡ bytes) × (drop n x ≡ rest)
@@ -222,3 +227,8 @@ pub is_some_unless_lacks : {A B : Type 0} (spells : A → List ℕ → List ℕ 
     → Stands spells x → IfNone r (Lacks spells x × P) → IsSome r
 is_some_unless_lacks spells x P None stands none = absurd (none.0 stands.value stands.after stands.begins)
 is_some_unless_lacks spells x P (Some b) stands none = refl
+
+-- what was written in the fewest bytes is a shortest spelling
+pub writes_shortest : {A : Type 0} {spelling : A → Option (List ℕ)} {spells : A → List ℕ → Type 0} {v : A} {old new : List ℕ}
+    → Writes spelling spells v old new → AppendsOf (IsShortest spells v) old new
+writes_shortest w = record { bytes = w.bytes; appended = w.appended; is = w.least }

@@ -3,3 +3,4 @@ pub mod Eating
 pub mod Numbers
 pub mod Writing
 pub mod Fronts
+pub mod Refusals

@@ -10,6 +10,12 @@ pub record Appends {A : Type 0} (spelling : A → Option (List ℕ)) (v : A) (ol
   pub is : spelling v ≡ Some bytes
   pub appended : new ≡ old ++ bytes
 
+-- bytes of which the fact holds are appended
+pub record AppendsOf (fact : List ℕ → Type 0) (old new : List ℕ) : Type 0 where
+  pub bytes : List ℕ
+  pub appended : new ≡ old ++ bytes
+  pub is : fact bytes
+
 -- nothing is appended: memory was refused, or the form can't hold v
 pub record Refuses {A : Type 0} (spelling : A → Option (List ℕ)) (v : A) (fault : WireFault) (old new : List ℕ) : Type 0 where
   pub unchanged : new ≡ old

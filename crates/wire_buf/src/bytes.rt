@@ -3,6 +3,7 @@
 
 ghost use Rattle.std.specs.Prelude.{◌≡◌, Some, length};
 ghost use Rattle.wire_buf.specs.Spelling.{IsBytes, SameBy, Equal};
+ghost use Rattle.wire_buf.specs.Refusals.{EndsBefore};
 ghost use Rattle.wire_buf.specs.declared.fault.WireFault.TheVariants.{Memory};
 
 use crate::fault::WireFault;
@@ -23,6 +24,8 @@ impl<'de> MyDeserialize<'de> for &'de [u8] {
     ghost spells = { λ ctx v bytes rest. IsBytes ctx v.now bytes };
 
     ghost same = { λ v w. v.now ≡ w.now };
+
+    ghost refusal = { EndsBefore };
 
     ghost is_memory = { λ e. e ≡ Memory };
 
@@ -56,6 +59,8 @@ impl<'de> MyDeserialize<'de> for ParseBuf<'de> {
 
     ghost same = { λ v w. v.0.now ≡ w.0.now };
 
+    ghost refusal = { EndsBefore };
+
     ghost is_memory = { λ e. e ≡ Memory };
 
     fn deserialize(
@@ -88,6 +93,8 @@ impl<'de, const LEN: usize> MyDeserialize<'de> for [u8; LEN] {
 
     ghost same = { λ v w. v ≡ w };
 
+    ghost refusal = { λ ctx. EndsBefore LEN };
+
     ghost is_memory = { λ e. e ≡ Memory };
 
     fn deserialize(
@@ -108,8 +115,10 @@ impl<'de, const LEN: usize> MyDeserialize<'de> for [u8; LEN] {
 impl<const LEN: usize> MySerialize for [u8; LEN] {
     ghost spelling = { λ v. Some v };
 
+    ghost is_shortest = { λ v bytes. bytes ≡ v };
+
     fn serialize<A: Allocator>(&self, buf: &mut Vec<u8, A>) -> Result<(), WireFault> {
-        buf.extend_from_slice(self)?;
+        buf.extend_from_slice(&self[..])?;
         Ok(())
     }
 }
@@ -117,6 +126,8 @@ impl<const LEN: usize> MySerialize for [u8; LEN] {
 /// The bytes of the slice as they stand. `mysql_common` has this for `[u8]`.
 impl MySerialize for &[u8] {
     ghost spelling = { λ v. Some v.now };
+
+    ghost is_shortest = { λ v bytes. bytes ≡ v.now };
 
     fn serialize<A: Allocator>(&self, buf: &mut Vec<u8, A>) -> Result<(), WireFault> {
         buf.extend_from_slice(self)?;

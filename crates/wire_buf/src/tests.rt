@@ -37,6 +37,32 @@ fn bytes_as_they_stand(rt: HostRuntime) -> Result<(), Fail> {
 }
 
 #[test]
+fn bytes_known_to_stand_there(rt: HostRuntime) -> Result<(), Fail> {
+    let mut buf = ParseBuf(b"abcdefghi");
+    buf.skip(1);
+    assert_eq!(rt; buf.eat(2), b"bc".as_slice());
+    assert_eq!(rt; buf.eat_buf(1).0, b"d".as_slice());
+    assert_eq!(rt; buf.parse_unchecked::<[u8; 2]>(rt.alloc(), ())?, *b"ef");
+    assert!(rt; buf.checked_skip(1));
+    assert_eq!(rt; buf.checked_eat(1), Some(b"h".as_slice()));
+    assert_eq!(rt; buf.checked_eat(2), None);
+    assert_eq!(rt; buf.checked_eat_buf(1), Some(ParseBuf(b"i")));
+    assert_eq!(rt; buf.checked_eat_buf(1), None);
+    assert!(rt; !buf.checked_skip(1));
+    Ok(())
+}
+
+#[test]
+fn numbers_known_to_stand_there(rt: HostRuntime) {
+    let mut number = ParseBuf(b"\xfc\x01\x02z");
+    assert_eq!(rt; number.eat_lenenc_int(), 0x0201);
+    assert_eq!(rt; number.0, b"z".as_slice());
+    let mut text = ParseBuf(b"\x02abz");
+    assert_eq!(rt; text.eat_lenenc_str(), b"ab".as_slice());
+    assert_eq!(rt; text.0, b"z".as_slice());
+}
+
+#[test]
 fn strings_and_the_rest(rt: HostRuntime) {
     let mut buf = ParseBuf(b"\x02ab\x01\x00\x00\x00c\x03de\x00");
     assert_eq!(rt; buf.checked_eat_u8_str(), Some(b"ab".as_slice()));

@@ -1,6 +1,6 @@
 ghost use Rattle.std.specs.Prelude.{◌≡◌, ◌⊎◌, List, ℕ, length, OnOk, IfOk, IfErr, Option, Some, None};
 ghost use Rattle.wire_buf.specs.Spelling.{Reads, Lacks, HasSize, HasRoom};
-ghost use Rattle.wire_buf.specs.Writing.{Appends, Refuses};
+ghost use Rattle.wire_buf.specs.Writing.{Appends, AppendsOf, Refuses};
 ghost use Rattle.wire_buf.specs.declared.fault.WireFault.TheVariants.{Memory};
 
 use crate::fault::WireFault;
@@ -37,8 +37,8 @@ impl WireSize for AnySize {
 /// A value that is read from bytes, as in `mysql_common`.
 ///
 /// `deserialize` reads the one value that is spelled at the front, or answers a fault where there
-/// is none or where memory was refused. What a fault leaves eaten is open; [`ParseBuf::parse`]
-/// settles it for values of one size.
+/// is none or where memory was refused. Which fault comes where is the type's `refusal`. What a
+/// fault leaves eaten is open; [`ParseBuf::parse`] settles it for values of one size.
 pub trait MyDeserialize<'de>: Sized {
     /// How many bytes every value takes, or None. It is that of `Size`.
     const SIZE: Option<usize>;
@@ -58,6 +58,9 @@ pub trait MyDeserialize<'de>: Sized {
     /// The two values are the same, wherever the bytes lie that they show.
     ghost same: { Self → Self → Type 0 };
 
+    /// In this context these bytes are refused with this fault.
+    ghost refusal: { Self.Ctx → List ℕ → Self.Fault → Type 0 };
+
     /// The fault is want of memory.
     ghost is_memory: { Self.Fault → Type 0 };
 
@@ -69,7 +72,8 @@ pub trait MyDeserialize<'de>: Sized {
     ) -> Result<Self, Self::Fault>
         requires { HasRoom Self.Size.SIZE (length buf.old.0.now) }
         ensures ok { IfOk result (λ v. Reads (spells ctx) same v buf.old.0.now buf.new.0.now) }
-        ensures err { IfErr result (λ e. is_memory e ⊎ Lacks (spells ctx) buf.old.0.now) };
+        ensures err { IfErr result (λ e. is_memory e ⊎ Lacks (spells ctx) buf.old.0.now) }
+        ensures why { IfErr result (λ e. refusal ctx buf.old.0.now e) };
 
     /// A spelling has the size.
     ghost sized: { (ctx : Self.Ctx) (v : Self) (bytes rest : List ℕ) → spells ctx v bytes rest → HasSize Self.Size.SIZE (length bytes) };
@@ -83,9 +87,14 @@ pub trait MySerialize {
     /// What is written for the value, or None where its form can't hold it.
     ghost spelling: { Self → Option (List ℕ) };
 
+    /// The bytes spell the value, or what its form keeps of it, and no fewer bytes do.
+    ghost is_shortest: { Self → List ℕ → Type 0 };
+
     /// Appends the value's bytes to `buf`, on the buffer's own allocator. A refusal leaves the
     /// bytes of `buf` as they were: `Memory`, or `Form` where the form can't hold the value.
     fn serialize<A: Allocator>(&self, buf: &mut Vec<u8, A>) -> Result<(), WireFault>
         ensures ok { OnOk result (Appends spelling self.now buf.old.items buf.new.items) }
+        ensures shortest { OnOk result
+            (AppendsOf (is_shortest self.now) buf.old.items buf.new.items) }
         ensures err { IfErr result (λ e. Refuses spelling self.now e buf.old.items buf.new.items) };
 }

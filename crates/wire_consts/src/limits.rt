@@ -1,4 +1,4 @@
-// Lengths of the packet protocol and character sets that the protocol itself names.
+//! Lengths of the packet protocol and character sets that the protocol itself names.
 
 /// The most bytes of payload in one chunk of a packet: 2^24 - 1, the greatest length that a packet header
 /// can hold. A payload that is longer, or as long, goes on in a further chunk.

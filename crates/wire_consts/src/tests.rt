@@ -20,15 +20,40 @@ fn column_types_and_back(rt: HostRuntime) {
     assert_eq!(rt; known, 34);
 }
 
-// Numbers of commands that MySQL's manual gives.
+// The numbers that MySQL's manual gives the commands, each of them.
 #[test]
 fn command_numbers(rt: HostRuntime) {
     let numbers = [
         (Command::COM_SLEEP, 0),
+        (Command::COM_QUIT, 1),
+        (Command::COM_INIT_DB, 2),
         (Command::COM_QUERY, 3),
+        (Command::COM_FIELD_LIST, 4),
+        (Command::COM_CREATE_DB, 5),
+        (Command::COM_DROP_DB, 6),
+        (Command::COM_REFRESH, 7),
+        (Command::COM_DEPRECATED_1, 8),
+        (Command::COM_STATISTICS, 9),
+        (Command::COM_PROCESS_INFO, 10),
+        (Command::COM_CONNECT, 11),
+        (Command::COM_PROCESS_KILL, 12),
+        (Command::COM_DEBUG, 13),
         (Command::COM_PING, 14),
+        (Command::COM_TIME, 15),
+        (Command::COM_DELAYED_INSERT, 16),
+        (Command::COM_CHANGE_USER, 17),
         (Command::COM_BINLOG_DUMP, 18),
+        (Command::COM_TABLE_DUMP, 19),
+        (Command::COM_CONNECT_OUT, 20),
+        (Command::COM_REGISTER_SLAVE, 21),
+        (Command::COM_STMT_PREPARE, 22),
         (Command::COM_STMT_EXECUTE, 23),
+        (Command::COM_STMT_SEND_LONG_DATA, 24),
+        (Command::COM_STMT_CLOSE, 25),
+        (Command::COM_STMT_RESET, 26),
+        (Command::COM_SET_OPTION, 27),
+        (Command::COM_STMT_FETCH, 28),
+        (Command::COM_DAEMON, 29),
         (Command::COM_BINLOG_DUMP_GTID, 30),
         (Command::COM_RESET_CONNECTION, 31),
     ];

@@ -1,12 +1,20 @@
 -- Fields whose bytes are always the same, or mean nothing, and fields of one of two forms.
-use Rattle.std.proofs.Common.{◌≡◌, ◌≤◌, ◌⊎◌, inl, inr, ℕ, List, length, take, drop, sym, ◌∙◌, Result, IsErr, IsErrAnd, IfErr}
+use Rattle.std.proofs.Common.{◌≡◌, ◌≤◌, ◌⊎◌, inl, inr, ℕ, List, length, take, drop, refl, sym, ◌∙◌, Result, IsErr, IsErrAnd, IfErr}
 use Rattle.std.specs.Bool.{⊤}
 use Rattle.std.proofs.lemmas.List.{take-append-drop, length-take-le}
 use Rattle.wire_buf.specs.Spelling.{Begins, Reads, Lacks, Alone, Equal, IsBytes}
 use Rattle.wire_buf.proofs.SpellingLemmas.{split_front, IfErr-of_part}
+use Rattle.wire_buf.specs.declared.fault.WireFault.{WireFault}
+use Rattle.wire_buf.specs.declared.fault.WireFault.TheVariants.{BadConst}
+use Rattle.wire_forms.specs.Consts.{ConstRefusal}
 use Rattle.wire_forms.specs.Eithers.{IsEither, SameEither}
 use Rattle.wire_forms.specs.declared.either.Either.{Either}
 use Rattle.wire_forms.specs.declared.either.Either.TheVariants.{Left, Right}
+
+-- a value stands there that is no constant
+pub unknown_stands : {N : Type 0} (unknown : N → Type 0) (spells : N → List ℕ → Type 0) (fault_at : List ℕ → WireFault) (v : N) (x r : List ℕ)
+    → Reads (Alone spells) Equal v x r → unknown v → ConstRefusal unknown spells fault_at x BadConst
+unknown_stands unknown spells fault_at v x r p none = inr (record { value = v; after = r; begins = p.begins; holds = none }, refl)
 
 -- n bytes as they stand
 pub bytes_read : (n : ℕ) (v x r : List ℕ) → n ≤ length x → v ≡ take n x → r ≡ drop n x → Reads (Alone (IsBytes n)) Equal v x r

@@ -1,5 +1,5 @@
 -- Byte strings that end in a zero, and strings behind a VarLen.
-use Rattle.std.proofs.Common.{◌≡◌, ◌≢◌, ◌≤◌, ◌<◌, ◌++◌, ℕ, List, [], ◌∷◌, length, take, drop, slice_index, get_or, zero, suc, drop-cons, arith, refl, sym, ap, ◌∙◌, inl, inr, Some, Result, IsErr, IsErrAnd, IfErr}
+use Rattle.std.proofs.Common.{◌≡◌, ◌≢◌, ◌≤◌, ◌<◌, ◌++◌, ℕ, List, [], ◌∷◌, length, take, drop, slice_index, get_or, zero, suc, drop-cons, arith, refl, sym, ap, subst, ◌∙◌, ◌^◌, inl, inr, Some, None, Result, Ok, Err, OnOk, Bool, true, false, nat_lt, if◌then◌else◌, IsErr, IsErrAnd, IfErr}
 use Rattle.std.specs.Bool.{⊤}
 use Rattle.std.proofs.lemmas.List.{take-append-drop, length-take-le, append_assoc}
 use Rattle.std.proofs.lemmas.Result.{err_from_is_err_and}
@@ -10,16 +10,16 @@ use Rattle.std.proofs.lemmas.Bool.{cases_order}
 use Rattle.std.proofs.lemmas.Bool.Decides.{Decides-eqb, eqb_tells}
 use Rattle.memchr.specs.Find.{NoneBefore, Passes, is_byte}
 use Rattle.wire_buf.specs.Spelling.{Reads, Lacks, Alone, Equal}
-use Rattle.wire_buf.specs.Numbers.{IsCounted}
+use Rattle.wire_buf.specs.Numbers.{IsCounted, IsLittle}
 use Rattle.wire_buf.specs.Writing.{Writes}
 use Rattle.wire_buf.specs.declared.fault.WireFault.{WireFault}
 use Rattle.wire_buf.specs.declared.fault.WireFault.TheVariants.{Eof}
 use Rattle.wire_buf.proofs.SpellingLemmas.{split_front}
 use Rattle.wire_buf.proofs.StringLemmas.{Lacks-count, Lacks-counted}
 use Rattle.wire_ints.specs.Sevens.{IsVarLen, varlen_spelling}
-use Rattle.wire_ints.specs.Faults.{varlen_fault}
+use Rattle.wire_ints.specs.Strings.{counted_bytes, counted_spelling}
 use Rattle.wire_ints.proofs.WritingLemmas.{counted_least}
-use Rattle.wire_forms.specs.Texts.{IsNullEnded, before_zero, WritesText, varlen_string_spelling, IsVarlenStringFault}
+use Rattle.wire_forms.specs.Texts.{IsNullEnded, before_zero, WritesText, varlen_string_spelling, CountedRefusal}
 
 -- the bytes before the first zero
 pub null_reads : (x : List ℕ) (k : ℕ) (v m r : List ℕ) → NoneBefore (Passes (is_byte 0) x) 0 (length x) k × Passes (is_byte 0) x k
@@ -104,14 +104,36 @@ varlen_writes s t old mid new e w last =
       least = λ ctx other rest h are. shortest.least other h are;
     }))
 
--- the fault of a length that is no VarLen
-pub varlen_refused : {T : Type 0} (x : List ℕ) (r : Result T WireFault) (e : WireFault) → IsErr r × IsErrAnd r (λ y. y ≡ e)
-    → Lacks (Alone IsVarLen) x × (e ≡ varlen_fault x) → IfErr r (λ y. Lacks (Alone (IsCounted IsVarLen)) x × IsVarlenStringFault x y)
-varlen_refused x r e h l =
-    let p = err_from_is_err_and r h.1 in
-    rw (p.1, p.2) (Lacks-count IsVarLen x l.0, inl l)
+some_if : {A : Type 0} (b : Bool) (x y : A) → (if b then Some x else None) ≡ Some y → x ≡ y
+some_if true x y e = cc e
+some_if false x y e = absurd (cc e)
 
--- a length stands there, and fewer bytes behind it
-pub varlen_short : (n : ℕ) (x m : List ℕ) → Reads (Alone IsVarLen) Equal n x m → length m < n
-    → Lacks (Alone (IsCounted IsVarLen)) x × IsVarlenStringFault x Eof
-varlen_short n x m p short = (Lacks-counted IsVarLen n x m p short, inr (record { value = n; after = m; begins = p.begins }, refl))
+-- a string behind a count that it fits is written
+pub counted_writes : (n : ℕ) (t old new : List ℕ) → Writes (counted_spelling n) (IsCounted (IsLittle n)) t old new
+    → WritesText {C = Unit {0}} (λ ctx. Alone (IsCounted (IsLittle n))) (λ ctx v rest. ⊤) (counted_bytes n t) t old new
+counted_writes n t old new w =
+    let e = some_if (nat_lt (length t) (256 ^ n)) (counted_bytes n t) w.bytes w.is in
+    rw e (record {
+      appended = w.appended;
+      is = λ ctx rest h. w.least.is;
+      least = λ ctx other rest h are. w.least.least other h are;
+    })
+
+-- what a writer wrote is still there after its answer was looked at
+pub still_written : {E : Type 0} (P : List ℕ → Type 0) (Q : Type 0) (r w : Result (Unit {0}) E) (mid new : List ℕ) → r ≡ w → OnOk w (P mid)
+    → OnOk r (new ≡ mid) → (P new → Q) → OnOk r Q
+still_written P Q (Ok u) w mid new e h same last = last (subst P (sym same) (subst (λ v. OnOk v (P mid)) (sym e) h))
+still_written P Q (Err f) w mid new e h same last = tt
+
+module _ (counts : ℕ → List ℕ → Type 0) (fault_at : List ℕ → WireFault) where
+  -- the fault of a length that isn't there
+  pub count_refused : {T : Type 0} (x : List ℕ) (r : Result T WireFault) (e : WireFault) → IsErr r × IsErrAnd r (λ y. y ≡ e)
+      → Lacks (Alone counts) x × (e ≡ fault_at x) → IfErr r (λ y. Lacks (Alone (IsCounted counts)) x × CountedRefusal counts fault_at x y)
+  count_refused x r e h l =
+      let p = err_from_is_err_and r h.1 in
+      rw (p.1, p.2) (Lacks-count counts x l.0, inl l)
+
+  -- a length stands there, and fewer bytes behind it
+  pub count_short : (n : ℕ) (x m : List ℕ) → Reads (Alone counts) Equal n x m → length m < n
+      → Lacks (Alone (IsCounted counts)) x × CountedRefusal counts fault_at x Eof
+  count_short n x m p short = (Lacks-counted counts n x m p short, inr (record { value = n; after = m; begins = p.begins }, refl))

@@ -1,10 +1,11 @@
--- Constants as their numbers: the law of a type of constants, from what its conversion says of a number and its constant.
-use Rattle.std.specs.Prelude.{◌≡◌, Result, Ok, Err, MatchResult}
-use Rattle.std.proofs.Common.{sym}
-use Rattle.wire_consts.specs.Numbering.{IsConstantOf}
+-- Where which fault comes in the place of a constant.
+use Rattle.std.specs.Prelude.{◌≡◌, ◌⊎◌, ℕ, List}
+use Rattle.wire_buf.specs.declared.fault.WireFault.{WireFault}
+use Rattle.wire_buf.specs.declared.fault.WireFault.TheVariants.{BadConst}
+use Rattle.wire_buf.specs.Spelling.{Alone, Lacks}
+use Rattle.wire_buf.specs.Refusals.{Behind}
 
--- a conversion that takes a number as the constant that has it, and else refuses, has the law of `Constant`
-pub reads_constant : {C E N : Type 0} (number : C → N) (refused : E → N) (n : N) (r : Result C E) → IsConstantOf number refused n r
-    → MatchResult r (λ v. n ≡ number v) (λ e. (v : C) → n ≡ number v → ⊥)
-reads_constant number refused n (Ok constant) h = sym h
-reads_constant number refused n (Err unknown) h = λ constant is. h.1 constant (sym is)
+-- no number stands there, with the fault of the number, or one stands there that is no constant, with `BadConst`
+abbrev pub ConstRefusal : {N : Type 0} → (N → Type 0) → (N → List ℕ → Type 0) → (List ℕ → WireFault) → List ℕ → WireFault → Type 0
+ConstRefusal unknown spells fault_at x fault =
+    (Lacks (Alone spells) x × (fault ≡ fault_at x)) ⊎ (Behind (Alone spells) (λ n rest. unknown n) x × (fault ≡ BadConst))

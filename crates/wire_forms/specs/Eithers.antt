@@ -16,9 +16,20 @@ SameEither first second (Left v) (Left w) = first v w
 SameEither first second (Right v) (Right w) = second v w
 SameEither first second v w = ⊥
 
+-- what is refused on the side of the context
+abbrev pub EitherRefusal : {C D E : Type 0} → (C → List ℕ → E → Type 0) → (D → List ℕ → E → Type 0) → Either C D → List ℕ → E → Type 0
+EitherRefusal first second (Left c) x fault = first c x fault
+EitherRefusal first second (Right d) x fault = second d x fault
+
+-- the bytes that are written for either side
 abbrev pub either_spelling : {A B : Type 0} → (A → Option (List ℕ)) → (B → Option (List ℕ)) → Either A B → Option (List ℕ)
 either_spelling first second (Left v) = first v
 either_spelling first second (Right w) = second w
+
+-- the bytes are a shortest spelling of the side that is there
+abbrev pub IsShortestEither : {A B : Type 0} → (A → List ℕ → Type 0) → (B → List ℕ → Type 0) → Either A B → List ℕ → Type 0
+IsShortestEither first second (Left v) bytes = first v bytes
+IsShortestEither first second (Right w) bytes = second w bytes
 
 abbrev pub IsLeft : {A B : Type 0} → Either A B → Type 0
 IsLeft (Left v) = ⊤

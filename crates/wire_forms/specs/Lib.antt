@@ -2,3 +2,4 @@ pub mod Texts
 pub mod Eithers
 pub mod Consts
 pub mod Overwritten
+pub mod RawTexts

@@ -3,8 +3,7 @@ use Rattle.std.specs.Prelude.{◌≡◌, ◌≢◌, ◌++◌, ◌<◌, ◌≤◌
 use Rattle.wire_buf.specs.Spelling.{AreBytes, Alone, Stands, Lacks}
 use Rattle.wire_buf.specs.declared.fault.WireFault.{WireFault}
 use Rattle.wire_buf.specs.declared.fault.WireFault.TheVariants.{Eof}
-use Rattle.wire_ints.specs.Sevens.{IsVarLen, varlen_spelling}
-use Rattle.wire_ints.specs.Faults.{varlen_fault}
+use Rattle.wire_ints.specs.Sevens.{varlen_spelling}
 
 -- all that is left
 pub record IsAll (v bytes rest : List ℕ) : Type 0 where
@@ -28,10 +27,15 @@ padded n v = take n v ++ replicate (n - length v) 0
 abbrev pub varlen_string_spelling : List ℕ → List ℕ
 varlen_string_spelling v = varlen_spelling (length v) ++ v
 
--- where no string behind a VarLen stands: the fault of a length that is no number, or `Eof` where its bytes are missing
-abbrev pub IsVarlenStringFault : List ℕ → WireFault → Type 0
-IsVarlenStringFault x fault =
-    (Lacks (Alone IsVarLen) x × (fault ≡ varlen_fault x)) ⊎ (Stands (Alone IsVarLen) x × (fault ≡ Eof))
+-- where no string behind its length stands: the fault of a length that isn't there, or `Eof` where a length is and its bytes are missing
+abbrev pub CountedRefusal : (ℕ → List ℕ → Type 0) → (List ℕ → WireFault) → List ℕ → WireFault → Type 0
+CountedRefusal counts fault_at x fault =
+    (Lacks (Alone counts) x × (fault ≡ fault_at x)) ⊎ (Stands (Alone counts) x × (fault ≡ Eof))
+
+-- The bytes spell the text in each context, before each rest, that suits it, and no spelling of it is shorter.
+pub record IsShortestText {C : Type 0} (spells : C → List ℕ → List ℕ → List ℕ → Type 0) (suits : C → List ℕ → List ℕ → Type 0) (text bytes : List ℕ) : Type 0 where
+  pub is : (ctx : C) (rest : List ℕ) → suits ctx text rest → spells ctx text bytes rest
+  pub least : (ctx : C) (other rest : List ℕ) → spells ctx text other rest → AreBytes other → length bytes ≤ length other
 
 -- The bytes of a text are appended: they spell it in each context, before each rest, that suits it, and no spelling of it is shorter.
 pub record WritesText {C : Type 0} (spells : C → List ℕ → List ℕ → List ℕ → Type 0) (suits : C → List ℕ → List ℕ → Type 0) (bytes text old new : List ℕ) : Type 0 where

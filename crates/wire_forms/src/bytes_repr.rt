@@ -1,5 +1,5 @@
 ghost use Rattle.std.specs.Prelude.{◌≡◌, ⊤, List, ℕ, length, OnOk, IfOk, IfErr};
-ghost use Rattle.std.specs.Cow.{cow_slice_items};
+ghost use Rattle.std.specs.Cow.{cow_slice_items, IsBorrowedSlice};
 ghost use Rattle.wire_buf.specs.Spelling.{Reads, Lacks, HasSize, HasRoom, Equal};
 ghost use Rattle.wire_buf.specs.declared.fault.WireFault.{WireFault};
 ghost use Rattle.wire_buf.specs.declared.fault.WireFault.TheVariants.{Eof, Memory};
@@ -45,6 +45,7 @@ pub trait BytesRepr {
         requires { HasRoom Self.Size.SIZE (length buf.old.0.now) }
         ensures ok { IfOk result
             (λ v. Reads (spells ctx) Equal (cow_slice_items v) buf.old.0.now buf.new.0.now) }
+        ensures borrowed { IfOk result (λ v. IsBorrowedSlice v) }
         ensures err { IfErr result
             (λ e. Lacks (spells ctx) buf.old.0.now × is_fault buf.old.0.now e) };
 

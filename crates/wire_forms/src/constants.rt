@@ -2,7 +2,6 @@
 
 ghost use Rattle.wire_consts.specs.ColumnTypes.{column_type_number};
 ghost use Rattle.wire_consts.specs.Constants.{geometry_type_number, item_result_number};
-ghost use Rattle.wire_forms.specs.Consts.{reads_constant};
 
 use crate::consts::Constant;
 use wire_consts::{ColumnType, GeometryType, ItemResult};
@@ -14,7 +13,9 @@ impl Constant<u8> for ColumnType {
         u8::from(self)
     }
 
-    ghost reads_number = { reads_constant column_type_number (λ unknown. unknown.0) };
+    ghost takes = { λ n v h. h };
+
+    ghost refuses = { λ n e h. h.1 };
 }
 
 impl Constant<u8> for GeometryType {
@@ -24,7 +25,9 @@ impl Constant<u8> for GeometryType {
         self as u8
     }
 
-    ghost reads_number = { reads_constant geometry_type_number (λ unknown. unknown.0) };
+    ghost takes = { λ n v h. h };
+
+    ghost refuses = { λ n e h. h.1 };
 }
 
 impl Constant<i8> for ItemResult {
@@ -34,5 +37,7 @@ impl Constant<i8> for ItemResult {
         self as i8
     }
 
-    ghost reads_number = { reads_constant item_result_number (λ unknown. unknown.0) };
+    ghost takes = { λ n v h. h };
+
+    ghost refuses = { λ n e h. h.1 };
 }

@@ -1,11 +1,12 @@
 //! Constants as their numbers: kept raw, or taken as the constant.
 
-ghost use Rattle.std.specs.Prelude.{◌≡◌, Result, MatchResult, MatchOption};
+ghost use Rattle.std.specs.Prelude.{◌≡◌, Ok, Err, MatchOption};
 ghost use Rattle.std.specs.Borrow.{Lends, sem};
 ghost use Rattle.wire_forms.specs.contracts.consts.Const.{the_row as const_row};
 ghost use Rattle.wire_forms.specs.contracts.consts.RawConst.{the_row as raw_const_row};
-ghost use Rattle.wire_forms.specs.Overwritten.{with_value, with_number};
-ghost use Rattle.wire_buf.specs.Spelling.{Alone, Equal, Holding, SameBy};
+ghost use Rattle.wire_forms.specs.Overwritten.{with_value, with_raw_number};
+ghost use Rattle.wire_buf.specs.Spelling.{Alone, Equal, Holding, SameBy, IsShortest, Lacks};
+ghost use Rattle.wire_forms.specs.Consts.{ConstRefusal};
 ghost use Rattle.wire_buf.specs.declared.fault.WireFault.TheVariants.{Memory};
 
 use std::alloc::{Allocator, Global};
@@ -24,8 +25,11 @@ pub trait Constant<P>: TryFrom<P> + Copy {
     fn to_number(self) -> P
         ensures { result ≡ number self };
 
-    /// `TryFrom` answers the value that has the number, or refuses where none has it.
-    ghost reads_number: { (n : P) (r : Result Self Self.Error) → Self.TryFrom.try_from_gives n r → MatchResult r (λ v. n ≡ number v) (λ e. (v : Self) → n ≡ number v → ⊥) };
+    /// `TryFrom` answers the value that has the number.
+    ghost takes: { (n : P) (v : Self) → Self.TryFrom.try_from_gives n (Ok v) → number v ≡ n };
+
+    /// `TryFrom` refuses a number that no value has.
+    ghost refuses: { (n : P) (e : Self.Error) → Self.TryFrom.try_from_gives n (Err e) → (v : Self) → number v ≡ n → ⊥ };
 }
 
 /// A number in the representation `T`, for a constant of the type `U`. It is kept also where no
@@ -67,7 +71,7 @@ impl<T: IntRepr, U> DerefMut for RawConst<T, U> {
 
     /// What is written through the reference is the number from then on.
     fn deref_mut(&mut self) -> &mut T::Primitive
-        ensures* writes_back { sem 𝓛 (Lends (raw_const_row T.row U.row T.Size.row T.Primitive.row) T.Primitive.row self.entry result (with_number self.old)) }
+        ensures* writes_back { sem 𝓛 (Lends (raw_const_row T.row U.row T.Size.row T.Primitive.row) T.Primitive.row self.entry result (with_raw_number self.old)) }
         ensures value { result.now ≡ self.old.0 }
     {
         &mut self.0
@@ -86,6 +90,8 @@ impl<'de, T: IntRepr, U> MyDeserialize<'de> for RawConst<T, U> {
     ghost spells = { λ ctx. Holding (λ v. v.0) (Alone T.spells) };
 
     ghost same = { SameBy (λ v. v.0) Equal };
+
+    ghost refusal = { λ ctx x e. Lacks (Alone T.spells) x × (e ≡ T.fault_at x) };
 
     ghost is_memory = { λ e. e ≡ Memory };
 
@@ -106,6 +112,9 @@ impl<'de, T: IntRepr, U> MyDeserialize<'de> for RawConst<T, U> {
 impl<T: IntRepr, U> MySerialize for RawConst<T, U> {
     ghost spelling = { λ v. T.spelling (T.kept v.0) };
 
+    ghost is_shortest = { λ v. IsShortest T.spells (T.kept v.0) };
+
+    #[tactic(auto, using(wire_buf::proofs::SpellingLemmas::writes_shortest))]
     fn serialize<A: Allocator>(&self, buf: &mut Vec<u8, A>) -> Result<(), WireFault> {
         T::serialize(self.0, buf)
     }
@@ -164,6 +173,8 @@ where
 
     ghost same = { SameBy (λ v. T.number v.0) Equal };
 
+    ghost refusal = { λ ctx. ConstRefusal (λ n. (v : _) → T.number v ≡ n → ⊥) U.spells U.fault_at };
+
     ghost is_memory = { λ e. e ≡ Memory };
 
     fn deserialize(
@@ -186,6 +197,9 @@ where
 impl<U: IntRepr, T: Constant<U::Primitive>> MySerialize for Const<T, U> {
     ghost spelling = { λ v. U.spelling (U.kept (T.number v.0)) };
 
+    ghost is_shortest = { λ v. IsShortest U.spells (U.kept (T.number v.0)) };
+
+    #[tactic(auto, using(wire_buf::proofs::SpellingLemmas::writes_shortest))]
     fn serialize<A: Allocator>(&self, buf: &mut Vec<u8, A>) -> Result<(), WireFault> {
         U::serialize(self.0.to_number(), buf)
     }
@@ -195,7 +209,7 @@ impl<U: IntRepr, T: Constant<U::Primitive>> MySerialize for Const<T, U> {
 fn constant_of<P, T: Constant<P>>(number: P) -> Option<T>
 where
     <T as TryFrom<P>>::Error: Drop,
-    ensures { MatchOption result ((v : _) → number ≡ T.number v → ⊥) (λ v. number ≡ T.number v) }
+    ensures { MatchOption result ((v : _) → T.number v ≡ number → ⊥) (λ v. T.number v ≡ number) }
 {
     T::try_from(number).ok()
 }

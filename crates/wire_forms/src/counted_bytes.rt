@@ -1,12 +1,12 @@
 //! Strings behind a count of their bytes.
 
-ghost use Rattle.std.specs.Prelude.{◌≡◌, ◌≤◌, length, take};
+ghost use Rattle.std.specs.Prelude.{◌≡◌, take, OnOk, OnErr};
 ghost use Rattle.wire_buf.specs.Spelling.{Alone};
-ghost use Rattle.wire_buf.specs.Numbers.{IsCounted, IsLenencString, IsShortString, IsLongString};
+ghost use Rattle.wire_buf.specs.Numbers.{IsCounted, IsLenenc, IsLenencString, IsShortString, IsLongString};
 ghost use Rattle.wire_ints.specs.Strings.{lenenc_string_spelling, counted_bytes};
 ghost use Rattle.wire_ints.specs.Sevens.{IsVarLen};
-ghost use Rattle.wire_ints.specs.Faults.{lenenc_fault};
-ghost use Rattle.wire_forms.specs.Texts.{varlen_string_spelling, IsVarlenStringFault};
+ghost use Rattle.wire_ints.specs.Faults.{lenenc_fault, varlen_fault};
+ghost use Rattle.wire_forms.specs.Texts.{varlen_string_spelling, CountedRefusal};
 
 use crate::bytes_repr::BytesRepr;
 use std::alloc::Allocator;
@@ -41,11 +41,8 @@ impl BytesRepr for U8Bytes {
 
     fn serialize<A: Allocator>(text: &[u8], buf: &mut Vec<u8, A>) -> Result<(), WireFault> {
         let start = buf.len();
-        if let Err(fault) = buf.put_u8_str(text) {
-            buf.truncate(start);
-            return Err(fault);
-        }
-        Ok(())
+        let written = buf.put_u8_str(text);
+        whole_or_none(written, start, buf)
     }
 
     ghost sized = { λ ctx v bytes rest h. tt };
@@ -71,11 +68,8 @@ impl BytesRepr for U32Bytes {
 
     fn serialize<A: Allocator>(text: &[u8], buf: &mut Vec<u8, A>) -> Result<(), WireFault> {
         let start = buf.len();
-        if let Err(fault) = buf.put_u32_str(text) {
-            buf.truncate(start);
-            return Err(fault);
-        }
-        Ok(())
+        let written = buf.put_u32_str(text);
+        whole_or_none(written, start, buf)
     }
 
     ghost sized = { λ ctx v bytes rest h. tt };
@@ -93,35 +87,23 @@ impl BytesRepr for LenEnc {
 
     ghost spelling = { lenenc_string_spelling };
 
-    ghost is_fault = { λ x fault. fault ≡ lenenc_fault x };
+    ghost is_fault = { CountedRefusal IsLenenc lenenc_fault };
 
     fn deserialize<'de>(_ctx: (), buf: &mut ParseBuf<'de>) -> Result<CowSlice<'de, u8>, WireFault> {
-        let Some(bytes) = buf.checked_eat_lenenc_str() else {
-            return Err(length_fault(buf));
+        let length = <LenEnc as IntRepr>::deserialize(buf)?;
+        let Some(bytes) = buf.checked_eat(length as usize) else {
+            return Err(WireFault::Eof);
         };
         Ok(CowSlice::Borrowed(bytes))
     }
 
     fn serialize<A: Allocator>(text: &[u8], buf: &mut Vec<u8, A>) -> Result<(), WireFault> {
         let start = buf.len();
-        if let Err(fault) = buf.put_lenenc_str(text) {
-            buf.truncate(start);
-            return Err(fault);
-        }
-        Ok(())
+        let written = buf.put_lenenc_str(text);
+        whole_or_none(written, start, buf)
     }
 
     ghost sized = { λ ctx v bytes rest h. tt };
-}
-
-/// Why no length-encoded string stands there.
-fn length_fault(buf: &ParseBuf<'_>) -> WireFault
-    ensures { result ≡ lenenc_fault buf.now.0.now }
-{
-    match buf.0.first() {
-        Some(251 | 255) => WireFault::BadNumber,
-        _ => WireFault::Eof,
-    }
 }
 
 /// A string behind its length as a `VarLen`. Of a longer one the first 4,294,967,295 bytes are
@@ -139,7 +121,7 @@ impl BytesRepr for VarLen {
 
     ghost spelling = { varlen_string_spelling };
 
-    ghost is_fault = { IsVarlenStringFault };
+    ghost is_fault = { CountedRefusal IsVarLen varlen_fault };
 
     fn deserialize<'de>(_ctx: (), buf: &mut ParseBuf<'de>) -> Result<CowSlice<'de, u8>, WireFault> {
         let length = <VarLen as IntRepr>::deserialize(buf)?;
@@ -151,7 +133,7 @@ impl BytesRepr for VarLen {
 
     fn serialize<A: Allocator>(text: &[u8], buf: &mut Vec<u8, A>) -> Result<(), WireFault> {
         let start = buf.len();
-        let text = cut(text, 0xffff_ffff);
+        let text = &text[..text.len().min(0xffff_ffff)];
         <VarLen as IntRepr>::serialize(text.len() as u32, buf)?;
         let Ok(()) = buf.extend_from_slice(text) else {
             buf.truncate(start);
@@ -163,10 +145,18 @@ impl BytesRepr for VarLen {
     ghost sized = { λ ctx v bytes rest h. tt };
 }
 
-/// The first `max` bytes of the text, or all there are.
-fn cut(text: &[u8], max: usize) -> &[u8]
-    ensures value { result.now ≡ take max text.now }
-    ensures size { length result.now ≤ max }
+/// The answer of a writer. Where it is a refusal, what was written past `start` is taken back.
+fn whole_or_none<A: Allocator>(
+    written: Result<(), WireFault>,
+    start: usize,
+    buf: &mut Vec<u8, A>,
+) -> Result<(), WireFault>
+    ensures answer { result ≡ written }
+    ensures ok { OnOk result (buf.new.items ≡ buf.old.items) }
+    ensures err { OnErr result (buf.new.items ≡ take start buf.old.items) }
 {
-    &text[..text.len().min(max)]
+    if written.is_err() {
+        buf.truncate(start);
+    }
+    written
 }

@@ -1,6 +1,8 @@
 ghost use Rattle.std.specs.Prelude.{◌≡◌, ◌⊎◌, IfOk, IfErr};
 ghost use Rattle.wire_buf.specs.Spelling.{Reads, Lacks};
-ghost use Rattle.wire_forms.specs.Eithers.{IsEither, SameEither, either_spelling, IsLeft, IsRight};
+ghost use Rattle.wire_forms.specs.Eithers.{IsEither, SameEither, either_spelling, IsShortestEither, IsLeft, IsRight, EitherRefusal};
+ghost use Rattle.wire_buf.specs.Refusals.{ParseRefusal};
+ghost use Rattle.wire_buf.specs.declared.fault.WireFault.TheVariants.{Eof};
 ghost use Rattle.wire_forms.specs.declared.either.Either.TheVariants as side;
 
 use std::alloc::{Allocator, Global};
@@ -53,6 +55,9 @@ impl<L, R> Either<L, R> {
             buf.old.0.now buf.new.0.now) }
         ensures err { IfErr result (λ e. (L.is_memory e ⊎ R.is_memory e)
             ⊎ Lacks (IsEither L.spells R.spells ctx) buf.old.0.now) }
+        ensures why { IfErr result (EitherRefusal
+            (λ c. ParseRefusal L.Size.SIZE (L.refusal c) (L.Fault.from_gives Eof))
+            (λ d. ParseRefusal R.Size.SIZE (R.refusal d) (L.Fault.from_gives Eof)) ctx buf.old.0.now) }
     {
         match ctx {
             Either::Left(ctx) => {
@@ -69,6 +74,8 @@ impl<L, R> Either<L, R> {
 
 impl<L: MySerialize, R: MySerialize> MySerialize for Either<L, R> {
     ghost spelling = { either_spelling L.spelling R.spelling };
+
+    ghost is_shortest = { IsShortestEither L.is_shortest R.is_shortest };
 
     fn serialize<A: Allocator>(&self, buf: &mut Vec<u8, A>) -> Result<(), WireFault> {
         match self {

@@ -1,10 +1,12 @@
 //! Fields whose bytes are always the same, or mean nothing.
 
-ghost use Rattle.std.specs.Prelude.{◌≡◌, ◌↔◌, ⊤, ℕ, List, length, replicate, IsTrue, Some};
+ghost use Rattle.std.specs.Prelude.{◌≡◌, ◌≢◌, ◌↔◌, ⊤, ℕ, List, length, replicate, IsTrue, Some};
 ghost use Rattle.byteorder.specs.Endian.{little_bytes};
-ghost use Rattle.wire_buf.specs.Spelling.{Alone, Equal, Holding, SameBy, IsBytes};
+ghost use Rattle.wire_buf.specs.Spelling.{Alone, Equal, Holding, SameBy, IsBytes, IsShortest};
+ghost use Rattle.wire_buf.specs.Refusals.{EndsBefore};
+ghost use Rattle.wire_forms.specs.Consts.{ConstRefusal};
 ghost use Rattle.wire_buf.specs.Numbers.{IsLittle};
-ghost use Rattle.wire_buf.specs.declared.fault.WireFault.TheVariants.{Memory};
+ghost use Rattle.wire_buf.specs.declared.fault.WireFault.TheVariants.{Eof, Memory};
 
 use crate::plain_bytes::append_zeros;
 use std::alloc::{Allocator, Global};
@@ -43,6 +45,8 @@ impl<'de, T, const VALUE: u8> MyDeserialize<'de> for ConstU8<T, VALUE> {
 
     ghost same = { SameBy (λ v. VALUE) Equal };
 
+    ghost refusal = { λ ctx. ConstRefusal (λ n. n ≢ VALUE) (IsLittle 1) (λ x. Eof) };
+
     ghost is_memory = { λ e. e ≡ Memory };
 
     fn deserialize(
@@ -64,6 +68,9 @@ impl<'de, T, const VALUE: u8> MyDeserialize<'de> for ConstU8<T, VALUE> {
 impl<T, const VALUE: u8> MySerialize for ConstU8<T, VALUE> {
     ghost spelling = { λ v. Some (little_bytes 1 VALUE) };
 
+    ghost is_shortest = { λ v. IsShortest (IsLittle 1) VALUE };
+
+    #[tactic(auto, using(crate::proofs::ShortestLemmas::number_shortest))]
     fn serialize<A: Allocator>(&self, buf: &mut Vec<u8, A>) -> Result<(), WireFault> {
         buf.extend_from_slice(&VALUE.to_le_bytes())?;
         Ok(())
@@ -96,6 +103,8 @@ impl<'de, T, const VALUE: u32> MyDeserialize<'de> for ConstU32<T, VALUE> {
 
     ghost same = { SameBy (λ v. VALUE) Equal };
 
+    ghost refusal = { λ ctx. ConstRefusal (λ n. n ≢ VALUE) (IsLittle 4) (λ x. Eof) };
+
     ghost is_memory = { λ e. e ≡ Memory };
 
     fn deserialize(
@@ -117,6 +126,9 @@ impl<'de, T, const VALUE: u32> MyDeserialize<'de> for ConstU32<T, VALUE> {
 impl<T, const VALUE: u32> MySerialize for ConstU32<T, VALUE> {
     ghost spelling = { λ v. Some (little_bytes 4 VALUE) };
 
+    ghost is_shortest = { λ v. IsShortest (IsLittle 4) VALUE };
+
+    #[tactic(auto, using(crate::proofs::ShortestLemmas::number_shortest))]
     fn serialize<A: Allocator>(&self, buf: &mut Vec<u8, A>) -> Result<(), WireFault> {
         buf.extend_from_slice(&VALUE.to_le_bytes())?;
         Ok(())
@@ -159,6 +171,8 @@ impl<'de, T: ConstBytesValue<LEN>, const LEN: usize> MyDeserialize<'de> for Cons
 
     ghost same = { SameBy (λ v. T.bytes) Equal };
 
+    ghost refusal = { λ ctx. ConstRefusal (λ bytes. bytes ≢ T.bytes) (IsBytes LEN) (λ x. Eof) };
+
     ghost is_memory = { λ e. e ≡ Memory };
 
     fn deserialize(
@@ -180,6 +194,9 @@ impl<'de, T: ConstBytesValue<LEN>, const LEN: usize> MyDeserialize<'de> for Cons
 impl<T: ConstBytesValue<LEN>, const LEN: usize> MySerialize for ConstBytes<T, LEN> {
     ghost spelling = { λ v. Some T.bytes };
 
+    ghost is_shortest = { λ v. IsShortest (IsBytes LEN) T.bytes };
+
+    #[tactic(auto, using(crate::proofs::ShortestLemmas::bytes_shortest))]
     fn serialize<A: Allocator>(&self, buf: &mut Vec<u8, A>) -> Result<(), WireFault> {
         buf.extend_from_slice(T::value())?;
         Ok(())
@@ -210,6 +227,8 @@ impl<'de, const LEN: usize> MyDeserialize<'de> for Skip<LEN> {
 
     ghost same = { λ v w. ⊤ };
 
+    ghost refusal = { λ ctx. EndsBefore LEN };
+
     ghost is_memory = { λ e. e ≡ Memory };
 
     fn deserialize(
@@ -228,6 +247,8 @@ impl<'de, const LEN: usize> MyDeserialize<'de> for Skip<LEN> {
 
 impl<const LEN: usize> MySerialize for Skip<LEN> {
     ghost spelling = { λ v. Some (replicate LEN 0) };
+
+    ghost is_shortest = { λ v bytes. length bytes ≡ LEN };
 
     fn serialize<A: Allocator>(&self, buf: &mut Vec<u8, A>) -> Result<(), WireFault> {
         append_zeros(LEN, buf)

@@ -1,7 +1,7 @@
 ghost use Rattle.std.specs.Prelude.{◌≡◌};
 ghost use Rattle.std.specs.Int.RustNames.{bit_and};
 ghost use Rattle.bitflags.specs.Sets.{known_bits};
-ghost use Rattle.wire_buf.specs.Spelling.{Alone, Equal, Holding, SameBy};
+ghost use Rattle.wire_buf.specs.Spelling.{Alone, Equal, Holding, SameBy, IsShortest, Lacks};
 ghost use Rattle.wire_buf.specs.declared.fault.WireFault.TheVariants.{Memory};
 
 use bitflags::Flags;
@@ -46,6 +46,8 @@ impl<'de, T: Flags, U: IntRepr> MyDeserialize<'de> for RawFlags<T, U> {
 
     ghost same = { SameBy (λ v. v.0) Equal };
 
+    ghost refusal = { λ ctx x e. Lacks (Alone U.spells) x × (e ≡ U.fault_at x) };
+
     ghost is_memory = { λ e. e ≡ Memory };
 
     fn deserialize(
@@ -65,6 +67,9 @@ impl<'de, T: Flags, U: IntRepr> MyDeserialize<'de> for RawFlags<T, U> {
 impl<T: Flags, U: IntRepr> MySerialize for RawFlags<T, U> {
     ghost spelling = { λ v. U.spelling (U.kept v.0) };
 
+    ghost is_shortest = { λ v. IsShortest U.spells (U.kept v.0) };
+
+    #[tactic(auto, using(wire_buf::proofs::SpellingLemmas::writes_shortest))]
     fn serialize<A: Allocator>(&self, buf: &mut Vec<u8, A>) -> Result<(), WireFault> {
         U::serialize(self.0, buf)
     }

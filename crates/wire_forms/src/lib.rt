@@ -14,7 +14,7 @@ mod counted_bytes;
 mod either;
 mod fixed;
 mod flags;
-mod laws;
+pub mod laws;
 mod plain_bytes;
 mod raw_bytes;
 #[cfg(test)]
@@ -26,6 +26,5 @@ pub use counted_bytes::{U8Bytes, U32Bytes};
 pub use either::Either;
 pub use fixed::{ConstBytes, ConstBytesValue, ConstU8, ConstU32, Skip};
 pub use flags::RawFlags;
-pub use laws::read_back_bytes;
 pub use plain_bytes::{BareBytes, BareU8Bytes, BareU16Bytes, EofBytes, FixedLengthText, NullBytes};
 pub use raw_bytes::RawBytes;

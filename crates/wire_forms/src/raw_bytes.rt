@@ -1,14 +1,17 @@
-ghost use Rattle.std.specs.Prelude.{◌≡◌, ◌↔◌, List, ℕ, [], length, IfOk, IsTrue, Some, None};
-ghost use Rattle.std.specs.Cow.{cow_slice_items, cow_str_bytes};
+ghost use Rattle.std.specs.Prelude.{◌≡◌, ◌⊎◌, ◌↔◌, List, ℕ, [], length, IfOk, IfErr, IsOkAnd, IsTrue, Some, None};
+ghost use Rattle.std.specs.Cow.{cow_slice_items, cow_str_bytes, IsOwnedSlice, IsBorrowedSlice, IsBorrowedStr};
 ghost use Rattle.std.specs.Str.{IsUtf8};
 ghost use Rattle.std.specs.Str.Lossy.{utf8_lossy};
-ghost use Rattle.wire_buf.specs.Spelling.{Holding, SameBy, Equal};
+ghost use Rattle.wire_buf.specs.Spelling.{Holding, SameBy, Equal, Reads, Lacks, HasRoom};
+ghost use Rattle.wire_forms.specs.Texts.{IsShortestText};
 ghost use Rattle.wire_buf.specs.declared.fault.WireFault.TheVariants.{Memory};
+ghost use Rattle.wire_forms.specs.RawTexts.{text_of};
 
 use crate::bytes_repr::BytesRepr;
 use std::alloc::{AllocError, Allocator, Global};
 use std::borrow::{CowSlice, CowStr};
 use std::marker::PhantomData;
+use std::str;
 use wire_buf::{MyDeserialize, MySerialize, ParseBuf, WireFault};
 
 /// A byte string in the representation `T`, as a field: borrowed from its source, or owned.
@@ -26,45 +29,52 @@ impl<'a, T: BytesRepr> RawBytes<'a, T> {
 
     /// How many bytes the string has.
     pub fn len(&self) -> usize
-        ensures { result ≡ length (cow_slice_items self.now.0) }
+        ensures { result ≡ length (text_of self.now) }
     {
         self.0.len()
     }
 
     /// Whether the string has no byte.
     pub fn is_empty(&self) -> bool
-        ensures { IsTrue result ↔ (cow_slice_items self.now.0 ≡ []) }
+        ensures { IsTrue result ↔ (text_of self.now ≡ []) }
     {
         self.0.is_empty()
     }
 
     /// The string's bytes.
     pub fn as_bytes(&self) -> &[u8]
-        ensures { result.now ≡ cow_slice_items self.now.0 }
+        ensures { result.now ≡ text_of self.now }
     {
         &self.0
     }
 
-    /// The string as text: as it stands where it is UTF-8, else with replacement characters.
+    /// The string as text: as it stands where it is UTF-8, which takes no memory, else with
+    /// replacement characters.
     pub fn as_str(&self, alloc: Global) -> Result<CowStr<'_>, AllocError>
         ensures text { IfOk result
-            (λ t. IsUtf8 (cow_slice_items self.now.0) → cow_str_bytes t ≡ cow_slice_items self.now.0) }
+            (λ t. IsUtf8 (text_of self.now) → cow_str_bytes t ≡ text_of self.now) }
         ensures lossy { IfOk result
-            (λ t. cow_str_bytes t ≡ utf8_lossy (cow_slice_items self.now.0)) }
+            (λ t. cow_str_bytes t ≡ utf8_lossy (text_of self.now)) }
+        ensures borrowed { IsUtf8 (text_of self.now)
+            → IsOkAnd result (λ t. IsBorrowedStr t) }
     {
-        Ok(CowStr::Owned(String::from_utf8_lossy(alloc, self.as_bytes())?))
+        match str::from_utf8(self.as_bytes()) {
+            Ok(text) => Ok(CowStr::Borrowed(text)),
+            Err(_) => Ok(CowStr::Owned(String::from_utf8_lossy(alloc, self.as_bytes())?)),
+        }
     }
 
     /// Whether the string has exactly these bytes.
     pub fn eq_bytes(&self, bytes: &[u8]) -> bool
-        ensures { IsTrue result ↔ (cow_slice_items self.now.0 ≡ bytes.now) }
+        ensures { IsTrue result ↔ (text_of self.now ≡ bytes.now) }
     {
         self.as_bytes() == bytes
     }
 
     /// The same string, in memory of its own.
     pub fn clone(&self, alloc: Global) -> Result<RawBytes<'static, T>, AllocError>
-        ensures { IfOk result (λ t. cow_slice_items t.0 ≡ cow_slice_items self.now.0) }
+        ensures text { IfOk result (λ t. text_of t ≡ text_of self.now) }
+        ensures owned { IfOk result (λ t. IsOwnedSlice t.0) }
     {
         let text = CowSlice::Borrowed(self.as_bytes()).into_owned(alloc)?;
         Ok(RawBytes(CowSlice::Owned(text), PhantomData))
@@ -72,14 +82,15 @@ impl<'a, T: BytesRepr> RawBytes<'a, T> {
 
     /// The same string, borrowed from nothing.
     pub fn into_owned(self, alloc: Global) -> Result<RawBytes<'static, T>, AllocError>
-        ensures { IfOk result (λ t. cow_slice_items t.0 ≡ cow_slice_items self.entry.0) }
+        ensures text { IfOk result (λ t. text_of t ≡ text_of self.entry) }
+        ensures owned { IfOk result (λ t. IsOwnedSlice t.0) }
     {
         Ok(RawBytes(CowSlice::Owned(self.0.into_owned(alloc)?), PhantomData))
     }
 }
 
 impl<'a, T: BytesRepr> From<CowSlice<'a, u8>> for RawBytes<'a, T> {
-    ghost from_gives = { λ text raw. cow_slice_items raw.0 ≡ cow_slice_items text };
+    ghost from_gives = { λ text raw. text_of raw ≡ cow_slice_items text };
 
     fn from(text: CowSlice<'a, u8>) -> RawBytes<'a, T> {
         RawBytes::new(text)
@@ -87,7 +98,7 @@ impl<'a, T: BytesRepr> From<CowSlice<'a, u8>> for RawBytes<'a, T> {
 }
 
 impl<'a, T: BytesRepr> From<&'a [u8]> for RawBytes<'a, T> {
-    ghost from_gives = { λ text raw. cow_slice_items raw.0 ≡ text.now };
+    ghost from_gives = { λ text raw. text_of raw ≡ text.now };
 
     fn from(text: &'a [u8]) -> RawBytes<'a, T> {
         RawBytes::new(CowSlice::Borrowed(text))
@@ -95,7 +106,7 @@ impl<'a, T: BytesRepr> From<&'a [u8]> for RawBytes<'a, T> {
 }
 
 impl<'a, T: BytesRepr> From<Vec<u8>> for RawBytes<'a, T> {
-    ghost from_gives = { λ text raw. cow_slice_items raw.0 ≡ text.items };
+    ghost from_gives = { λ text raw. text_of raw ≡ text.items };
 
     fn from(text: Vec<u8>) -> RawBytes<'a, T> {
         RawBytes::new(CowSlice::Owned(text))
@@ -111,29 +122,44 @@ impl<'de, T: BytesRepr> MyDeserialize<'de> for RawBytes<'de, T> {
 
     type Fault = WireFault;
 
-    ghost spells = { λ ctx. Holding (λ v. cow_slice_items v.0) (T.spells ctx) };
+    ghost spells = { λ ctx. Holding text_of (T.spells ctx) };
 
-    ghost same = { SameBy (λ v. cow_slice_items v.0) Equal };
+    ghost same = { SameBy text_of Equal };
+
+    ghost refusal = { λ ctx x e. Lacks (T.spells ctx) x × T.is_fault x e };
 
     ghost is_memory = { λ e. e ≡ Memory };
 
+    /// What is read is a part of the source.
     fn deserialize(
         _alloc: Global,
         ctx: T::Ctx,
         buf: &mut ParseBuf<'de>,
-    ) -> Result<RawBytes<'de, T>, WireFault> {
+    ) -> Result<RawBytes<'de, T>, WireFault>
+        requires { HasRoom T.Size.SIZE (length buf.old.0.now) }
+        ensures ok { IfOk result (λ v. Reads (Holding text_of (T.spells ctx)) (SameBy text_of Equal) v
+            buf.old.0.now buf.new.0.now) }
+        ensures borrowed { IfOk result (λ v. IsBorrowedSlice v.0) }
+        ensures err { IfErr result
+            (λ e. e ≡ Memory ⊎ Lacks (Holding (text_of {T = T} {S = T.Size} {C = T.Ctx}) (T.spells ctx)) buf.old.0.now) }
+        ensures why { IfErr result
+            (λ e. Lacks (T.spells ctx) buf.old.0.now × T.is_fault buf.old.0.now e) }
+    {
         let text = T::deserialize(ctx, buf)?;
         Ok(RawBytes::new(text))
     }
 
-    ghost sized = { λ ctx v bytes rest h. T.sized ctx (cow_slice_items v.0) bytes rest h };
+    ghost sized = { λ ctx v bytes rest h. T.sized ctx (text_of v) bytes rest h };
 
     ghost tells_memory = { λ f h. h };
 }
 
 impl<'a, T: BytesRepr> MySerialize for RawBytes<'a, T> {
-    ghost spelling = { λ v. Some (T.spelling (T.kept (cow_slice_items v.0))) };
+    ghost spelling = { λ v. Some (T.spelling (T.kept (text_of v))) };
 
+    ghost is_shortest = { λ v. IsShortestText T.spells T.suits (T.kept (text_of v)) };
+
+    #[tactic(auto, using(crate::proofs::ShortestLemmas::text_shortest))]
     fn serialize<A: Allocator>(&self, buf: &mut Vec<u8, A>) -> Result<(), WireFault> {
         T::serialize(self.as_bytes(), buf)
     }

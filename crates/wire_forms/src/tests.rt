@@ -5,7 +5,7 @@ ghost use Rattle.std.specs.Prelude.{[], ◌∷◌};
 use crate::{
     BareU8Bytes, BareU16Bytes, BytesRepr, Const, ConstBytes, ConstBytesValue, ConstU8, ConstU32,
     Either, EofBytes, FixedLengthText, NullBytes, RawBytes, RawConst, RawFlags, Skip, U8Bytes,
-    U32Bytes, read_back_bytes,
+    U32Bytes, laws,
 };
 use std::alloc::Global;
 use std::borrow::CowSlice;
@@ -79,6 +79,12 @@ fn counted_texts(rt: HostRuntime) -> Result<(), Fail> {
             .as_bytes(),
         b"a".as_slice()
     );
+    Ok(())
+}
+
+#[test]
+fn length_encoded_texts(rt: HostRuntime) -> Result<(), Fail> {
+    let alloc = rt.alloc();
     assert_eq!(rt;
         written::<LenEnc>(alloc, b"ab")?.as_slice(),
         b"\x02ab".as_slice()
@@ -97,8 +103,20 @@ fn counted_texts(rt: HostRuntime) -> Result<(), Fail> {
         parsed::<RawBytes<'_, LenEnc>>(alloc, b"\x02a").err(),
         Some(WireFault::Eof)
     );
+    assert_eq!(rt;
+        laws::read_back_bytes::<LenEnc>(alloc, (), b"abc")?.as_slice(),
+        b"abc".as_slice()
+    );
+    Ok(())
+}
+
+#[test]
+fn long_texts(rt: HostRuntime) -> Result<(), Fail> {
+    let alloc = rt.alloc();
     let mut long = Vec::new(alloc);
     long.resize(300, b'x')?;
+    assert_eq!(rt; written::<BareU8Bytes>(alloc, &long)?.len(), 255);
+    assert_eq!(rt; written::<BareU16Bytes>(alloc, &long)?.len(), 300);
     let short = written::<U8Bytes>(alloc, &long)?;
     assert_eq!(rt; short.len(), 256);
     assert_eq!(rt; short[0], 255);
@@ -142,10 +160,6 @@ fn texts_without_a_count(rt: HostRuntime) -> Result<(), Fail> {
     let (text, left) = parsed::<RawBytes<'_, EofBytes>>(alloc, b"abc")?;
     assert_eq!(rt; text.as_bytes(), b"abc".as_slice());
     assert_eq!(rt; left, 0);
-    let mut long = Vec::new(alloc);
-    long.resize(300, b'x')?;
-    assert_eq!(rt; written::<BareU8Bytes>(alloc, &long)?.len(), 255);
-    assert_eq!(rt; written::<BareU16Bytes>(alloc, &long)?.len(), 300);
     let mut buf = ParseBuf(b"abc");
     assert!(rt;
         buf.parse::<RawBytes<'_, BareU16Bytes>>(alloc, 2)?
@@ -156,11 +170,7 @@ fn texts_without_a_count(rt: HostRuntime) -> Result<(), Fail> {
         Some(WireFault::Eof)
     );
     assert_eq!(rt;
-        read_back_bytes::<LenEnc>(alloc, (), b"abc")?.as_slice(),
-        b"abc".as_slice()
-    );
-    assert_eq!(rt;
-        read_back_bytes::<FixedLengthText<2>>(alloc, (), b"abc")?.as_slice(),
+        laws::read_back_bytes::<FixedLengthText<2>>(alloc, (), b"abc")?.as_slice(),
         b"ab".as_slice()
     );
     Ok(())
@@ -213,19 +223,27 @@ fn constants_and_flags(rt: HostRuntime) -> Result<(), Fail> {
         buf.parse::<Const<ColumnType, u8>>(alloc, ()).err(),
         Some(WireFault::BadConst)
     );
+    assert_eq!(rt;
+        parsed::<Const<ColumnType, u8>>(alloc, b"").err(),
+        Some(WireFault::Eof)
+    );
     let mut out = Vec::new(alloc);
     column.serialize(&mut out)?;
     raw.serialize(&mut out)?;
     geometry.serialize(&mut out)?;
     result.serialize(&mut out)?;
     flags.serialize(&mut out)?;
+    assert_eq!(rt; out.as_slice(), b"\xf5\xc8\x01\x01\x00\x01".as_slice());
+    Ok(())
+}
+
+#[test]
+fn made_constants_and_flags(rt: HostRuntime) -> Result<(), Fail> {
+    let mut out = Vec::new(rt.alloc());
     RawConst::<u8, ColumnType>::new(3).serialize(&mut out)?;
     Const::<GeometryType, u8>::new(GeometryType::GEOM_POLYGON).serialize(&mut out)?;
     RawFlags::<ColumnFlags, LeU16>::new(2).serialize(&mut out)?;
-    assert_eq!(rt;
-        out.as_slice(),
-        b"\xf5\xc8\x01\x01\x00\x01\x03\x03\x02\x00".as_slice()
-    );
+    assert_eq!(rt; out.as_slice(), b"\x03\x03\x02\x00".as_slice());
     let mut number = RawInt::<LeU16>::new(1);
     *number = 2;
     assert_eq!(rt; number.0, 2);

@@ -1,5 +1,5 @@
 -- Length-encoded integers and strings from a reader.
-use Rattle.std.proofs.Common.{◌≡◌, ◌≤◌, ◌<◌, ◌++◌, inl, inr, ℕ, List, [], ◌∷◌, length, take, drop, get_or, append_assoc, arith, refl, sym, ap, subst, ◌∙◌, Option, Some, None, Result, IsErr, IsErrAnd, IfErr}
+use Rattle.std.proofs.Common.{◌≡◌, ◌≤◌, ◌<◌, ◌++◌, ◌⊎◌, inl, inr, ℕ, List, [], ◌∷◌, length, take, drop, get_or, append_assoc, arith, refl, sym, ap, subst, ◌∙◌, Option, Some, None, Result, IsErr, IsErrAnd, IfErr}
 use Rattle.std.proofs.lemmas.Bool.Decides.{leb_tells, eqb_tells}
 use Rattle.std.proofs.lemmas.List.{length-append}
 use Rattle.std.proofs.lemmas.Result.{err_from_is_err_and}
@@ -13,7 +13,8 @@ use Rattle.wire_buf.specs.Numbers.{IsLenenc, one, IsLenencString}
 use Rattle.wire_buf.specs.Fronts.{lenenc_front, number_front}
 use Rattle.wire_buf.proofs.LenencLemmas.{lenenc_front-complete, lenenc_lacks}
 use Rattle.wire_buf.proofs.StringLemmas.{Lacks-count, Lacks-counted, Reads-counted}
-use Rattle.wire_ints.specs.Streams.{ReadsFrom, LacksIn, FailsFrom, IsCause, IsCut, IsCutOrMemory, Gathers}
+use Rattle.wire_ints.specs.Streams.{ReadsFrom, LacksIn, FailsFrom, IsCause, LacksMemory}
+use Rattle.wire_streams.specs.Transfers.{IsCut, IsCutOrMemory, Gathers}
 use Rattle.wire_ints.proofs.StreamLemmas.{ReadsFrom-taken, lacks_taken, lacks_ended}
 
 -- a buffer of one byte
@@ -74,7 +75,7 @@ pub fails_bad : (b : ℕ) (first : List ℕ) (old new : Option (List ℕ)) → f
     → Consumes old new first → FailsFrom (Alone IsLenenc) BadNumber old new
 fails_bad b first old new e far two' three' eight' h =
     let taken = subst (Consumes old new) e h in
-    record { taken = b ∷ []; consumed = taken; cause = lacks_taken (Alone IsLenenc) (b ∷ []) old new taken (no_number b far two' three' eight') }
+    record { taken = b ∷ []; consumed = taken; cause = (lacks_taken (Alone IsLenenc) (b ∷ []) old new taken (no_number b far two' three' eight'), refl) }
 
 -- fewer bytes than the first byte announces
 pub fails_tail : (tag n : ℕ) (fault : WireFault) (first : List ℕ) (old mid new : Option (List ℕ)) → first ≡ tag ∷ [] → Consumes old mid first
@@ -85,8 +86,8 @@ fails_tail tag n fault first old mid new e h none cut =
       taken = tag ∷ cut.taken;
       consumed = taken;
       cause = elim cut.cause [
-        | inl p ↦ subst (λ (f : WireFault). IsCause (Alone IsLenenc) f old new) (sym p.0) (lacks_ended (Alone IsLenenc) (tag ∷ cut.taken) old new taken p.1 (none cut.taken p.2), p.1)
-        | inr p ↦ subst (λ (f : WireFault). IsCause (Alone IsLenenc) f old new) (sym p) tt
+        | inl p ↦ subst (λ (f : WireFault). IsCause (Alone IsLenenc) f (tag ∷ cut.taken) old new) (sym p.0) (lacks_ended (Alone IsLenenc) (tag ∷ cut.taken) old new taken p.1 (none cut.taken p.2), p.1)
+        | inr p ↦ subst (λ (f : WireFault). IsCause (Alone IsLenenc) f (tag ∷ cut.taken) old new) (sym p) tt
       ];
     }
 
@@ -100,8 +101,8 @@ fails_first fault old new cut = record {
   taken = cut.taken;
   consumed = cut.consumed;
   cause = elim cut.cause [
-    | inl p ↦ subst (λ (f : WireFault). IsCause (Alone IsLenenc) f old new) (sym p.0) (lacks_ended (Alone IsLenenc) cut.taken old new cut.consumed p.1 (nothing cut.taken p.2), p.1)
-    | inr p ↦ subst (λ (f : WireFault). IsCause (Alone IsLenenc) f old new) (sym p) tt
+    | inl p ↦ subst (λ (f : WireFault). IsCause (Alone IsLenenc) f cut.taken old new) (sym p.0) (lacks_ended (Alone IsLenenc) cut.taken old new cut.consumed p.1 (nothing cut.taken p.2), p.1)
+    | inr p ↦ subst (λ (f : WireFault). IsCause (Alone IsLenenc) f cut.taken old new) (sym p) tt
   ];
 }
   where
@@ -118,17 +119,17 @@ lacks_string : (old : Option (List ℕ)) → LacksIn (Alone IsLenenc) old → La
 lacks_string None h = tt
 lacks_string (Some x) h = Lacks-count IsLenenc x h
 
-cause_string : (fault : WireFault) (old new : Option (List ℕ)) → IsCause (Alone IsLenenc) fault old new → IsCause (Alone IsLenencString) fault old new
-cause_string Eof old new h = (lacks_string old h.0, h.1)
-cause_string BadNumber old new h = lacks_string old h
-cause_string Memory old new h = tt
-cause_string Read old new h = tt
-cause_string BadConst old new h = absurd h
-cause_string Write old new h = absurd h
-cause_string Form old new h = absurd h
+cause_string : (fault : WireFault) (taken : List ℕ) (old new : Option (List ℕ)) → IsCause (Alone IsLenenc) fault taken old new → IsCause (Alone IsLenencString) fault taken old new
+cause_string Eof taken old new h = (lacks_string old h.0, h.1)
+cause_string BadNumber taken old new h = (lacks_string old h.0, h.1)
+cause_string Read taken old new h = tt
+cause_string Memory taken old new h = absurd h
+cause_string BadConst taken old new h = absurd h
+cause_string Write taken old new h = absurd h
+cause_string Form taken old new h = absurd h
 
-pub fails_string : (fault : WireFault) (old new : Option (List ℕ)) → FailsFrom (Alone IsLenenc) fault old new → FailsFrom (Alone IsLenencString) fault old new
-fails_string fault old new h = record { taken = h.taken; consumed = h.consumed; cause = cause_string fault old new h.cause }
+pub fails_string : (fault : WireFault) (old new : Option (List ℕ)) → FailsFrom (Alone IsLenenc) fault old new → FailsFrom (Alone IsLenencString) fault old new ⊎ LacksMemory fault old new
+fails_string fault old new h = inl (record { taken = h.taken; consumed = h.consumed; cause = cause_string fault h.taken old new h.cause })
 
 -- a string behind its length
 pub reads_string : (n : ℕ) (text : List ℕ) (old mid new : Option (List ℕ)) → ReadsFrom (Alone IsLenenc) Equal n old mid → Gathers n mid new [] text → ReadsFrom (Alone IsLenencString) Equal text old new
@@ -145,31 +146,27 @@ reads_string n text (Some x) (Some y) (Some z) r g =
     Reads-counted IsLenenc n x y text z r enough front back
 
 -- a string that is cut off behind its length
-pub fails_cut : (n : ℕ) (fault : WireFault) (old mid new : Option (List ℕ)) → ReadsFrom (Alone IsLenenc) Equal n old mid → IsCutOrMemory fault n mid new → FailsFrom (Alone IsLenencString) fault old new
-fails_cut n fault None mid new r cut = record {
-  taken = [];
-  consumed = tt;
-  cause = elim cut.cause [
-    | inl p ↦ subst (λ (f : WireFault). IsCause (Alone IsLenencString) f None new) (sym p.0) (tt, p.1)
-    | inr q ↦ elim q [
-      | inl p ↦ subst (λ (f : WireFault). IsCause (Alone IsLenencString) f None new) (sym p) tt
-      | inr p ↦ subst (λ (f : WireFault). IsCause (Alone IsLenencString) f None new) (sym p) tt
+pub fails_cut : (n : ℕ) (fault : WireFault) (old mid new : Option (List ℕ)) (before after : List ℕ) → ReadsFrom (Alone IsLenenc) Equal n old mid → IsCutOrMemory fault n mid new before after
+    → FailsFrom (Alone IsLenencString) fault old new ⊎ LacksMemory fault old new
+fails_cut n fault None mid new before after r cut = elim cut.cause [
+  | inl p ↦ inl (record { taken = []; consumed = tt; cause = subst (λ (f : WireFault). IsCause (Alone IsLenencString) f [] None new) (sym p.0) (tt, p.1) })
+  | inr q ↦ elim q [
+    | inl p ↦ inl (record { taken = []; consumed = tt; cause = subst (λ (f : WireFault). IsCause (Alone IsLenencString) f [] None new) (sym p) tt })
+    | inr p ↦ inr (record { is = p; taken = []; consumed = tt })
+  ]
+]
+fails_cut n fault (Some x) None new before after r cut = absurd r
+fails_cut n fault (Some x) (Some y) None before after r cut = absurd cut.consumed
+fails_cut n fault (Some x) (Some y) (Some z) before after r cut =
+    let gone : List ℕ = r.begins.bytes ++ cut.taken in
+    let lost : Consumes (Some x) (Some z) gone = r.begins.joined ∙ ap (λ l. r.begins.bytes ++ l) cut.consumed ∙ sym (append_assoc r.begins.bytes cut.taken z) in
+    elim cut.cause [
+      | inl p ↦
+          let few = p.2 in
+          let short : length y < n = omega (arith, ap length cut.consumed, length-append cut.taken z, ap length p.1, few) in
+          inl (record { taken = gone; consumed = lost; cause = subst (λ (f : WireFault). IsCause (Alone IsLenencString) f gone (Some x) (Some z)) (sym p.0) (Lacks-counted IsLenenc n x y r short, p.1) })
+      | inr q ↦ elim q [
+        | inl p ↦ inl (record { taken = gone; consumed = lost; cause = subst (λ (f : WireFault). IsCause (Alone IsLenencString) f gone (Some x) (Some z)) (sym p) tt })
+        | inr p ↦ inr (record { is = p; taken = gone; consumed = lost })
+      ]
     ]
-  ];
-}
-fails_cut n fault (Some x) None new r cut = absurd r
-fails_cut n fault (Some x) (Some y) None r cut = absurd cut.consumed
-fails_cut n fault (Some x) (Some y) (Some z) r cut = record {
-  taken = r.begins.bytes ++ cut.taken;
-  consumed = r.begins.joined ∙ ap (λ l. r.begins.bytes ++ l) cut.consumed ∙ sym (append_assoc r.begins.bytes cut.taken z);
-  cause = elim cut.cause [
-    | inl p ↦
-        let few = p.2 in
-        let short : length y < n = omega (arith, ap length cut.consumed, length-append cut.taken z, ap length p.1, few) in
-        subst (λ (f : WireFault). IsCause (Alone IsLenencString) f (Some x) (Some z)) (sym p.0) (Lacks-counted IsLenenc n x y r short, p.1)
-    | inr q ↦ elim q [
-      | inl p ↦ subst (λ (f : WireFault). IsCause (Alone IsLenencString) f (Some x) (Some z)) (sym p) tt
-      | inr p ↦ subst (λ (f : WireFault). IsCause (Alone IsLenencString) f (Some x) (Some z)) (sym p) tt
-    ]
-  ];
-}

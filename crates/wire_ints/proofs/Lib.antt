@@ -3,4 +3,3 @@ pub mod SevenLemmas
 pub mod OnesLemmas
 pub mod StreamLemmas
 pub mod LenencStreamLemmas
-pub mod VersionLemmas

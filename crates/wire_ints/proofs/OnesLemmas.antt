@@ -339,6 +339,13 @@ pub spelling_short : (v n : ℕ) → n ≡ varlen_uint_len v → (n ≡ 9 → �
 unfolding varlen_uint_spelling
 spelling_short v n e not = elim (eqb_tells (varlen_uint_len v) 9) [ inl t ↦ absurd (not (e ∙ t.1)) | inr t ↦ rw (t.0, ← e) refl ]
 
+-- the length of what is written
+pub spelling_length : (v : ℕ) → length (varlen_uint_spelling v) ≡ varlen_uint_len v
+spelling_length v = elim (eqb_tells (varlen_uint_len v) 9) [
+  | inl t ↦ ap length (spelling_long v t.1) ∙ ap suc (length-bytes_low_first 0 8 v) ∙ sym t.1
+  | inr t ↦ ap length (spelling_short v (varlen_uint_len v) refl t.1) ∙ length-bytes_low_first 0 (varlen_uint_len v) (marked (varlen_uint_len v) v)
+]
+
 -- what the count of trailing ones says of the byte
 pub full_byte : (r b : ℕ) → r ≡ 8 → ((r ≡ 8) × (b ≡ 255)) ⊎ ((r ≤ 7) × HasTrailingOnes r b) → b ≡ 255
 full_byte r b e (inl p) = p.1

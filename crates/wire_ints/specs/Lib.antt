@@ -4,5 +4,4 @@ pub mod Strings
 pub mod Sevens
 pub mod TrailingOnes
 pub mod Streams
-pub mod Version
 pub mod Raw

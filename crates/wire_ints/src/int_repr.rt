@@ -1,5 +1,5 @@
 ghost use Rattle.std.specs.Prelude.{◌≡◌, List, ℕ, length, OnOk, IfOk, IfErr, Option};
-ghost use Rattle.wire_buf.specs.Spelling.{Reads, Lacks, HasSize, HasRoom, Alone, Equal, Holding, SameBy};
+ghost use Rattle.wire_buf.specs.Spelling.{Reads, Lacks, IsShortest, HasSize, HasRoom, Alone, Equal, Holding, SameBy};
 ghost use Rattle.wire_buf.specs.Writing.{Writes, Refuses};
 ghost use Rattle.wire_buf.specs.declared.fault.WireFault.TheVariants.{Eof, Memory};
 ghost use Rattle.wire_buf.specs.declared.fault.WireFault.{WireFault};
@@ -105,6 +105,8 @@ impl<'de, T: IntRepr> MyDeserialize<'de> for RawInt<T> {
 
     ghost same = { SameBy (λ v. v.0) Equal };
 
+    ghost refusal = { λ ctx x e. Lacks (Alone T.spells) x × (e ≡ T.fault_at x) };
+
     ghost is_memory = { λ e. e ≡ Memory };
 
     fn deserialize(
@@ -124,6 +126,9 @@ impl<'de, T: IntRepr> MyDeserialize<'de> for RawInt<T> {
 impl<T: IntRepr> MySerialize for RawInt<T> {
     ghost spelling = { λ v. T.spelling (T.kept v.0) };
 
+    ghost is_shortest = { λ v. IsShortest T.spells (T.kept v.0) };
+
+    #[tactic(auto, using(wire_buf::proofs::SpellingLemmas::writes_shortest))]
     fn serialize<A: Allocator>(&self, buf: &mut Vec<u8, A>) -> Result<(), WireFault> {
         T::serialize(self.0, buf)
     }

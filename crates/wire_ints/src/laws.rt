@@ -1,7 +1,11 @@
 //! Laws over all representations.
 
-ghost use Rattle.std.specs.Prelude.{◌≡◌, ◌⊎◌, IfOk, IfErr, None};
-ghost use Rattle.wire_buf.specs.declared.fault.WireFault.TheVariants.{Memory, Form};
+ghost use Rattle.std.specs.Prelude.{◌≡◌, ◌⊎◌, ◌∷◌, [], IfOk, IfErr, None};
+ghost use Rattle.wire_buf.specs.Numbers.{IsLenenc, lenenc_spelling};
+ghost use Rattle.wire_buf.specs.declared.fault.WireFault.TheVariants.{Memory, Form, Eof, BadNumber};
+ghost use Rattle.wire_ints.specs.Faults.{lenenc_fault, varlen_fault};
+ghost use Rattle.wire_ints.specs.Sevens.{IsVarLen, varlen_spelling};
+ghost use Rattle.wire_ints.specs.TrailingOnes.{varlen_uint_spelling};
 
 use crate::int_repr::{IntRepr, RawInt};
 use std::alloc::Global;
@@ -20,3 +24,16 @@ pub fn read_back<T: IntRepr>(alloc: Global, value: T::Primitive) -> Result<T::Pr
     let raw = buf.parse::<RawInt<T>>(alloc, ())?;
     Ok(raw.0)
 }
+
+/// Numbers that the definitions compute.
+pub fn worked_numbers()
+    ensures three_bytes { lenenc_spelling 251 ≡ 252 ∷ 251 ∷ 0 ∷ [] }
+    ensures no_number { lenenc_fault (251 ∷ []) ≡ BadNumber }
+    ensures cut_off { lenenc_fault (252 ∷ 251 ∷ []) ≡ Eof }
+    ensures longer { IsLenenc 1 (252 ∷ 1 ∷ 0 ∷ []) }
+    ensures seven_bits { varlen_spelling 300 ≡ 172 ∷ 2 ∷ [] }
+    ensures greatest { IsVarLen 4294967295 (255 ∷ 255 ∷ 255 ∷ 255 ∷ 15 ∷ []) }
+    ensures past_the_greatest { varlen_fault (128 ∷ 128 ∷ 128 ∷ 128 ∷ 16 ∷ []) ≡ BadNumber }
+    ensures one_byte { varlen_uint_spelling 1 ≡ 2 ∷ [] }
+    ensures two_bytes { varlen_uint_spelling 300 ≡ 177 ∷ 4 ∷ [] }
+{}

@@ -9,7 +9,7 @@ mod buf_mut_ext;
 mod byte;
 mod halves;
 mod int_repr;
-mod laws;
+pub mod laws;
 mod lenenc;
 mod little_endian;
 mod read_ext;
@@ -17,13 +17,11 @@ mod read_ext;
 mod tests;
 mod varlen;
 mod varlen_uint;
-mod version;
 mod write_ext;
 
 pub use buf_mut_ext::BufMutExt;
 pub use halves::{LeU32LowerHalf, LeU32UpperHalf};
 pub use int_repr::{IntRepr, RawInt};
-pub use laws::read_back;
 pub use lenenc::{InvalidLengthEncodedInteger, LenEnc, lenenc_int_len, lenenc_str_len};
 pub use little_endian::{
     LeI16, LeI24, LeI32, LeI40, LeI48, LeI56, LeI64, LeI128, LeU16, LeU24, LeU32, LeU40, LeU48,
@@ -32,5 +30,4 @@ pub use little_endian::{
 pub use read_ext::ReadMysqlExt;
 pub use varlen::VarLen;
 pub use varlen_uint::{read_varlen_uint, varlen_uint_size, write_varlen_uint};
-pub use version::split_version;
 pub use write_ext::WriteMysqlExt;

@@ -3,8 +3,8 @@
 use crate::{
     BufMutExt, IntRepr, InvalidLengthEncodedInteger, LeI16, LeI24, LeI32, LeI40, LeI48, LeI56,
     LeI64, LeI128, LeU16, LeU24, LeU32, LeU32LowerHalf, LeU32UpperHalf, LeU40, LeU48, LeU56, LeU64,
-    LeU128, LenEnc, RawInt, ReadMysqlExt, VarLen, WriteMysqlExt, lenenc_int_len, lenenc_str_len,
-    read_back, read_varlen_uint, split_version, varlen_uint_size, write_varlen_uint,
+    LeU128, LenEnc, RawInt, ReadMysqlExt, VarLen, WriteMysqlExt, laws, lenenc_int_len,
+    lenenc_str_len, read_varlen_uint, varlen_uint_size, write_varlen_uint,
 };
 use std::alloc::Global;
 use std::io::{Error, ErrorKind, Read, Result as IoResult, Write};
@@ -72,13 +72,6 @@ fn lenenc_longer_and_short(rt: HostRuntime) {
 }
 
 #[test]
-fn server_version_split(rt: HostRuntime) {
-    assert_eq!(rt; split_version(b"8.0.32-log"), (8, 0, 32));
-    assert_eq!(rt; split_version(b"8.256.1"), (0, 0, 0));
-    assert_eq!(rt; split_version(b"5.7"), (0, 0, 0));
-}
-
-#[test]
 fn integers_of_fixed_width(rt: HostRuntime) -> Result<(), Fail> {
     let alloc = rt.alloc();
     assert_eq!(rt; written::<u8>(alloc, 7)?.as_slice(), b"\x07".as_slice());
@@ -109,7 +102,7 @@ fn integers_of_fixed_width(rt: HostRuntime) -> Result<(), Fail> {
         parsed::<LeU32UpperHalf>(alloc, b"\x34\x12"),
         Ok(0x1234_0000)
     );
-    assert_eq!(rt; read_back::<LeU128>(alloc, 1 << 100)?, 1 << 100);
+    assert_eq!(rt; laws::read_back::<LeU128>(alloc, 1 << 100)?, 1 << 100);
     Ok(())
 }
 
@@ -246,6 +239,38 @@ fn numbers_to_a_writer(rt: HostRuntime) -> Result<(), Fail> {
         WireFault::from(InvalidLengthEncodedInteger),
         WireFault::BadNumber
     );
+    Ok(())
+}
+
+/// Whether the number is written as the bytes, and read from them.
+fn agrees<T: IntRepr>(alloc: Global, value: T::Primitive, bytes: &[u8]) -> Result<bool, WireFault>
+where
+    T::Primitive: PartialEq,
+{
+    let out = written::<T>(alloc, value)?;
+    let back = parsed::<T>(alloc, bytes)?;
+    Ok(out.as_slice() == bytes && back == value)
+}
+
+#[test]
+fn lowest_byte_first(rt: HostRuntime) -> Result<(), Fail> {
+    let alloc = rt.alloc();
+    assert!(rt; agrees::<LeU16>(alloc, 0x8102, b"\x02\x81")?);
+    assert!(rt; agrees::<LeI16>(alloc, -2, b"\xfe\xff")?);
+    assert!(rt; agrees::<LeU24>(alloc, 0x81_0203, b"\x03\x02\x81")?);
+    assert!(rt; agrees::<LeI24>(alloc, -0x7f_ffff, b"\x01\x00\x80")?);
+    assert!(rt; agrees::<LeU32>(alloc, 0x8102_0304, b"\x04\x03\x02\x81")?);
+    assert!(rt; agrees::<LeI32>(alloc, -2, b"\xfe\xff\xff\xff")?);
+    assert!(rt; agrees::<LeU40>(alloc, 0x81_0203_0405, b"\x05\x04\x03\x02\x81")?);
+    assert!(rt; agrees::<LeI40>(alloc, -2, b"\xfe\xff\xff\xff\xff")?);
+    assert!(rt; agrees::<LeU48>(alloc, 0x8102_0304_0506, b"\x06\x05\x04\x03\x02\x81")?);
+    assert!(rt; agrees::<LeI48>(alloc, 0x0102, b"\x02\x01\x00\x00\x00\x00")?);
+    assert!(rt; agrees::<LeU56>(alloc, 0x81_0203_0405_0607, b"\x07\x06\x05\x04\x03\x02\x81")?);
+    assert!(rt; agrees::<LeI56>(alloc, -2, b"\xfe\xff\xff\xff\xff\xff\xff")?);
+    assert!(rt; agrees::<LeU64>(alloc, 0x0102, b"\x02\x01\x00\x00\x00\x00\x00\x00")?);
+    assert!(rt; agrees::<LeI64>(alloc, -2, b"\xfe\xff\xff\xff\xff\xff\xff\xff")?);
+    assert!(rt; agrees::<LeU128>(alloc, 1, b"\x01\0\0\0\0\0\0\0\0\0\0\0\0\0\0\0")?);
+    assert!(rt; agrees::<LeI128>(alloc, 1, b"\x01\0\0\0\0\0\0\0\0\0\0\0\0\0\0\0")?);
     Ok(())
 }
 

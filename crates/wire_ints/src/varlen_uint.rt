@@ -1,7 +1,7 @@
 //! The variable-length unsigned integers of MySQL's serialization library, as in `mysql_common`:
 //! the trailing one bits of the first byte say how many bytes follow it.
 
-ghost use Rattle.std.specs.Prelude.{◌≡◌, ◌≤◌, ◌<◌, ◌^◌, ◌⊎◌, Some, IfOk, IfErr, OnOk};
+ghost use Rattle.std.specs.Prelude.{◌≡◌, ◌≤◌, ◌<◌, ◌^◌, ◌⊎◌, Some, length, IfOk, IfErr, OnOk};
 ghost use Rattle.wire_buf.specs.Spelling.{Reads, Lacks, Alone, Equal};
 ghost use Rattle.wire_buf.specs.Writing.{Writes};
 ghost use Rattle.wire_buf.specs.declared.fault.WireFault.TheVariants.{Eof, Memory};
@@ -46,7 +46,7 @@ pub fn write_varlen_uint<A: Allocator>(value: u64, buf: &mut Vec<u8, A>) -> Resu
         buf.old.items buf.new.items) }
     ensures err { IfErr result (λ e. (e ≡ Memory) × (buf.new.items ≡ buf.old.items)) }
 {
-    let size = varlen_uint_size(value);
+    let size = fewest_bytes(value);
     if size == 9 {
         let bytes = value.to_le_bytes();
         buf.extend_from_slice(&[
@@ -61,8 +61,16 @@ pub fn write_varlen_uint<A: Allocator>(value: u64, buf: &mut Vec<u8, A>) -> Resu
 }
 
 /// How many bytes `write_varlen_uint` appends for the number: 1 to 9.
-#[tactic(auto, unfolding(crate::specs::TrailingOnes::varlen_uint_len))]
+#[tactic(auto, using(crate::proofs::OnesLemmas::spelling_length))]
 pub fn varlen_uint_size(value: u64) -> usize
+    ensures { result ≡ length (varlen_uint_spelling value) }
+{
+    fewest_bytes(value)
+}
+
+/// The fewest bytes, with seven bits of the number each, and nine from 56 bits on.
+#[tactic(auto, unfolding(crate::specs::TrailingOnes::varlen_uint_len))]
+fn fewest_bytes(value: u64) -> usize
     ensures { result ≡ varlen_uint_len value }
 {
     match value {

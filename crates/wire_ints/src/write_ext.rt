@@ -5,12 +5,12 @@ ghost use Rattle.std.specs.Io.KnownBytes.{Appends};
 ghost use Rattle.wire_buf.specs.Numbers.{lenenc_spelling};
 ghost use Rattle.wire_buf.specs.declared.fault.WireFault.TheVariants.{Write as WriteFault};
 ghost use Rattle.wire_ints.specs.Strings.{lenenc_string_spelling};
-ghost use Rattle.wire_ints.specs.Streams.{WritesSome};
+ghost use Rattle.wire_streams.specs.Transfers.{WritesSome};
 
 use crate::lenenc::{lenenc_bytes, lenenc_str_len};
-use crate::read_ext::MAX_TURNS;
-use std::io::{ErrorKind, Write};
+use std::io::Write;
 use wire_buf::WireFault;
+use wire_streams::write_all;
 
 /// Writes length-encoded numbers and strings to any writer, as in `mysql_common`.
 ///
@@ -28,7 +28,7 @@ pub trait WriteMysqlExt: Write {
             (Self.contents self.old) (Self.contents self.new)) }
     {
         let (bytes, len) = lenenc_bytes(x);
-        write_out(self, &bytes[..len])?;
+        write_all(self, &bytes[..len])?;
         Ok(len as u64)
     }
 
@@ -44,33 +44,9 @@ pub trait WriteMysqlExt: Write {
             (lenenc_string_spelling bytes.now) (Self.contents self.old) (Self.contents self.new)) }
     {
         self.write_lenenc_int(bytes.len() as u64)?;
-        write_out(self, bytes)?;
+        write_all(self, bytes)?;
         Ok(lenenc_str_len(bytes))
     }
 }
 
 impl<W: Write> WriteMysqlExt for W {}
-
-/// Writes all of the bytes.
-fn write_out<W: Write>(writer: &mut W, bytes: &[u8]) -> Result<(), WireFault>
-    ensures ok { OnOk result (Appends (W.contents writer.old) (W.contents writer.new) bytes.now) }
-    ensures err { IfErr result (λ e. (e ≡ WriteFault) × WritesSome bytes.now
-        (W.contents writer.old) (W.contents writer.new)) }
-{
-    let mut rest = bytes;
-    'turns: for _turn in 0..MAX_TURNS {
-        if rest.is_empty() {
-            return Ok(());
-        }
-        match writer.write(rest) {
-            Ok(0) => return Err(WireFault::Write),
-            Ok(n) => rest = &rest[n..],
-            Err(error) => {
-                if error.kind() != ErrorKind::Interrupted {
-                    return Err(WireFault::Write);
-                }
-            }
-        }
-    }
-    Err(WireFault::Write)
-}

@@ -4,10 +4,11 @@ use Rattle.std.proofs.lemmas.List.{length-append, append-nil, take-append-drop}
 use Rattle.std.proofs.Math.Seq.{take-append_seam}
 use Rattle.wire_buf.specs.Writing.{Appends, Refuses, Writes}
 use Rattle.wire_buf.specs.declared.fault.WireFault.{WireFault}
-use Rattle.wire_buf.specs.declared.fault.WireFault.TheVariants.{Memory, Form}
+use Rattle.wire_buf.specs.declared.fault.WireFault.TheVariants.{Eof, Memory, Form}
 use Rattle.std.proofs.lemmas.Result.{err_from_is_err_and}
+use Rattle.wire_buf.proofs.SpellingLemmas.{IfErr-of_same}
 use Rattle.wire_buf.specs.Spelling.{Begins, Reads, Lacks, Alone, Equal, IsSequence, SameAll}
-use Rattle.wire_seqs.specs.Sequences.{IsCountedSequence, with_front, joined_spelling}
+use Rattle.wire_seqs.specs.Sequences.{IsCountedSequence, with_front, joined_spelling, ItemsRefusal, SequenceRefusal}
 
 -- a sequence has as many values as its count says
 pub Sequence-length : {A : Type 0} (spells : A → List ℕ → List ℕ → Type 0) (n : ℕ) (vs : List A) (bytes rest : List ℕ)
@@ -66,9 +67,35 @@ module _ {A : Type 0} (counts : ℕ → List ℕ → Type 0) (spells : A → Lis
         only = λ ws s t. q.only ws s (items_behind n x m p ws s t);
       }
 
--- what the exit of a `?` says that turns the fault of a part into one of the whole, where that part is never refused for memory
-pub IfErr-of_from : {T E : Type 0} (M : E → Type 0) (P : Type 0) (r : Result T E) (Q : E → Type 0) → IsErr r × IsErrAnd r Q → P → IfErr r (λ y. M y ⊎ P)
-IfErr-of_from M P r Q h l = let p = err_from_is_err_and r h.1 in rw p.1 (inr l)
+-- behind whole values, fewer than n, the next one is refused, or there is no memory for it
+module _ {A E : Type 0} (spells : A → List ℕ → List ℕ → Type 0) (same : A → A → Type 0) (refusal : List ℕ → E → Type 0) (no_memory : E → Type 0)
+    (n i : ℕ) (below : i < n) (vs : List A) (x m : List ℕ) (read : Reads (IsSequence i spells) (SameAll same) vs x m) (fault : E) where
+  pub next_refused : refusal m fault → ItemsRefusal n spells refusal no_memory x fault
+  next_refused why = record {
+    count = i;
+    fewer = below;
+    next = record { value = vs; after = m; begins = read.begins; holds = inl why };
+  }
+
+  pub next_unstored : (v : A) (r : List ℕ) → Reads spells same v m r → no_memory fault → ItemsRefusal n spells refusal no_memory x fault
+  next_unstored v r item why = record {
+    count = i;
+    fewer = below;
+    next = record { value = vs; after = m; begins = read.begins; holds = inr (record { value = v; after = r; begins = item.begins }, why) };
+  }
+
+-- no count stands there
+pub no_count : {T E : Type 0} (counts : ℕ → List ℕ → Type 0) (gives : WireFault → E → Type 0) (items : ℕ → List ℕ → E → Type 0) (x : List ℕ) (r : Result T E) (fault : WireFault)
+    → IsErr r × IsErrAnd r (λ y. gives fault y) → Lacks (Alone counts) x × (fault ≡ Eof) → IfErr r (SequenceRefusal counts (gives Eof) items x)
+no_count counts gives items x r fault h l =
+    let p = err_from_is_err_and r h.1 in
+    rw p.1 (inl (l.0, subst (λ f. gives f p.0) l.1 p.2))
+
+-- the values behind a count are refused
+pub items_refused : {T E : Type 0} (counts : ℕ → List ℕ → Type 0) (none : E → Type 0) (items : ℕ → List ℕ → E → Type 0) (n : ℕ) (x m : List ℕ) (r : Result T E) (e : E)
+    → IsErr r × IsErrAnd r (λ y. y ≡ e) → Reads (Alone counts) Equal n x m → items n m e → IfErr r (SequenceRefusal counts none items x)
+items_refused counts none items n x m r e h p why =
+    IfErr-of_same (SequenceRefusal counts none items x) r e h (inr (record { value = n; after = m; begins = p.begins; holds = why }))
 
 front_more : (o r r' : Option (List ℕ)) (front back : List ℕ) → ((tail : List ℕ) → r ≡ Some tail → r' ≡ Some (tail ++ back))
     → with_front o r ≡ Some front → with_front o r' ≡ Some (front ++ back)
@@ -98,7 +125,7 @@ joined_none : {A : Type 0} (spelling : A → Option (List ℕ)) (vs : List A) (v
 joined_none spelling [] v rest last = rw last refl
 joined_none spelling (w ∷ vs) v rest last = rw (joined_none spelling vs v rest last) (front_none (spelling w))
 
-take_more : {A : Type 0} (xs : List A) (i : ℕ) (v : A) → i < length xs → take (suc i) xs ≡ take i xs ++ (get_or xs i v ∷ [])
+pub take_more : {A : Type 0} (xs : List A) (i : ℕ) (v : A) → i < length xs → take (suc i) xs ≡ take i xs ++ (get_or xs i v ∷ [])
 take_more [] i v h = absurd (omega (arith, h))
 take_more (x ∷ xs) zero v h = refl
 take_more (x ∷ xs) (suc i) v h = ap (λ l. x ∷ l) (take_more xs i v (omega (arith, h)))

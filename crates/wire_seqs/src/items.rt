@@ -1,9 +1,11 @@
 //! Values one after the other.
 
-ghost use Rattle.std.specs.Prelude.{◌⊎◌, IfOk, IfErr, OnOk};
-ghost use Rattle.wire_buf.specs.Spelling.{Reads, Lacks, IsSequence, SameAll};
-ghost use Rattle.wire_buf.specs.Writing.{Appends, Refuses};
-ghost use Rattle.wire_seqs.specs.Sequences.{joined_spelling};
+ghost use Rattle.std.specs.Prelude.{◌⊎◌, [], length, IfOk, IfErr, OnOk};
+ghost use Rattle.wire_buf.specs.Spelling.{Reads, Lacks, Alone, IsSequence, SameAll};
+ghost use Rattle.wire_buf.specs.Writing.{Appends, AppendsOf, Refuses};
+ghost use Rattle.wire_seqs.specs.Sequences.{joined_spelling, ItemsRefusal};
+ghost use Rattle.wire_buf.specs.Refusals.{ParseRefusal};
+ghost use Rattle.wire_buf.specs.declared.fault.WireFault.TheVariants.{Eof, Memory};
 
 use std::alloc::{Allocator, Global};
 use wire_buf::{MyDeserialize, MySerialize, ParseBuf, WireFault};
@@ -18,10 +20,12 @@ pub(crate) fn read_items<'de, T: MyDeserialize<'de, Ctx = ()> + Drop>(
         buf.old.0.now buf.new.0.now) }
     ensures err { IfErr result (λ e. T.is_memory e
         ⊎ Lacks (IsSequence count (T.spells tt)) buf.old.0.now) }
+    ensures why { IfErr result (ItemsRefusal count (T.spells tt)
+        (ParseRefusal T.Size.SIZE (T.refusal tt) (T.Fault.from_gives Eof))
+        (T.Fault.from_gives Memory) buf.old.0.now) }
 {
     let mut items = Vec::new(alloc);
-    for i in 0..count {
-        let _ = i;
+    for _ in 0..count {
         let item = buf.parse::<T>(alloc, ())?;
         let Ok(()) = items.push(item) else {
             return Err(T::Fault::from(WireFault::Memory));
@@ -36,6 +40,9 @@ pub(crate) fn write_items<T: MySerialize, A: Allocator>(
     buf: &mut Vec<u8, A>,
 ) -> Result<(), WireFault>
     ensures ok { OnOk result (Appends (joined_spelling T.spelling) items.now
+        buf.old.items buf.new.items) }
+    ensures shortest { OnOk result (AppendsOf
+        (λ bytes. IsSequence (length items.now) (Alone T.is_shortest) items.now bytes [])
         buf.old.items buf.new.items) }
     ensures err { IfErr result (λ e. Refuses (joined_spelling T.spelling) items.now e
         buf.old.items buf.new.items) }

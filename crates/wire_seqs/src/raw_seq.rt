@@ -1,8 +1,8 @@
-ghost use Rattle.std.specs.Prelude.{◌≡◌, ◌⊎◌, ◌↔◌, ◌<◌, ◌≤◌, [], length, slice_index_or, IfOk, IfErr, OnErr, IfSome, IfNone, IsTrue};
+ghost use Rattle.std.specs.Prelude.{◌≡◌, ◌⊎◌, ◌↔◌, [], length, slice_get, option_map, IfOk, IfErr, OnErr, IsTrue};
 ghost use Rattle.std.specs.Cow.{cow_slice_items, IsOwnedSlice};
-ghost use Rattle.wire_buf.specs.Spelling.{Reads, Lacks, Alone, Equal, Holding, SameBy, SameAll, IsSequence};
+ghost use Rattle.wire_buf.specs.Spelling.{Reads, Lacks, Alone, Equal, Holding, SameBy, SameAll, IsSequence, IsShortest};
 ghost use Rattle.wire_buf.specs.declared.fault.WireFault.TheVariants.{Memory};
-ghost use Rattle.wire_seqs.specs.Sequences.{joined_spelling};
+ghost use Rattle.wire_seqs.specs.Sequences.{joined_spelling, NumberRefusal, NumbersRefusal};
 
 use std::alloc::{AllocError, Allocator, Global};
 use std::borrow::CowSlice;
@@ -43,9 +43,7 @@ impl<'a, T: IntRepr, U> RawSeq<'a, T, U> {
 impl<'a, T: IntRepr, U> RawSeq<'a, T, U> {
     /// The number at `index`, for its constant, or None where there are not so many.
     pub fn get(&self, index: usize) -> Option<RawConst<T, U>>
-        ensures some { IfSome result (λ raw. (index < length (cow_slice_items self.now.0))
-            × (raw.0 ≡ slice_index_or (cow_slice_items self.now.0) index raw.0)) }
-        ensures none { IfNone result (length (cow_slice_items self.now.0) ≤ index) }
+        ensures { option_map (λ raw. raw.0) result ≡ slice_get (cow_slice_items self.now.0) index }
     {
         let number = self.0.as_slice().get(index)?;
         Some(RawConst::new(*number))
@@ -89,6 +87,8 @@ impl<'de, T: IntRepr, U> MyDeserialize<'de> for RawSeq<'de, T, U> {
 
     ghost same = { SameBy (λ v. cow_slice_items v.0) Equal };
 
+    ghost refusal = { λ ctx. NumbersRefusal ctx T.Size.SIZE T.spells T.fault_at };
+
     ghost is_memory = { λ e. e ≡ Memory };
 
     fn deserialize(
@@ -107,6 +107,9 @@ impl<'de, T: IntRepr, U> MyDeserialize<'de> for RawSeq<'de, T, U> {
 
 impl<'a, T: IntRepr, U> MySerialize for RawSeq<'a, T, U> {
     ghost spelling = { λ v. joined_spelling (λ n. T.spelling (T.kept n)) (cow_slice_items v.0) };
+
+    ghost is_shortest = { λ v bytes. IsSequence (length (cow_slice_items v.0))
+        (Alone (λ n. IsShortest T.spells (T.kept n))) (cow_slice_items v.0) bytes [] };
 
     fn serialize<A: Allocator>(&self, buf: &mut Vec<u8, A>) -> Result<(), WireFault> {
         let start = buf.len();
@@ -130,10 +133,11 @@ fn read_numbers<T: IntRepr>(
         buf.old.0.now buf.new.0.now) }
     ensures err { IfErr result (λ e. (e ≡ Memory)
         ⊎ Lacks (IsSequence count (Alone T.spells)) buf.old.0.now) }
+    ensures why { IfErr result
+        (NumbersRefusal count T.Size.SIZE T.spells T.fault_at buf.old.0.now) }
 {
     let mut numbers = Vec::new(alloc);
-    for i in 0..count {
-        let _ = i;
+    for _ in 0..count {
         let number = read_number::<T>(buf)?;
         let Ok(()) = numbers.push(number) else {
             return Err(WireFault::Memory);
@@ -147,6 +151,7 @@ fn read_number<T: IntRepr>(buf: &mut ParseBuf<'_>) -> Result<T::Primitive, WireF
     ensures ok { IfOk result
         (λ v. Reads (Alone T.spells) Equal v buf.old.0.now buf.new.0.now) }
     ensures err { OnErr result (Lacks (Alone T.spells) buf.old.0.now) }
+    ensures why { IfErr result (NumberRefusal T.Size.SIZE T.spells T.fault_at buf.old.0.now) }
 {
     if let Some(size) = <T::Size as WireSize>::SIZE {
         if buf.len() < size {

@@ -1,7 +1,9 @@
-ghost use Rattle.std.specs.Prelude.{◌≡◌, ◌↔◌, ◌++◌, ◌∷◌, [], length, OnOk, OnErr, IfOk, IsTrue};
+ghost use Rattle.std.specs.Prelude.{◌≡◌, ◌↔◌, ◌++◌, ◌∷◌, [], length, take, OnOk, OnErr, IfOk, IsTrue};
 ghost use Rattle.std.specs.Cow.{cow_slice_items, IsOwnedSlice};
 ghost use Rattle.wire_buf.specs.Spelling.{Holding, SameBy, SameAll};
-ghost use Rattle.wire_seqs.specs.Sequences.{IsCountedSequence, sequence_spelling};
+ghost use Rattle.wire_seqs.specs.Sequences.{IsCountedSequence, IsShortestSequence, sequence_spelling, ItemsRefusal, SequenceRefusal};
+ghost use Rattle.wire_buf.specs.Refusals.{ParseRefusal};
+ghost use Rattle.wire_buf.specs.declared.fault.WireFault.TheVariants.{Eof, Memory};
 
 use crate::items::{read_items, write_items};
 use crate::seq_repr::SeqRepr;
@@ -117,6 +119,8 @@ impl<'de, T: MyDeserialize<'de, Ctx = ()> + Drop, U: SeqRepr> MyDeserialize<'de>
 
     ghost same = { SameBy (λ v. cow_slice_items v.0) (SameAll T.same) };
 
+    ghost refusal = { λ ctx. SequenceRefusal (U.counts ctx) (T.Fault.from_gives Eof) (λ n. ItemsRefusal n (T.spells tt) (ParseRefusal T.Size.SIZE (T.refusal tt) (T.Fault.from_gives Eof)) (T.Fault.from_gives Memory)) };
+
     ghost is_memory = { T.is_memory };
 
     fn deserialize(
@@ -136,6 +140,8 @@ impl<'de, T: MyDeserialize<'de, Ctx = ()> + Drop, U: SeqRepr> MyDeserialize<'de>
 
 impl<'a, T: MySerialize, U: SeqRepr> MySerialize for Seq<'a, T, U> {
     ghost spelling = { λ v. sequence_spelling U.count_spelling U.MAX_LEN T.spelling (cow_slice_items v.0) };
+
+    ghost is_shortest = { λ v. IsShortestSequence U.counts U.suits T.is_shortest (take U.MAX_LEN (cow_slice_items v.0)) };
 
     fn serialize<A: Allocator>(&self, buf: &mut Vec<u8, A>) -> Result<(), WireFault> {
         let start = buf.len();

@@ -2,6 +2,7 @@
 
 ghost use Rattle.std.specs.Prelude.{◌⊎◌, length, IfOk, IfErr, IsErrAnd};
 ghost use Rattle.wire_buf.specs.Spelling.{Reads, Lacks, HasRoom, IfShort, EatsSize};
+ghost use Rattle.wire_buf.specs.Refusals.{ParseRefusal};
 ghost use Rattle.wire_buf.specs.declared.fault.WireFault.TheVariants.{Eof};
 
 use super::ParseBuf;
@@ -20,6 +21,7 @@ impl<'a> ParseBuf<'a> {
         ensures ok { IfOk result
             (λ v. Reads (T.spells ctx) T.same v self.old.0.now self.new.0.now) }
         ensures err { IfErr result (λ e. T.is_memory e ⊎ Lacks (T.spells ctx) self.old.0.now) }
+        ensures why { IfErr result (λ e. T.refusal ctx self.old.0.now e) }
     {
         T::deserialize(alloc, ctx, self)
     }
@@ -30,6 +32,8 @@ impl<'a> ParseBuf<'a> {
         ensures ok { IfOk result
             (λ v. Reads (T.spells ctx) T.same v self.old.0.now self.new.0.now) }
         ensures err { IfErr result (λ e. T.is_memory e ⊎ Lacks (T.spells ctx) self.old.0.now) }
+        ensures why { IfErr result (ParseRefusal T.Size.SIZE (T.refusal ctx)
+            (T.Fault.from_gives Eof) self.old.0.now) }
         ensures short { IfShort T.Size.SIZE (length self.old.0.now)
             (IsErrAnd result (λ e. T.Fault.from_gives Eof e)) }
         ensures sized { EatsSize T.Size.SIZE self.old.0.now self.new.0.now }

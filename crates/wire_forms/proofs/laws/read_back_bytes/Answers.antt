@@ -1,6 +1,4 @@
-use Rattle.std.proofs.Common.{◌≡◌, ◌∙◌, ◌++◌, List, ℕ, [], sym, ap}
-use Rattle.wire_buf.specs.declared.fault.WireFault.TheVariants.{Memory}
-use Rattle.wire_ints.proofs.LenencStreamLemmas.{IfErr-same}
+use Rattle.std.proofs.Common.{◌∙◌, ◌++◌, List, ℕ, [], sym, ap}
 use Rattle.std.proofs.lemmas.List.{append-nil}
 use Rattle.wire_forms.proofs.laws.read_back_bytes.Goals as goal
 

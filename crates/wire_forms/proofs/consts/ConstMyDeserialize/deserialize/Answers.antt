@@ -12,9 +12,9 @@ returns-in_err-number-clause-err g c =
 pub returns-in_default-clause-err : goal.returns-in_default-clause-err
 returns-in_default-clause-err g c =
     inr (Lacks-unless (λ w. g.T.Constant.number w.0) (Alone g.U.IntRepr.spells) _ _ _ c.in_ok-number.ensures.ok
-    (λ w e. c.in_default.ensures w.0 e))
+    (λ w e. c.in_default.ensures w.0 (sym e)))
 
 pub returns-clause-ok : goal.returns-clause-ok
 returns-clause-ok g c =
     Reads-through (λ w. g.T.Constant.number w.0) (Alone g.U.IntRepr.spells) Equal c.new.result _ _ _
-    (ap (λ v. g.T.Constant.number v) c.new.ensures ∙ sym c.in-Some.ensures) c.in_ok-number.ensures.ok
+    (ap (λ v. g.T.Constant.number v) c.new.ensures ∙ c.in-Some.ensures) c.in_ok-number.ensures.ok

@@ -1,0 +1,9 @@
+use Rattle.std.proofs.Common.{length}
+use Rattle.mysql_wire.proofs.tests.take.Given as goal
+
+abbrev pub invariant-loop-packets : goal.invariant-loop-packets
+invariant-loop-packets l = Unit {0}
+
+-- each packet takes bytes
+abbrev pub decreases-loop-packets : goal.decreases-loop-packets
+decreases-loop-packets l = length l.src.items
