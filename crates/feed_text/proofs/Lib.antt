@@ -2,3 +2,4 @@ pub mod QuoteLemmas
 pub mod PieceLemmas
 pub mod PaddingLemmas
 pub mod InjectiveLemmas
+pub mod WorkedLemmas

@@ -2,7 +2,7 @@
 use Rattle.std.proofs.Common.{◌≡◌, ◌≤◌, ◌+◌, ◌-◌, ℕ, List, ◌++◌, length, take, drop, replicate, min, sym, ap, ◌∙◌, arith}
 use Rattle.std.proofs.lemmas.List.{take-append-drop, drop-append-le, length-replicate, drop-replicate}
 use Rattle.std.specs.Fmt.{decimal}
-use Rattle.feed_text.specs.ValueText.{padded}
+use Rattle.rows_values.specs.TimeTexts.{padded}
 
 pub padded_at : (n width start : ℕ) (new : List ℕ) → width ≤ 20 → start + length (decimal n) ≡ 20 → drop start new ≡ decimal n → take start new ≡ replicate start 48
     → drop (min start (20 - width)) new ≡ padded width n

@@ -1,9 +1,15 @@
 -- Quoting, a run of plain bytes at a time.
-use Rattle.std.proofs.Common.{◌≡◌, ◌≤◌, ℕ, suc, ◌+◌, Bool, true, false, List, [], ◌∷◌, ◌++◌, length, take, drop, refl, sym, ap, ◌∙◌, append_assoc, arith, length-take}
+use Rattle.std.proofs.Common.{◌≡◌, ◌≤◌, ◌<◌, ◌/◌, ◌%◌, slice_index, ℕ, suc, ◌+◌, Bool, true, false, List, [], ◌∷◌, ◌++◌, length, take, drop, refl, sym, ap, ◌∙◌, append_assoc, arith, length-take}
 use Rattle.std.proofs.lemmas.List.{append-nil, take-append-le}
 use Rattle.std.specs.Prelude.{take_while}
 use Rattle.std.specs.List.{flat_map, prefix_len}
+use Rattle.std.specs.Fmt.{digit_glyph}
+use Rattle.hex.specs.Hex.{lower_digits, encode_with, encode_lower}
 use Rattle.feed_text.specs.Quoting.{is_plain_byte, quoted_byte, quoted}
+
+-- the digit of the table
+glyph_at : (d : ℕ) → d < 16 → slice_index lower_digits d ≡ digit_glyph false d
+glyph_at d h = grind arith
 
 -- the plain bytes at the front stand for themselves
 pub plain_run : (xs : List ℕ) → flat_map quoted_byte xs ≡ take (length (take_while is_plain_byte xs)) xs ++ flat_map quoted_byte (drop (length (take_while is_plain_byte xs)) xs)
@@ -17,6 +23,13 @@ plain_run (x ∷ xs) = either (is_plain_byte x) refl (plain_run xs)
         rw h (simp e (ap (λ (t : List ℕ). x ∷ t) more))
     either false h more = rw (h, h) refl
 
+-- a run of plain bytes was appended, and what is left begins behind it
+pub run_more : (out new plain after rest : List ℕ) (n : ℕ) → new ≡ out ++ plain → plain ≡ take n rest → after ≡ drop n rest → n ≡ length (take_while is_plain_byte rest)
+    → new ++ flat_map quoted_byte after ≡ out ++ flat_map quoted_byte rest
+run_more out new plain after rest n is front back len =
+    let m : ℕ = length (take_while is_plain_byte rest) in
+    rw (is, front, back, len, append_assoc out (take m rest) (flat_map quoted_byte (drop m rest))) (ap (λ (t : List ℕ). out ++ t) (sym (plain_run rest)))
+
 -- nothing is left, and the second quote was written
 pub quote_done : (old out rest bytes new : List ℕ) → out ++ flat_map quoted_byte rest ≡ (old ++ 39 ∷ []) ++ flat_map quoted_byte bytes → length rest ≡ 0 → new ≡ out ++ 39 ∷ [] → new ≡ old ++ quoted bytes
 unfolding quoted
@@ -28,3 +41,8 @@ pub kept_more : (old out new more : List ℕ) → take (length old) out ≡ old 
 kept_more old out new more kept is =
     let long : length old ≤ length out = let e = ap length kept in let l = length-take (length old) out in omega (arith, e, l) in
     ap (take (length old)) is ∙ take-append-le (length old) out more long ∙ kept
+
+-- a byte that doesn't stand for itself
+pub quoted_other : (b : ℕ) → b < 256 → is_plain_byte b ≡ false → 92 ∷ encode_lower (b ∷ []) ≡ quoted_byte b
+unfolding encode_with
+quoted_other b h plain = rw (plain, glyph_at (b / 16) (omega (arith, h)), glyph_at (b % 16) (omega arith)) refl

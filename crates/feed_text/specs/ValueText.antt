@@ -1,16 +1,13 @@
 -- The text of the feed: the values of cells.
-use Rattle.std.specs.Prelude.{ℕ, ◌-◌, Bool, true, false, List, [], ◌∷◌, ◌++◌, length, replicate, codes}
+use Rattle.std.specs.Prelude.{ℕ, Bool, true, false, List, [], ◌∷◌, codes}
 use Rattle.std.specs.Fmt.{decimal, signed_decimal}
 use Rattle.std.specs.Int.{w32, w64, to_be_bytes}
 use Rattle.hex.specs.Hex.{encode_lower}
+use Rattle.rows_values.specs.TimeTexts.{padded}
 use Rattle.rows_values.specs.declared.value.Value.{Value}
 use Rattle.rows_values.specs.declared.value.Value.TheVariants.{NULL, Bytes, Int, UInt, Float, Double, Date, Time}
 use Rattle.feed_text.specs.Quoting.{quoted}
 use Rattle.feed_text.specs.Pieces.{joined}
-
--- a number in decimal, with zeros before it up to a least width
-unfoldable pub padded : ℕ → ℕ → List ℕ
-padded width n = replicate (width - length (decimal n)) 48 ++ decimal n
 
 abbrev pub sign_text : Bool → List ℕ
 sign_text true = codes "-"

@@ -1,10 +1,27 @@
-//! Laws of the texts. Each is a function that does nothing, whose contract is the law.
+//! Laws of the texts, and worked texts. Each is a function that does nothing, whose contract is the law.
 
-ghost use Rattle.std.specs.Prelude.{◌≡◌, ℕ, List};
+ghost use Rattle.std.specs.Prelude.{◌≡◌, ◌∷◌, [], codes, ℕ, List};
 ghost use Rattle.wire_buf.specs.Spelling.{AreBytes};
+ghost use Rattle.rows_values.specs.PackedTimes.{fraction_len, time2, datetime2};
+ghost use Rattle.rows_values.specs.Values.{span_value, date_value};
 ghost use Rattle.feed_text.specs.Quoting.{quoted};
+ghost use Rattle.feed_text.specs.ValueText.{value_text};
 
 /// Equal quoted texts are of equal bytes.
 pub fn equal_quotes_are_of_equal_bytes()
     ensures { (a b : List ℕ) → AreBytes a → AreBytes b → quoted a ≡ quoted b → a ≡ b }
+{}
+
+/// The text of the bytes `27 5c 0a 41`: a quote, a backslash, a line's end and a letter.
+pub fn worked_quote()
+    ensures { quoted (39 ∷ 92 ∷ 10 ∷ 65 ∷ []) ≡ codes "'\\27\\5c\\0aA'" }
+{}
+
+/// The texts of the time cell `7f ff fe f6` of two decimals, and of the date and time cell
+/// `99 83 b0 90 f9` without decimals.
+pub fn worked_times()
+    ensures time { value_text (span_value (time2 (fraction_len 2) (127 ∷ 255 ∷ 254 ∷ 246 ∷ [])))
+        ≡ codes "-0d00:00:01.100000" }
+    ensures date_and_time { value_text (date_value (datetime2 (fraction_len 0) (153 ∷ 131 ∷ 176 ∷ 144 ∷ 249 ∷ [])))
+        ≡ codes "2009-09-24T09:03:57.000000" }
 {}

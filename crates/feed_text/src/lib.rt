@@ -4,6 +4,7 @@
 //! was. `specs/` has the texts.
 #![tactic(auto)]
 
+mod digits;
 pub mod laws;
 mod padding;
 mod pieces;

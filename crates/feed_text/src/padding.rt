@@ -1,5 +1,5 @@
 ghost use Rattle.std.specs.Prelude.{◌≡◌, ◌≤◌, drop};
-ghost use Rattle.feed_text.specs.ValueText.{padded};
+ghost use Rattle.rows_values.specs.TimeTexts.{padded};
 
 use itoa::write_digits;
 

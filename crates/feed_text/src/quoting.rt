@@ -1,10 +1,10 @@
-ghost use Rattle.std.specs.Prelude.{◌≡◌, ◌<◌, ◌++◌, OnOk, OnErr, IfErr, false, length, take, take_while};
-ghost use Rattle.std.specs.Fmt.{digit_glyph};
+ghost use Rattle.std.specs.Prelude.{◌≡◌, ◌<◌, ◌++◌, OnOk, IfErr, false, length, take, take_while};
 ghost use Rattle.feed_text.specs.Quoting.{is_plain_byte, quoted_byte, quoted};
 ghost use Rattle.feed_text.specs.Pieces.{IsRefused};
 
+use crate::digits::put_digits;
 use rows_values::RowsError;
-use std::alloc::{AllocError, Allocator};
+use std::alloc::Allocator;
 
 /// Appends bytes between single quotes: 0x20 to 0x7e save quote and backslash as they are, each
 /// other byte as a backslash and two lower case hexadecimal digits. Want of memory is `Memory`, and
@@ -23,7 +23,7 @@ pub fn quote<A: Allocator>(bytes: &[u8], out: &mut Vec<u8, A>) -> Result<(), Row
 
 /// Appends bytes between quotes, or a part of this.
 #[tactic(auto, using(crate::proofs::QuoteLemmas::kept_more))]
-fn append_quoted<A: Allocator>(bytes: &[u8], out: &mut Vec<u8, A>) -> Result<(), AllocError>
+fn append_quoted<A: Allocator>(bytes: &[u8], out: &mut Vec<u8, A>) -> Result<(), RowsError>
     ensures ok { OnOk result (out.new.items ≡ out.old.items ++ quoted bytes.now) }
     ensures kept { take (length out.old.items) out.new.items ≡ out.old.items }
 {
@@ -43,15 +43,13 @@ fn append_quoted<A: Allocator>(bytes: &[u8], out: &mut Vec<u8, A>) -> Result<(),
     Ok(())
 }
 
-/// Appends one byte as it stands between quotes, or nothing.
-fn put_byte<A: Allocator>(byte: u8, out: &mut Vec<u8, A>) -> Result<(), AllocError>
+/// Appends a backslash and the two digits of a byte that doesn't stand for itself, or nothing.
+fn put_byte<A: Allocator>(byte: u8, out: &mut Vec<u8, A>) -> Result<(), RowsError>
+    requires { is_plain_byte byte ≡ false }
     ensures ok { OnOk result (out.new.items ≡ out.old.items ++ quoted_byte byte) }
-    ensures err { OnErr result (out.new.items ≡ out.old.items) }
+    ensures err { IfErr result (λ e. IsRefused e out.old.items out.new.items) }
 {
-    if is_plain(byte) {
-        return out.extend_from_slice(&[byte]);
-    }
-    out.extend_from_slice(&[b'\\', hex_digit(byte / 16), hex_digit(byte % 16)])
+    put_digits(b'\\', &[byte], out)
 }
 
 /// How many bytes at the front stand for themselves.
@@ -66,16 +64,4 @@ fn is_plain(byte: u8) -> bool
     ensures { result ≡ is_plain_byte byte }
 {
     (0x20..=0x7e).contains(&byte) && byte != b'\'' && byte != b'\\'
-}
-
-/// A lower case hexadecimal digit.
-fn hex_digit(digit: u8) -> u8
-    requires { digit < 16 }
-    ensures { result ≡ digit_glyph false digit }
-{
-    if digit < 10 {
-        b'0' + digit
-    } else {
-        b'a' + (digit - 10)
-    }
 }

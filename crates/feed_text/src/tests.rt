@@ -1,7 +1,8 @@
 use super::*;
+use linked_list_allocator::LocalHeap;
 use rows_values::{
-    Value, datetime_from_packed, my_datetime_packed_from_binary, my_time_packed_from_binary,
-    time_from_packed,
+    RowsError, Value, datetime_from_packed, my_datetime_packed_from_binary,
+    my_time_packed_from_binary, time_from_packed,
 };
 use std::test::Fail;
 
@@ -81,5 +82,47 @@ fn values_as_text(rt: HostRuntime) -> Result<(), Fail> {
     for (text, wanted) in &texts {
         assert_eq!(rt; text.as_slice(), *wanted);
     }
+    Ok(())
+}
+
+// Memory of each size is used up at another request: the refusal is answered, and what stood there
+// stands.
+#[test]
+fn refused_memory(rt: HostRuntime) -> Result<(), Fail> {
+    let alloc = rt.alloc();
+    let text = Vec::from_slice(alloc, b"a longer text\nof two lines, it's quoted\n")?;
+    let values = [
+        (Value::Bytes(text), 50usize),
+        (Value::Int(i64::MIN), 22),
+        (Value::Double(0x3ff0_0000_0000_0000), 19),
+        (Value::Date(2009, 9, 24, 9, 3, 57, 0), 28),
+        (Value::Time(true, 34, 22, 59, 59, 45), 21),
+    ];
+    for (value, len) in &values {
+        let (mut written, mut refused) = (0u32, 0u32);
+        for size in 1..=256usize {
+            let heap = LocalHeap::new(alloc, size)?;
+            let mut out = Vec::new(&heap);
+            let Ok(()) = out.extend_from_slice(b"ab") else {
+                continue;
+            };
+            match put_value(value, &mut out) {
+                Ok(()) => {
+                    written = written.saturating_add(1);
+                    assert_eq!(rt; out.len(), *len);
+                }
+                Err(error) => {
+                    refused = refused.saturating_add(1);
+                    assert_eq!(rt; error, RowsError::Memory);
+                    assert_eq!(rt; out.as_slice(), b"ab".as_slice());
+                }
+            }
+        }
+        assert!(rt; 0 < written && 0 < refused);
+    }
+    let heap = LocalHeap::new(alloc, 32)?;
+    let mut out = Vec::new(&heap);
+    assert_eq!(rt; quote(&[b'a'; 64], &mut out), Err(RowsError::Memory));
+    assert!(rt; out.is_empty());
     Ok(())
 }

@@ -1,8 +1,9 @@
-ghost use Rattle.std.specs.Prelude.{◌≡◌, ◌++◌, OnOk, IfErr, Bool};
+ghost use Rattle.std.specs.Prelude.{◌≡◌, ◌≤◌, ◌++◌, OnOk, IfErr, Bool, length, take};
 ghost use Rattle.rows_values.specs.declared.value.Value.TheVariants.{Date, Time};
 ghost use Rattle.feed_text.specs.Pieces.{IsRefused, joined};
 ghost use Rattle.feed_text.specs.ValueText.{value_text, sign_text, clock_texts};
 
+use crate::digits::put_digits;
 use crate::padding::Digits;
 use crate::pieces::append_all;
 use crate::quoting::quote;
@@ -30,20 +31,8 @@ pub fn put_value<A: Allocator>(value: &Value, out: &mut Vec<u8, A>) -> Result<()
             let mut buffer = Buffer::new();
             append_all(&[b"u".as_slice(), buffer.format(*number).as_bytes()], out)
         }
-        Value::Float(bits) => {
-            let mut digits = [0u8; 8];
-            let Ok(()) = hex::encode_to_slice(bits.to_be_bytes(), &mut digits) else {
-                unreachable!()
-            };
-            append_all(&[b"f".as_slice(), digits.as_slice()], out)
-        }
-        Value::Double(bits) => {
-            let mut digits = [0u8; 16];
-            let Ok(()) = hex::encode_to_slice(bits.to_be_bytes(), &mut digits) else {
-                unreachable!()
-            };
-            append_all(&[b"d".as_slice(), digits.as_slice()], out)
-        }
+        Value::Float(bits) => put_digits(b'f', &bits.to_be_bytes(), out),
+        Value::Double(bits) => put_digits(b'd', &bits.to_be_bytes(), out),
         Value::Date(year, month, day, hour, minute, second, micros) => {
             let date = (*year, *month, *day);
             put_date(date, (*hour, *minute, *second, *micros), out)
@@ -55,7 +44,7 @@ pub fn put_value<A: Allocator>(value: &Value, out: &mut Vec<u8, A>) -> Result<()
     }
 }
 
-/// Appends year, month and day, and hours, minutes, seconds and microseconds.
+/// Appends year, month and day, and hours, minutes, seconds and microseconds; or nothing.
 #[tactic(auto, unfolding(crate::specs::ValueText::value_text))]
 fn put_date<A: Allocator>(
     date: (u16, u8, u8),
@@ -66,13 +55,10 @@ fn put_date<A: Allocator>(
         ++ value_text (Date date.0 date.1 date.2 clock.0 clock.1 clock.2 clock.3)) }
     ensures err { IfErr result (λ e. IsRefused e out.old.items out.new.items) }
 {
+    let start = out.len();
     let year = Digits::with_width(4, u64::from(date.0));
     let month = Digits::with_width(2, u64::from(date.1));
     let day = Digits::with_width(2, u64::from(date.2));
-    let hour = Digits::with_width(2, u64::from(clock.0));
-    let minute = Digits::with_width(2, u64::from(clock.1));
-    let second = Digits::with_width(2, u64::from(clock.2));
-    let micros = Digits::with_width(6, u64::from(clock.3));
     let pieces = [
         year.as_slice(),
         b"-".as_slice(),
@@ -80,18 +66,12 @@ fn put_date<A: Allocator>(
         b"-".as_slice(),
         day.as_slice(),
         b"T".as_slice(),
-        hour.as_slice(),
-        b":".as_slice(),
-        minute.as_slice(),
-        b":".as_slice(),
-        second.as_slice(),
-        b".".as_slice(),
-        micros.as_slice(),
     ];
-    append_all(&pieces, out)
+    append_all(&pieces, out)?;
+    put_clock(clock, start, out)
 }
 
-/// Appends a sign and days, and hours, minutes, seconds and microseconds.
+/// Appends a sign and days, and hours, minutes, seconds and microseconds; or nothing.
 #[tactic(auto, unfolding(crate::specs::ValueText::value_text))]
 fn put_span<A: Allocator>(
     span: (bool, u32),
@@ -102,16 +82,29 @@ fn put_span<A: Allocator>(
         ++ value_text (Time span.0 span.1 clock.0 clock.1 clock.2 clock.3)) }
     ensures err { IfErr result (λ e. IsRefused e out.old.items out.new.items) }
 {
+    let start = out.len();
     let mut buffer = Buffer::new();
     let days = buffer.format(span.1);
+    append_all(&[sign(span.0), days.as_bytes(), b"d".as_slice()], out)?;
+    put_clock(clock, start, out)
+}
+
+/// Appends hours, minutes, seconds and microseconds, or cuts the text back to `start`.
+fn put_clock<A: Allocator>(
+    clock: (u8, u8, u8, u32),
+    start: usize,
+    out: &mut Vec<u8, A>,
+) -> Result<(), RowsError>
+    requires { start ≤ length out.old.items }
+    ensures ok { OnOk result (out.new.items ≡ out.old.items
+        ++ joined (clock_texts clock.0 clock.1 clock.2 clock.3)) }
+    ensures err { IfErr result (λ e. IsRefused e (take start out.old.items) out.new.items) }
+{
     let hours = Digits::with_width(2, u64::from(clock.0));
     let minutes = Digits::with_width(2, u64::from(clock.1));
     let seconds = Digits::with_width(2, u64::from(clock.2));
     let micros = Digits::with_width(6, u64::from(clock.3));
     let pieces = [
-        sign(span.0),
-        days.as_bytes(),
-        b"d".as_slice(),
         hours.as_slice(),
         b":".as_slice(),
         minutes.as_slice(),
@@ -120,7 +113,11 @@ fn put_span<A: Allocator>(
         b".".as_slice(),
         micros.as_slice(),
     ];
-    append_all(&pieces, out)
+    let Ok(()) = append_all(&pieces, out) else {
+        out.truncate(start);
+        return Err(RowsError::Memory);
+    };
+    Ok(())
 }
 
 /// The sign before a number.

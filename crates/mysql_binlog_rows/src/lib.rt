@@ -1,10 +1,12 @@
 //! The rows of MySQL's binary logs: the constants that speak of them, the times, decimals and values
 //! that their cells hold, columns and bits.
 //!
-//! It stands on `mysql_wire`. Each thing is made in a part of its own, which is re-exported whole:
-//! `rows_consts` and `rows_flags` have the constants, `rows_values` times, values, columns, bits and the
-//! faults of rows, and `rows_decimal` the decimals.
+//! Each thing is made in a part of its own, which is re-exported whole: `rows_consts` and `rows_flags` have
+//! the constants, `rows_values` times, values, columns, bits and the faults of rows, and `rows_decimal` the
+//! decimals. The parts stand on those of `mysql_wire`.
 #![tactic(auto)]
+
+pub mod laws;
 
 pub use rows_consts::{
     BINLOG_CHECKSUM_ALG_DESC_LEN, BINLOG_CHECKSUM_LEN, BinlogChecksumAlg, BinlogRowValueOptions,
@@ -19,7 +21,7 @@ pub use rows_consts::{
 };
 pub use rows_decimal::{
     DIG_BASE, DIG_PER_DEC, DIG_TO_BYTES, Decimal, Digit, POWERS_10, ParseDecimalError,
-    decimal_bin_size, numbers_in_order, read_back, worked_decimals,
+    decimal_bin_size,
 };
 pub use rows_flags::{
     EventFlags, GtidFlags, RowsEventFlags, SemiSyncFlags, UnknownEventFlags, UnknownGtidFlags,

@@ -36,6 +36,7 @@ impl TryFrom<u8> for BinlogChecksumAlg {
 impl From<UnknownChecksumAlg> for u8 {
     ghost from_gives = { λ unknown number. number ≡ unknown.0 };
 
+    /// The number that was refused.
     fn from(unknown: UnknownChecksumAlg) -> u8 {
         unknown.0
     }

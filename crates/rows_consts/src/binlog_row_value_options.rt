@@ -33,6 +33,7 @@ impl TryFrom<u64> for BinlogRowValueOptions {
 impl From<UnknownBinlogRowValueOptions> for u64 {
     ghost from_gives = { λ unknown number. number ≡ unknown.0 };
 
+    /// The number that was refused.
     fn from(unknown: UnknownBinlogRowValueOptions) -> u64 {
         unknown.0
     }

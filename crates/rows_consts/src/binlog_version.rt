@@ -42,6 +42,7 @@ impl TryFrom<u16> for BinlogVersion {
 impl From<BinlogVersion> for u16 {
     ghost from_gives = { λ binlog_version number. number ≡ binlog_version_number binlog_version };
 
+    /// The number of the version.
     fn from(binlog_version: BinlogVersion) -> u16 {
         binlog_version as u16
     }
@@ -50,6 +51,7 @@ impl From<BinlogVersion> for u16 {
 impl From<UnknownBinlogVersion> for u16 {
     ghost from_gives = { λ unknown number. number ≡ unknown.0 };
 
+    /// The number that was refused.
     fn from(unknown: UnknownBinlogVersion) -> u16 {
         unknown.0
     }

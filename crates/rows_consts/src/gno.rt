@@ -24,7 +24,7 @@ pub struct InvalidGno(pub u64);
 impl TryFrom<u64> for Gno {
     type Error = InvalidGno;
 
-    ghost try_from_gives = { IsGnoOf (λ gno. gno.0) (λ invalid. invalid.0) };
+    ghost try_from_gives = { IsGnoOf };
 
     /// The transaction's number; refused from 2^63 on. `mysql_common` refuses 2^63 - 1 too.
     fn try_from(number: u64) -> Result<Gno, InvalidGno> {
@@ -39,6 +39,7 @@ impl TryFrom<u64> for Gno {
 impl From<InvalidGno> for u64 {
     ghost from_gives = { λ invalid number. number ≡ invalid.0 };
 
+    /// The number that was refused.
     fn from(invalid: InvalidGno) -> u64 {
         invalid.0
     }

@@ -36,6 +36,7 @@ impl TryFrom<u16> for IncidentType {
 impl From<IncidentType> for u16 {
     ghost from_gives = { λ incident_type number. number ≡ incident_type_number incident_type };
 
+    /// The number of the incident.
     fn from(incident_type: IncidentType) -> u16 {
         incident_type as u16
     }
@@ -44,6 +45,7 @@ impl From<IncidentType> for u16 {
 impl From<UnknownIncidentType> for u16 {
     ghost from_gives = { λ unknown number. number ≡ unknown.0 };
 
+    /// The number that was refused.
     fn from(unknown: UnknownIncidentType) -> u16 {
         unknown.0
     }

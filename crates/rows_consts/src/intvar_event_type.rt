@@ -39,6 +39,7 @@ impl TryFrom<u8> for IntvarEventType {
 impl From<IntvarEventType> for u8 {
     ghost from_gives = { λ intvar_event_type number. number ≡ intvar_event_type_number intvar_event_type };
 
+    /// The number of the variable.
     fn from(intvar_event_type: IntvarEventType) -> u8 {
         intvar_event_type as u8
     }
@@ -47,6 +48,7 @@ impl From<IntvarEventType> for u8 {
 impl From<UnknownIntvarEventType> for u8 {
     ghost from_gives = { λ unknown number. number ≡ unknown.0 };
 
+    /// The number that was refused.
     fn from(unknown: UnknownIntvarEventType) -> u8 {
         unknown.0
     }

@@ -11,6 +11,7 @@ mod event_type;
 mod gno;
 mod incident_type;
 mod intvar_event_type;
+pub mod laws;
 mod lengths;
 mod load_duplicate_handling;
 mod optional_metadata_field_type;

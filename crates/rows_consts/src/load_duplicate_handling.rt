@@ -37,8 +37,9 @@ impl TryFrom<u8> for LoadDuplicateHandling {
 }
 
 impl From<LoadDuplicateHandling> for u8 {
-    ghost from_gives = { λ load_duplicate_handling number. number ≡ load_duplicate_handling_number load_duplicate_handling };
+    ghost from_gives = { λ handling number. number ≡ load_duplicate_handling_number handling };
 
+    /// The number of the handling.
     fn from(load_duplicate_handling: LoadDuplicateHandling) -> u8 {
         load_duplicate_handling as u8
     }
@@ -47,6 +48,7 @@ impl From<LoadDuplicateHandling> for u8 {
 impl From<UnknownDuplicateHandling> for u8 {
     ghost from_gives = { λ unknown number. number ≡ unknown.0 };
 
+    /// The number that was refused.
     fn from(unknown: UnknownDuplicateHandling) -> u8 {
         unknown.0
     }

@@ -69,6 +69,7 @@ impl TryFrom<u8> for OptionalMetadataFieldType {
 impl From<UnknownOptionalMetadataFieldType> for u8 {
     ghost from_gives = { λ unknown number. number ≡ unknown.0 };
 
+    /// The number that was refused.
     fn from(unknown: UnknownOptionalMetadataFieldType) -> u8 {
         unknown.0
     }

@@ -20,6 +20,35 @@ fn event_types_and_back(rt: HostRuntime) {
     assert_eq!(rt; EventType::WRITE_ROWS_EVENT as u8, 0x1e);
 }
 
+// The numbers of the constants without a conversion into numbers: those that they are taken from.
+#[test]
+fn numbers_of_keys_and_types(rt: HostRuntime) {
+    let mut known = 0u32;
+    for number in 0..=255u8 {
+        if let Ok(key) = StatusVarKey::try_from(number) {
+            assert_eq!(rt; key as u8, number);
+            known = known.saturating_add(1);
+        }
+        if let Ok(field_type) = OptionalMetadataFieldType::try_from(number) {
+            assert_eq!(rt; field_type as u8, number);
+            known = known.saturating_add(1);
+        }
+        if let Ok(algorithm) = BinlogChecksumAlg::try_from(number) {
+            assert_eq!(rt; algorithm as u8, number);
+            known = known.saturating_add(1);
+        }
+        if let Ok(compression) = TransactionPayloadCompressionType::try_from(number) {
+            assert_eq!(rt; compression as u8, number);
+            known = known.saturating_add(1);
+        }
+        if let Ok(option) = BinlogRowValueOptions::try_from(u64::from(number)) {
+            assert_eq!(rt; option as u8, number);
+            known = known.saturating_add(1);
+        }
+    }
+    assert_eq!(rt; known, 21 + 13 + 2 + 2 + 1);
+}
+
 // Greatest and least transaction numbers.
 #[test]
 fn gno_range(rt: HostRuntime) {

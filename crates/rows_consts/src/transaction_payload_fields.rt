@@ -58,16 +58,18 @@ impl TryFrom<u64> for TransactionPayloadFields {
 }
 
 impl From<TransactionPayloadFields> for u8 {
-    ghost from_gives = { λ transaction_payload_fields number. number ≡ transaction_payload_fields_number transaction_payload_fields };
+    ghost from_gives = { λ field number. number ≡ transaction_payload_fields_number field };
 
+    /// The number of the field.
     fn from(transaction_payload_fields: TransactionPayloadFields) -> u8 {
         transaction_payload_fields as u8
     }
 }
 
 impl From<TransactionPayloadFields> for u64 {
-    ghost from_gives = { λ transaction_payload_fields number. number ≡ transaction_payload_fields_number transaction_payload_fields };
+    ghost from_gives = { λ field number. number ≡ transaction_payload_fields_number field };
 
+    /// The number of the field.
     fn from(transaction_payload_fields: TransactionPayloadFields) -> u64 {
         transaction_payload_fields as u64
     }

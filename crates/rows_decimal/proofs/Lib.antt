@@ -1,7 +1,12 @@
 pub mod GroupLemmas
 pub mod TakingLemmas
+pub mod ZeroLemmas
 pub mod UnpackLemmas
 pub mod ReadingLemmas
 pub mod OrderLemmas
 pub mod NumericLemmas
 pub mod ReadBackLemmas
+pub mod DisplayLemmas
+pub mod GroupFrontLemmas
+pub mod FlipLemmas
+pub mod TextLemmas

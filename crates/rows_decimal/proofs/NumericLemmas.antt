@@ -11,8 +11,8 @@ use Rattle.std.proofs.lemmas.List.{length-append, length-drop, length-take-le, t
 use Rattle.byteorder.specs.Endian.{big_from}
 use Rattle.byteorder.specs.Numbers.{big_from-cons, big_from-lt}
 use Rattle.wire_buf.specs.Spelling.{AreBytes}
-use Rattle.rows_decimal.specs.Digits.{AreDigits, group_size, side_size, group_bytes, nines_bytes, before_bytes, after_bytes, top_turned, signed}
-use Rattle.rows_decimal.specs.Decimals.{Value, packed, digits_number, number_cmp}
+use Rattle.rows_decimal.specs.Digits.{AreDigits, group_size, side_size, group_bytes, nines_bytes, before_bytes, after_bytes, top_flipped, signed}
+use Rattle.rows_decimal.specs.Decimals.{Value, packed, digits_number, number_cmp, IsPacked}
 use Rattle.rows_decimal.proofs.GroupLemmas.{take_digits, drop_digits, append_digits, number_bound, fits_group}
 use Rattle.rows_decimal.proofs.TakingLemmas.{length-group, length-nines, number_of_bytes, nine_long, take_parts}
 use Rattle.rows_decimal.proofs.UnpackLemmas.{before_of, after_of, group_are_bytes, sides_low, sides_are_bytes, top_bytes, length-before, length-after}
@@ -20,10 +20,10 @@ use Rattle.rows_decimal.proofs.OrderLemmas.{self_equal}
 
 -- ---- the order of numbers
 
-less : (a b : ℕ) → a < b → nat_cmp a b ≡ Less
+pub less : (a b : ℕ) → a < b → nat_cmp a b ≡ Less
 less a b h = elim (leb_tells (suc a) b) [ inl t ↦ rw t.0 refl | inr t ↦ absurd (omega (arith, t.1, h)) ]
 
-greater : (a b : ℕ) → b < a → nat_cmp a b ≡ Greater
+pub greater : (a b : ℕ) → b < a → nat_cmp a b ≡ Greater
 greater a b h = elim (leb_tells (suc a) b) [
   | inl t ↦ absurd (omega (arith, t.1, h))
   | inr t ↦ elim (eqb_tells a b) [ inl e ↦ absurd (omega (arith, e.1, h)) | inr e ↦ rw (t.0, e.0) refl ]
@@ -32,13 +32,13 @@ greater a b h = elim (leb_tells (suc a) b) [
 equal : (a b : ℕ) → a ≡ b → nat_cmp a b ≡ Equal
 equal a b e = ap (nat_cmp a) (sym e) ∙ self_equal a
 
-three : (a b : ℕ) → (a < b) ⊎ ((a ≡ b) ⊎ (b < a))
+pub three : (a b : ℕ) → (a < b) ⊎ ((a ≡ b) ⊎ (b < a))
 three a b = elim (leb_tells (suc a) b) [
   | inl t ↦ inl t.1
   | inr t ↦ elim (eqb_tells a b) [ inl e ↦ inr (inl e.1) | inr e ↦ let apart : a ≢ b = e.1 in inr (inr (omega (arith, t.1, apart))) ]
 ]
 
-shift_cmp : (k a b : ℕ) → nat_cmp (k + a) (k + b) ≡ nat_cmp a b
+pub shift_cmp : (k a b : ℕ) → nat_cmp (k + a) (k + b) ≡ nat_cmp a b
 shift_cmp k a b = elim (three a b) [
   | inl l ↦ less (k + a) (k + b) (omega (arith, l)) ∙ sym (less a b l)
   | inr c ↦ elim c [
@@ -47,7 +47,7 @@ shift_cmp k a b = elim (three a b) [
   ]
 ]
 
-flip_cmp : (a b : ℕ) → a < 256 → b < 256 → nat_cmp (255 - a) (255 - b) ≡ nat_cmp b a
+pub flip_cmp : (a b : ℕ) → a < 256 → b < 256 → nat_cmp (255 - a) (255 - b) ≡ nat_cmp b a
 flip_cmp a b h g = elim (three a b) [
   | inl l ↦ greater (255 - a) (255 - b) (omega (arith, l, h, g)) ∙ sym (greater b a l)
   | inr c ↦ elim c [
@@ -231,18 +231,24 @@ pub record AreAlike (v w : Value) : Type 0 where
   pub w_before : AreDigits w.before
   pub w_after : AreDigits w.after
 
+digits_alike : (v w : Value) → AreAlike v w → slice_cmp nat_cmp (v.before ++ v.after) (w.before ++ w.after) ≡ nat_cmp (digits_number v) (digits_number w)
+digits_alike v w a =
+    let b_size = a.before_size in
+    let a_size = a.after_size in
+    let long : length (v.before ++ v.after) ≡ length (w.before ++ w.after) = omega (arith, length-append v.before v.after, length-append w.before w.after, b_size, a_size) in
+    digits_cmp (v.before ++ v.after) (w.before ++ w.after) long (append_digits v.before v.after a.v_before a.v_after) (append_digits w.before w.after a.w_before a.w_after)
+
 sides_cmp : (v w : Value) → AreAlike v w → slice_cmp nat_cmp (sides v) (sides w) ≡ nat_cmp (digits_number v) (digits_number w)
 unfolding sides
 sides_cmp v w a =
     let fronts : length (before_bytes v.before) ≡ length (before_bytes w.before) = length-before v.before ∙ ap side_size a.before_size ∙ sym (length-before w.before) in
     let b_size = a.before_size in
     let a_size = a.after_size in
-    let long : length (v.before ++ v.after) ≡ length (w.before ++ w.after) = omega (arith, length-append v.before v.after, length-append w.before w.after, b_size, a_size) in
     cmp_append (before_bytes v.before) (before_bytes w.before) (after_bytes v.after) (after_bytes w.after) fronts
     ∙ ap (λ (o : Ordering). ordering_then o (slice_cmp nat_cmp (after_bytes v.after) (after_bytes w.after))) (before_cmp (length v.before) v.before w.before refl (sym b_size) a.v_before a.w_before)
     ∙ ap (λ (o : Ordering). ordering_then (slice_cmp nat_cmp v.before w.before) o) (after_cmp (length v.after) v.after w.after refl (sym a_size) a.v_after a.w_after)
     ∙ sym (cmp_append v.before w.before v.after w.after b_size)
-    ∙ digits_cmp (v.before ++ v.after) (w.before ++ w.after) long (append_digits v.before v.after a.v_before a.v_after) (append_digits w.before w.after a.w_before a.w_after)
+    ∙ digits_alike v w a
 
 sides_long : (v w : Value) → AreAlike v w → length (sides v) ≡ length (sides w)
 unfolding sides
@@ -251,7 +257,7 @@ sides_long v w a =
     let after = length-after v.after ∙ ap side_size a.after_size ∙ sym (length-after w.after) in
     omega (arith, length-append (before_bytes v.before) (after_bytes v.after), length-append (before_bytes w.before) (after_bytes w.after), before, after)
 
-top_cmp : (y z : List ℕ) → length y ≡ length z → get_or y 0 0 < 128 → get_or z 0 0 < 128 → slice_cmp nat_cmp (top_turned y) (top_turned z) ≡ slice_cmp nat_cmp y z
+top_cmp : (y z : List ℕ) → length y ≡ length z → get_or y 0 0 < 128 → get_or z 0 0 < 128 → slice_cmp nat_cmp (top_flipped y) (top_flipped z) ≡ slice_cmp nat_cmp y z
 top_cmp [] [] e h g = refl
 top_cmp [] (c ∷ z) e h g = absurd (omega (arith, e))
 top_cmp (b ∷ y) [] e h g = absurd (omega (arith, e))
@@ -269,28 +275,28 @@ all_cmp (b ∷ y) (c ∷ z) e h g =
     ∙ ap (λ (o : Ordering). ordering_then (nat_cmp c b) o) (all_cmp y z (omega (arith, e)) (λ k. h (suc k)) (λ k. g (suc k)))
 
 -- a negative before one that is none
-mixed_less : (y z : List ℕ) → length y ≡ length z → 0 < length y → get_or y 0 0 < 128 → get_or z 0 0 < 128 → slice_cmp nat_cmp (map (λ b. 255 - b) (top_turned y)) (top_turned z) ≡ Less
-mixed_less [] z e some h g = absurd (omega (arith, some))
-mixed_less (b ∷ y) [] e some h g = absurd (omega (arith, e))
-mixed_less (b ∷ y) (c ∷ z) e some h g =
+pub mixed_less : (y z : List ℕ) → 0 < length y → 0 < length z → get_or y 0 0 < 128 → get_or z 0 0 < 128 → slice_cmp nat_cmp (map (λ b. 255 - b) (top_flipped y)) (top_flipped z) ≡ Less
+mixed_less [] z some also h g = absurd (omega (arith, some))
+mixed_less (b ∷ y) [] some also h g = absurd (omega (arith, also))
+mixed_less (b ∷ y) (c ∷ z) some also h g =
     ap (λ (o : Ordering). ordering_then o (slice_cmp nat_cmp (map (λ k. 255 - k) y) z)) (less (255 - (b + 128) % 256) ((c + 128) % 256) (omega (arith, h, g)))
 
-mixed_greater : (y z : List ℕ) → length y ≡ length z → 0 < length y → get_or y 0 0 < 128 → get_or z 0 0 < 128 → slice_cmp nat_cmp (top_turned y) (map (λ b. 255 - b) (top_turned z)) ≡ Greater
-mixed_greater [] z e some h g = absurd (omega (arith, some))
-mixed_greater (b ∷ y) [] e some h g = absurd (omega (arith, e))
-mixed_greater (b ∷ y) (c ∷ z) e some h g =
+pub mixed_greater : (y z : List ℕ) → 0 < length y → 0 < length z → get_or y 0 0 < 128 → get_or z 0 0 < 128 → slice_cmp nat_cmp (top_flipped y) (map (λ b. 255 - b) (top_flipped z)) ≡ Greater
+mixed_greater [] z some also h g = absurd (omega (arith, some))
+mixed_greater (b ∷ y) [] some also h g = absurd (omega (arith, also))
+mixed_greater (b ∷ y) (c ∷ z) some also h g =
     ap (λ (o : Ordering). ordering_then o (slice_cmp nat_cmp y (map (λ k. 255 - k) z))) (greater ((b + 128) % 256) (255 - (c + 128) % 256) (omega (arith, h, g)))
 
-length-top : (y : List ℕ) → length (top_turned y) ≡ length y
+length-top : (y : List ℕ) → length (top_flipped y) ≡ length y
 length-top [] = refl
 length-top (b ∷ y) = refl
 
 signed_cmp : (m n : Bool) (y z : List ℕ) (p q : ℕ) → length y ≡ length z → 0 < length y → AreBytes y → AreBytes z → get_or y 0 0 < 128 → get_or z 0 0 < 128
-    → slice_cmp nat_cmp y z ≡ nat_cmp p q → slice_cmp nat_cmp z y ≡ nat_cmp q p → slice_cmp nat_cmp (signed m (top_turned y)) (signed n (top_turned z)) ≡ number_cmp m p n q
+    → slice_cmp nat_cmp y z ≡ nat_cmp p q → slice_cmp nat_cmp z y ≡ nat_cmp q p → slice_cmp nat_cmp (signed m (top_flipped y)) (signed n (top_flipped z)) ≡ number_cmp m p n q
 signed_cmp true true y z p q e some h g low_y low_z forth back =
-    all_cmp (top_turned y) (top_turned z) (length-top y ∙ e ∙ sym (length-top z)) (top_bytes y h) (top_bytes z g) ∙ top_cmp z y (sym e) low_z low_y ∙ back
-signed_cmp true false y z p q e some h g low_y low_z forth back = mixed_less y z e some low_y low_z
-signed_cmp false true y z p q e some h g low_y low_z forth back = mixed_greater y z e some low_y low_z
+    all_cmp (top_flipped y) (top_flipped z) (length-top y ∙ e ∙ sym (length-top z)) (top_bytes y h) (top_bytes z g) ∙ top_cmp z y (sym e) low_z low_y ∙ back
+signed_cmp true false y z p q e some h g low_y low_z forth back = mixed_less y z some (omega (arith, e, some)) low_y low_z
+signed_cmp false true y z p q e some h g low_y low_z forth back = mixed_greater y z some (omega (arith, e, some)) low_y low_z
 signed_cmp false false y z p q e some h g low_y low_z forth back = top_cmp y z e low_y low_z ∙ forth
 
 group_some : (k : ℕ) → 0 < k → k < 9 → 0 < group_size k
@@ -327,8 +333,23 @@ turned_around v w a = record {
   w_after = a.v_after;
 }
 
-pub packed_in_order : (v w : Value) → AreAlike v w → 0 < length v.before + length v.after → slice_cmp nat_cmp (packed v) (packed w) ≡ number_cmp v.negative (digits_number v) w.negative (digits_number w)
+packed_in_order : (v w : Value) → AreAlike v w → 0 < length v.before + length v.after → slice_cmp nat_cmp (packed v) (packed w) ≡ number_cmp v.negative (digits_number v) w.negative (digits_number w)
 unfolding sides
 packed_in_order v w a some =
     signed_cmp v.negative w.negative (sides v) (sides w) (digits_number v) (digits_number w) (sides_long v w a) (sides_some v some) (sides_are_bytes v.before v.after) (sides_are_bytes w.before w.after)
     (sides_low v.before v.after a.v_before a.v_after) (sides_low w.before w.after a.w_before a.w_after) (sides_cmp v w a) (sides_cmp w v (turned_around v w a))
+
+-- the same of packed forms of so many digits
+pub packs_in_order : (before after : ℕ) (v w : Value) (a b : List ℕ) → 0 < before + after → IsPacked before after v a → IsPacked before after w b
+    → slice_cmp nat_cmp a b ≡ number_cmp v.negative (digits_number v) w.negative (digits_number w)
+packs_in_order before after v w a b some p q =
+    let alike : AreAlike v w = record {
+      before_size = p.before_size ∙ sym q.before_size;
+      after_size = p.after_size ∙ sym q.after_size;
+      v_before = p.before_are;
+      v_after = p.after_are;
+      w_before = q.before_are;
+      w_after = q.after_are;
+    } in
+    let v_some : 0 < length v.before + length v.after = subst (λ k. 0 < k + length v.after) (sym p.before_size) (subst (λ k. 0 < before + k) (sym p.after_size) some) in
+    ap (λ (l : List ℕ). slice_cmp nat_cmp l b) (sym p.bytes_are) ∙ ap (λ (l : List ℕ). slice_cmp nat_cmp (packed v) l) (sym q.bytes_are) ∙ packed_in_order v w alike v_some

@@ -1,5 +1,5 @@
 -- What was packed is read back.
-use Rattle.std.proofs.Common.{◌≡◌, ◌≤◌, ◌<◌, ◌+◌, ◌-◌, ◌%◌, ◌++◌, Bool, true, false, ℕ, List, [], ◌∷◌, length, take, drop, get_or, Option, Some, None, Result, Ok, Err, IfOk, IfErr, ◌⊎◌, inl, inr, arith, refl, sym, ap, subst, ◌∙◌, Ordering}
+use Rattle.std.proofs.Common.{◌≡◌, ◌≤◌, ◌<◌, ◌+◌, ◌-◌, ◌%◌, ◌++◌, Bool, true, false, ℕ, zero, suc, List, [], ◌∷◌, length, take, drop, get_or, Option, Some, None, Result, Ok, Err, IfOk, IfErr, ◌⊎◌, inl, inr, arith, refl, sym, ap, subst, ◌∙◌, Ordering}
 use Rattle.std.specs.Ordering.{nat_cmp, ordering_then}
 use Rattle.std.specs.declared.cmp.Ordering.TheVariants.{Equal}
 use Rattle.std.specs.Cmp.Lexicographic.{slice_cmp}
@@ -14,8 +14,9 @@ use Rattle.wire_buf.specs.declared.fault.WireFault.{WireFault}
 use Rattle.wire_buf.specs.declared.fault.WireFault.TheVariants as wire
 use Rattle.rows_values.specs.Faults.{rows_error}
 use Rattle.rows_decimal.specs.declared.fields.Decimal.{Decimal}
-use Rattle.rows_decimal.specs.Digits.{AreDigits, side_size, before_bytes, after_bytes, top_turned, signed, has_minus_bit}
-use Rattle.rows_decimal.specs.Decimals.{Value, value_of, packed, packed_size, IsPacked, ReadsDecimal, FailsDecimal, NonePacked, kept}
+use Rattle.rows_decimal.specs.Digits.{AreDigits, side_size, before_bytes, after_bytes, top_flipped, signed}
+use Rattle.rows_decimal.specs.Steps.{has_minus_bit}
+use Rattle.rows_decimal.specs.Decimals.{Value, value_of, packed, packed_size, IsPacked, ReadsDecimal, FailsDecimal, unordered, ordered, FailsDigits, Unpacks, kept, zero_value, without_zero_nines}
 use Rattle.rows_decimal.proofs.UnpackLemmas.{plain_of, length-before, sides_low, below-128, above-128}
 use Rattle.rows_decimal.proofs.OrderLemmas.{self_equal, length-packed}
 use Rattle.rows_decimal.proofs.NumericLemmas.{before_cmp, after_cmp, sides_some}
@@ -36,7 +37,7 @@ after_once n ds es a b h g e =
     list_once ds es (sym (after_cmp n ds es a b h g) ∙ ap (λ (l : List ℕ). slice_cmp nat_cmp l (after_bytes es)) e ∙ same_list (after_bytes es))
 
 -- packed bytes tell the sign
-sign_told : (n : Bool) (y : List ℕ) → get_or y 0 0 < 128 → 0 < length y → has_minus_bit (signed n (top_turned y)) ≡ n
+sign_told : (n : Bool) (y : List ℕ) → get_or y 0 0 < 128 → 0 < length y → has_minus_bit (signed n (top_flipped y)) ≡ n
 sign_told n [] low some = absurd (omega (arith, some))
 sign_told true (b ∷ y) low some = let small : 255 - (b + 128) % 256 < 128 = omega (arith, low) in below-128 (255 - (b + 128) % 256) small
 sign_told false (b ∷ y) low some = let large : 128 ≤ (b + 128) % 256 = omega (arith, low) in above-128 ((b + 128) % 256) large
@@ -45,7 +46,7 @@ sign_told false (b ∷ y) low some = let large : 128 ≤ (b + 128) % 256 = omega
 pub packed_once : (before after : ℕ) (v w : Value) (bytes : List ℕ) → 0 < before + after → IsPacked before after v bytes → IsPacked before after w bytes → v ≡ w
 packed_once before after v w bytes some p q =
     let neg = has_minus_bit bytes in
-    let x = top_turned (signed neg bytes) in
+    let x = top_flipped (signed neg bytes) in
     let one = plain_of neg bytes x before after v refl refl p in
     let two = plain_of neg bytes x before after w refl refl q in
     let both : before_bytes v.before ++ after_bytes v.after ≡ before_bytes w.before ++ after_bytes w.after = sym one ∙ two in
@@ -118,24 +119,48 @@ not_short before after v bytes taken (Some ys) a b e consumed short ended =
     omega (arith, short, long)
 
 -- what was packed is never refused for its bytes
+never_refused : (before after : ℕ) (v : Value) (bytes : List ℕ) (new : Option (List ℕ)) (e : RowsError) → AreDigits v.before → AreDigits v.after → bytes ≡ packed v → before ≡ length v.before
+    → after ≡ length v.after → FailsDigits before after e (Some bytes) new → e ≡ fault.Memory ⊎ e ≡ fault.Read
+never_refused before after v bytes new fault.Memory h g e a b fails = inl refl
+never_refused before after v bytes new fault.Read h g e a b fails = inr refl
+never_refused before after v bytes new fault.EndOfBody h g e a b fails = absurd (not_short before after v bytes fails.taken new a b e fails.consumed fails.cause.0 fails.cause.1)
+never_refused before after v bytes new fault.Decimal h g e a b fails =
+    absurd (fails.cause.1 v (record { before_size = sym a; after_size = sym b; before_are = h; after_are = g; bytes_are = sym e ∙ all_taken before after v bytes fails.taken new a b e fails.consumed fails.cause.0 }))
+never_refused before after v bytes new fault.RemainingBytes h g e a b fails = absurd fails.cause
+never_refused before after v bytes new fault.UnknownNumber h g e a b fails = absurd fails.cause
+never_refused before after v bytes new fault.Metadata h g e a b fails = absurd fails.cause
+never_refused before after v bytes new fault.Cell h g e a b fails = absurd fails.cause
+never_refused before after v bytes new (fault.Jsonb j) h g e a b fails = absurd fails.cause
+never_refused before after v bytes new fault.EmptyPair h g e a b fails = absurd fails.cause
+
 pub err_read_back : (precision scale : ℕ) (v : Value) (bytes : List ℕ) (new : Option (List ℕ)) (r : Result Decimal RowsError) → AreDigits v.before → AreDigits v.after → scale ≤ precision
     → bytes ≡ packed v → precision - scale ≡ length v.before → scale ≡ length v.after → IfErr r (λ e. FailsDecimal precision scale e (Some bytes) new) → IfErr r (λ e. e ≡ fault.Memory ⊎ e ≡ fault.Read)
 err_read_back precision scale v bytes new (Ok d) h g le e a b fails = tt
-err_read_back precision scale v bytes new (Err fault.Memory) h g le e a b fails = inl refl
-err_read_back precision scale v bytes new (Err fault.Read) h g le e a b fails = inr refl
-err_read_back precision scale v bytes new (Err fault.EndOfBody) h g le e a b fails = absurd (not_short (precision - scale) scale v bytes fails.taken new a b e fails.consumed fails.cause.0 fails.cause.1)
-err_read_back precision scale v bytes new (Err fault.Decimal) h g le e a b fails = elim fails.cause [
-  | inl past ↦ absurd (omega (arith, past.0, le))
-  | inr none ↦ absurd (none.1 v (record { before_size = sym a; after_size = sym b; before_are = h; after_are = g; bytes_are = sym e ∙ all_taken (precision - scale) scale v bytes fails.taken new a b e fails.consumed none.0 }))
-]
-err_read_back precision scale v bytes new (Err fault.RemainingBytes) h g le e a b fails = absurd fails.cause
-err_read_back precision scale v bytes new (Err fault.UnknownNumber) h g le e a b fails = absurd fails.cause
-err_read_back precision scale v bytes new (Err fault.Metadata) h g le e a b fails = absurd fails.cause
-err_read_back precision scale v bytes new (Err fault.Cell) h g le e a b fails = absurd fails.cause
-err_read_back precision scale v bytes new (Err (fault.Jsonb j)) h g le e a b fails = absurd fails.cause
-err_read_back precision scale v bytes new (Err fault.EmptyPair) h g le e a b fails = absurd fails.cause
+err_read_back precision scale v bytes new (Err x) h g le e a b (unordered past bad none) = absurd (omega (arith, past, le))
+err_read_back precision scale v bytes new (Err x) h g le e a b (ordered at_most fails) = never_refused (precision - scale) scale v bytes new x h g e a b fails
 
 -- a buffer that was not written
 pub unwritten : (w : WireFault) (e : RowsError) → e ≡ rows_error w → w ≡ wire.Memory ⊎ w ≡ wire.Write → e ≡ fault.Memory ⊎ e ≡ fault.Read
 unwritten w e is (inl m) = inl (is ∙ ap rows_error m)
 unwritten w e is (inr m) = inr (is ∙ ap rows_error m)
+
+no_list : (xs : List ℕ) → length xs ≡ 0 → xs ≡ []
+no_list [] e = refl
+no_list (x ∷ xs) e = absurd (omega (arith, e))
+
+-- no digits are zero
+kept_none : (keep : Bool) (v : Value) → length v.before ≡ 0 → length v.after ≡ 0 → kept keep v ≡ zero_value
+unfolding without_zero_nines
+kept_none true v a b = rw (a, b) refl
+kept_none false v a b = rw (no_list v.before a, b) refl
+
+-- bytes make one decimal, of no digits too
+pub unpacked_once : (keep : Bool) (before after : ℕ) (d e : Value) (bytes : List ℕ) → Unpacks keep before after d bytes → Unpacks keep before after e bytes → d ≡ e
+unpacked_once keep zero zero d e bytes p q =
+    p.made ∙ kept_none keep p.value p.packed_is.before_size p.packed_is.after_size ∙ sym (q.made ∙ kept_none keep q.value q.packed_is.before_size q.packed_is.after_size)
+unpacked_once keep (suc before) after d e bytes p q =
+    let some : 0 < suc before + after = omega arith in
+    p.made ∙ ap (kept keep) (packed_once (suc before) after p.value q.value bytes some p.packed_is q.packed_is) ∙ sym q.made
+unpacked_once keep zero (suc after) d e bytes p q =
+    let some : 0 < 0 + suc after = omega arith in
+    p.made ∙ ap (kept keep) (packed_once zero (suc after) p.value q.value bytes some p.packed_is q.packed_is) ∙ sym q.made

@@ -1,14 +1,14 @@
 -- Decimals from a reader.
-use Rattle.std.proofs.Common.{◌≡◌, ◌≤◌, ◌<◌, ◌-◌, ◌++◌, ◌⊎◌, inl, inr, Bool, ℕ, zero, suc, List, [], ◌∷◌, length, get_or, arith, refl, sym, subst, ap, ◌∙◌, Option, Some, None, Result, IsErr, IsErrAnd, IfErr, IfOk}
+use Rattle.std.proofs.Common.{◌≡◌, ◌≤◌, ◌-◌, ◌++◌, ◌⊎◌, inl, inr, Bool, ℕ, List, [], ◌∷◌, length, get_or, arith, refl, sym, subst, ap, ◌∙◌, Option, Some, None, Result, IsErr, IsErrAnd, IfErr, IfOk}
 use Rattle.std.proofs.lemmas.Result.{err_from_is_err_and, IfOk-weaker, IfErr-weaker}
 use Rattle.std.specs.Io.KnownBytes.{Consumes}
 use Rattle.wire_buf.specs.declared.fault.WireFault.{WireFault}
-use Rattle.wire_ints.specs.Streams.{Gathers, IsCutOrMemory}
+use Rattle.wire_streams.specs.Transfers.{Gathers, IsCut, IsCutOrMemory}
 use Rattle.rows_values.specs.declared.fault.RowsError.{RowsError}
 use Rattle.rows_values.specs.declared.fault.RowsError.TheVariants.{Decimal as BadDecimal, Memory}
 use Rattle.rows_values.specs.Faults.{rows_error}
 use Rattle.rows_decimal.specs.declared.fields.Decimal.{Decimal}
-use Rattle.rows_decimal.specs.Decimals.{value_of, packed_size, Unpacks, NonePacked, ReadsDecimal, FailsDecimal, IsDecimalCause, ReadsPacked, FailsPacked, early, behind}
+use Rattle.rows_decimal.specs.Decimals.{value_of, packed_size, Unpacks, NonePacked, ReadsDecimal, FailsDecimal, IsDecimalCause, ordered, ReadsPacked, FailsPacked, early, behind}
 
 -- the exit of a `?` whose fault becomes this one
 pub exit_same : {T E : Type 0} (r : Result T E) (e : E) (P : E → Type 0) → IsErr r × IsErrAnd r (λ y. y ≡ e) → P e → IfErr r P
@@ -20,46 +20,48 @@ consumes_none (Some xs) = refl
 
 pub read_ok : (keep : Bool) (precision scale : ℕ) (before bytes : List ℕ) (old new : Option (List ℕ)) (r : Result Decimal RowsError) → scale ≤ precision → before ≡ []
     → Gathers (packed_size (precision - scale) scale) old new before bytes → IfOk r (λ d. Unpacks keep (precision - scale) scale (value_of d) bytes) → IfOk r (λ d. ReadsDecimal keep precision scale (value_of d) old new)
-read_ok keep precision scale before bytes old new r ordered none g h =
+read_ok keep precision scale before bytes old new r at_most none g h =
     let all : bytes ≡ g.taken = g.appended ∙ ap (λ l. l ++ g.taken) none in
     IfOk-weaker r (λ d. Unpacks keep (precision - scale) scale (value_of d) bytes) (λ d. ReadsDecimal keep precision scale (value_of d) old new)
-    (λ d u. record { ordered = ordered; taken = g.taken; consumed = g.consumed; unpacked = subst (Unpacks keep (precision - scale) scale (value_of d)) all u }) h
+    (λ d u. record { ordered = at_most; taken = g.taken; consumed = g.consumed; unpacked = subst (Unpacks keep (precision - scale) scale (value_of d)) all u }) h
 
-pub read_err : (precision scale : ℕ) (before bytes : List ℕ) (old new : Option (List ℕ)) (r : Result Decimal RowsError) → before ≡ []
+pub read_err : (precision scale : ℕ) (before bytes : List ℕ) (old new : Option (List ℕ)) (r : Result Decimal RowsError) → scale ≤ precision → before ≡ []
     → Gathers (packed_size (precision - scale) scale) old new before bytes → IfErr r (λ e. e ≡ Memory ⊎ ((e ≡ BadDecimal) × NonePacked (precision - scale) scale bytes)) → IfErr r (λ e. FailsDecimal precision scale e old new)
-read_err precision scale before bytes old new r none g h =
+read_err precision scale before bytes old new r at_most none g h =
     let all : bytes ≡ g.taken = g.appended ∙ ap (λ l. l ++ g.taken) none in
+    let size = g.size in
     IfErr-weaker r (λ e. e ≡ Memory ⊎ ((e ≡ BadDecimal) × NonePacked (precision - scale) scale bytes)) (λ e. FailsDecimal precision scale e old new)
-    (λ e why. record {
+    (λ e why. ordered at_most (record {
       taken = g.taken;
       consumed = g.consumed;
+      within = omega (arith, size);
       cause = elim why [
-        | inl m ↦ subst (λ (f : RowsError). IsDecimalCause precision scale f g.taken new) (sym m) tt
-        | inr q ↦ subst (λ (f : RowsError). IsDecimalCause precision scale f g.taken new) (sym q.0) (inr (g.size, subst (NonePacked (precision - scale) scale) all q.1))
+        | inl m ↦ subst (λ (f : RowsError). IsDecimalCause (precision - scale) scale f g.taken new) (sym m) tt
+        | inr q ↦ subst (λ (f : RowsError). IsDecimalCause (precision - scale) scale f g.taken new) (sym q.0) (g.size, subst (NonePacked (precision - scale) scale) all q.1)
       ];
-    }) h
+    })) h
 
-pub read_cut : (precision scale : ℕ) (fault : WireFault) (old new : Option (List ℕ)) → IsCutOrMemory fault (packed_size (precision - scale) scale) old new → FailsDecimal precision scale (rows_error fault) old new
-read_cut precision scale fault old new cut = record {
+pub read_cut : (precision scale : ℕ) (fault : WireFault) (before after : List ℕ) (old new : Option (List ℕ)) → scale ≤ precision
+    → IsCutOrMemory fault (packed_size (precision - scale) scale) old new before after → FailsDecimal precision scale (rows_error fault) old new
+read_cut precision scale fault before after old new at_most cut = ordered at_most (record {
   taken = cut.taken;
   consumed = cut.consumed;
+  within = cut.within;
   cause = elim cut.cause [
-    | inl q ↦ subst (λ (f : WireFault). IsDecimalCause precision scale (rows_error f) cut.taken new) (sym q.0) (q.2, q.1)
+    | inl q ↦ subst (λ (f : WireFault). IsDecimalCause (precision - scale) scale (rows_error f) cut.taken new) (sym q.0) (q.2, q.1)
     | inr q ↦ elim q [
-      | inl r ↦ subst (λ (f : WireFault). IsDecimalCause precision scale (rows_error f) cut.taken new) (sym r) tt
-      | inr m ↦ subst (λ (f : WireFault). IsDecimalCause precision scale (rows_error f) cut.taken new) (sym m) tt
+      | inl r ↦ subst (λ (f : WireFault). IsDecimalCause (precision - scale) scale (rows_error f) cut.taken new) (sym r) tt
+      | inr m ↦ subst (λ (f : WireFault). IsDecimalCause (precision - scale) scale (rows_error f) cut.taken new) (sym m) tt
     ]
   ];
-}
+})
 
-pub packed_cut : (fault : WireFault) (old new : Option (List ℕ)) → IsCutOrMemory fault 2 old new → FailsPacked (rows_error fault) old new
-packed_cut fault old new cut =
-    early cut.taken cut.consumed (elim cut.cause [
-      | inl q ↦ inl (ap rows_error q.0, q.1, q.2)
-      | inr q ↦ elim q [
-        | inl r ↦ inr (inl (ap rows_error r))
-        | inr m ↦ inr (inr (ap rows_error m))
-      ]
+pub packed_cut : (fault : WireFault) (n : ℕ) (old new : Option (List ℕ)) → n ≡ 2 → IsCut fault n old new → FailsPacked (rows_error fault) old new
+packed_cut fault n old new two cut =
+    let within = cut.within in
+    early cut.taken cut.consumed (omega (arith, two, within)) (elim cut.cause [
+      | inl q ↦ inl (ap rows_error q.0, q.1, omega (arith, two, q.2))
+      | inr r ↦ inr (ap rows_error r)
     ])
 
 pair_of : (xs : List ℕ) → length xs ≡ 2 → xs ≡ get_or xs 0 0 ∷ get_or xs 1 0 ∷ []
@@ -69,10 +71,9 @@ pair_of (x ∷ y ∷ []) e = refl
 pair_of (x ∷ y ∷ z ∷ xs) e = absurd (omega (arith, e))
 
 -- the two bytes that were taken
-pub two_taken : (before sizes : List ℕ) (old middle : Option (List ℕ)) → before ≡ [] → Gathers 2 old middle before sizes → Consumes old middle (get_or sizes 0 0 ∷ get_or sizes 1 0 ∷ [])
-two_taken before sizes old middle none g =
-    let all : sizes ≡ g.taken = g.appended ∙ ap (λ l. l ++ g.taken) none in
-    subst (Consumes old middle) (sym all ∙ pair_of sizes (ap length all ∙ g.size)) g.consumed
+pub two_taken : (sizes : List ℕ) (p s : ℕ) (old middle : Option (List ℕ)) → length sizes ≡ 2 → p ≡ get_or sizes 0 0 → s ≡ get_or sizes 1 0 → Consumes old middle sizes → Consumes old middle (p ∷ s ∷ [])
+two_taken sizes p s old middle two first second taken =
+    subst (Consumes old middle) (pair_of sizes two ∙ ap (λ k. k ∷ get_or sizes 1 0 ∷ []) (sym first) ∙ ap (λ k. p ∷ k ∷ []) (sym second)) taken
 
 pub packed_ok : (keep : Bool) (precision scale p s : ℕ) (old middle new : Option (List ℕ)) (r : Result Decimal RowsError) → p ≡ precision → s ≡ scale → Consumes old middle (p ∷ s ∷ [])
     → IfOk r (λ d. ReadsDecimal keep precision scale (value_of d) middle new) → IfOk r (λ d. ReadsPacked keep (value_of d) old new)
@@ -86,11 +87,3 @@ pub packed_err : (precision scale p s : ℕ) (old middle new : Option (List ℕ)
 packed_err precision scale p s old middle new r a b taken h =
     let two : Consumes old middle (precision ∷ scale ∷ []) = subst (Consumes old middle) (ap (λ k. k ∷ s ∷ []) a ∙ ap (λ k. precision ∷ k ∷ []) b) taken in
     IfErr-weaker r (λ e. FailsDecimal precision scale e middle new) (λ e. FailsPacked e old new) (λ e fails. behind {middle = middle} precision scale two fails) h
-
-pub two_long : (before sizes : List ℕ) (old middle : Option (List ℕ)) → before ≡ [] → Gathers 2 old middle before sizes → length sizes ≡ 2
-two_long before sizes old middle none g = ap length (g.appended ∙ ap (λ l. l ++ g.taken) none) ∙ g.size
-
-pub get_any : (xs : List ℕ) (k d : ℕ) → k < length xs → get_or xs k d ≡ get_or xs k 0
-get_any [] k d h = absurd (omega (arith, h))
-get_any (x ∷ xs) zero d h = refl
-get_any (x ∷ xs) (suc k) d h = get_any xs k d (omega (arith, h))

@@ -5,7 +5,8 @@ use Rattle.std.proofs.lemmas.Bool.Decides.{leb_tells}
 use Rattle.std.proofs.Math.Nat.{pow-suc}
 use Rattle.std.proofs.Math.Arith.{digits_div, digits_mod}
 use Rattle.std.proofs.Math.Seq.{drop-append_seam, take-length}
-use Rattle.std.proofs.lemmas.List.{length-append, length-take-le, length-drop, append-nil, drop-append-le, take-append-le}
+use Rattle.std.proofs.lemmas.List.{length-append, length-take-le, length-drop, append-nil, drop-append-le, take-append-le, drop-set, length-set}
+use Rattle.std.proofs.Math.ListN.{set}
 use Rattle.std.proofs.lemmas.Int.Digits.{number_push}
 use Rattle.std.specs.Int.{bytes_high_first, byte_at}
 use Rattle.std.specs.Int.Digits.{number_from_digits}
@@ -15,7 +16,7 @@ use Rattle.wire_buf.specs.Spelling.{AreBytes}
 use Rattle.rows_values.specs.declared.fault.RowsError.{RowsError}
 use Rattle.rows_values.specs.declared.fault.RowsError.TheVariants.{Decimal as BadDecimal, Memory}
 use Rattle.rows_decimal.specs.Digits.{AreDigits, group_size, group_bytes, nines_bytes}
-use Rattle.rows_decimal.specs.Decimals.{Gains, NoDigits, digits_in}
+use Rattle.rows_decimal.specs.Steps.{Gains, NoDigits, digits_in}
 use Rattle.rows_decimal.proofs.GroupLemmas.{take_digits, drop_digits, append_digits, number_bound, fits_group, nines_more, nines_append}
 
 -- ---- the last digits of a number
@@ -210,17 +211,7 @@ nines_lack count i bytes below long none ds size are same =
     none (take 9 (drop (9 * i) ds)) (nine_long ds i room) (take_digits 9 (drop (9 * i) ds) (drop_digits (9 * i) ds are))
     (sym (nine_at count i ds below (omega (arith, size))) ∙ ap (λ l. take 4 (drop (4 * i) l)) same ∙ ap (λ k. take k (drop (4 * i) bytes)) (sym four))
 
--- ---- the steps of the code
-
-pub push_none : (count n : ℕ) (old : List ℕ) → count ≡ 0 → n ≡ 0 → (n < 10 ^ count) × (old ≡ old ++ digits_in count n)
-push_none count n old none zeros = rw (none, zeros) (omega arith, sym (ap (λ l. old ++ l) (digits_none 0) ∙ append-nil old))
-
-pub push_one : (count n : ℕ) (old mid new : List ℕ) → 0 < count → (n / 10 < 10 ^ (count - 1)) × (mid ≡ old ++ digits_in (count - 1) (n / 10)) → new ≡ mid ++ (n % 10 ∷ [])
-    → (n < 10 ^ count) × (new ≡ old ++ digits_in count n)
-push_one count n old mid new some h e = (
-  below_step count n some h.0,
-  e ∙ ap (λ l. l ++ (n % 10 ∷ [])) h.1 ∙ append_assoc old (digits_in (count - 1) (n / 10)) (n % 10 ∷ []) ∙ ap (λ l. old ++ l) (sym (digits_step count n some)),
-)
+-- ---- refusals
 
 -- a refusal for one reason, told as one for another
 pub fault_because : {T A B : Type 0} (r : Result T RowsError) → (A → B) → IfErr r (λ e. e ≡ Memory ⊎ ((e ≡ BadDecimal) × A)) → IfErr r (λ e. e ≡ Memory ⊎ ((e ≡ BadDecimal) × B))
@@ -230,3 +221,32 @@ fault_because (Err e) f h = elim h [ inl m ↦ inl m | inr q ↦ inr (q.0, f q.1
 pub fault_exit : {T A B : Type 0} (r : Result T RowsError) (e : RowsError) → IsErr r × IsErrAnd r (λ y. y ≡ e) → (A → B) → e ≡ Memory ⊎ ((e ≡ BadDecimal) × A) → IfErr r (λ y. y ≡ Memory ⊎ ((y ≡ BadDecimal) × B))
 fault_exit (Ok v) e h f why = tt
 fault_exit (Err y) e h f why = elim why [ inl m ↦ inl (h.1 ∙ m) | inr q ↦ inr (h.1 ∙ q.0, f q.1) ]
+
+-- ---- the places of one group
+
+-- the last digits of a number are those of what is left, in the first places, and those that were written behind them
+pub record Fills (number count at left : ℕ) (places : List ℕ) : Type 0 where
+  pub size : length places ≡ count
+  pub room : at ≤ count
+  pub digits : digits_in count number ≡ digits_in at left ++ drop at places
+  pub below : left < 10 ^ at → number < 10 ^ count
+  pub above : 10 ^ at ≤ left → 10 ^ count ≤ number
+
+pub fills_more : (n count at left : ℕ) (places : List ℕ) → 0 < at → Fills n count at left places → Fills n count (at - 1) (left / 10) (set places (at - 1) (left % 10))
+fills_more n count at left places some f =
+    let size = f.size in
+    let room = f.room in
+    let next : at - 1 + 1 ≡ at = omega (arith, some) in
+    let written : drop (at - 1) (set places (at - 1) (left % 10)) ≡ left % 10 ∷ drop at places = drop-set places (at - 1) (left % 10) (omega (arith, some, size, room)) ∙ ap (λ k. left % 10 ∷ drop k places) next in
+    record {
+      size = length-set places (at - 1) (left % 10) ∙ size;
+      room = omega (arith, room);
+      digits = f.digits ∙ ap (λ l. l ++ drop at places) (digits_step at left some) ∙ append_assoc (digits_in (at - 1) (left / 10)) (left % 10 ∷ []) (drop at places)
+          ∙ ap (λ l. digits_in (at - 1) (left / 10) ++ l) (sym written);
+      below = λ h. f.below (below_step at left some h);
+      above = λ h. f.above (above_step at left some h);
+    }
+
+pub fills_all : (n count at left : ℕ) (places : List ℕ) → at ≡ 0 → Fills n count at left places → places ≡ digits_in count n
+fills_all n count at left places none f =
+    sym (f.digits ∙ ap (λ k. digits_in k left ++ drop k places) none ∙ ap (λ l. l ++ places) (digits_none left))

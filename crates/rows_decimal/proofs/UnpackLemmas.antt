@@ -1,5 +1,5 @@
 -- Both sides of the point, the sign, and the groups that are dropped.
-use Rattle.std.proofs.Common.{◌≡◌, ◌≤◌, ◌<◌, ◌+◌, ◌*◌, ◌-◌, ◌/◌, ◌%◌, ◌^◌, ◌++◌, Bool, true, false, ltb, eqb, ℕ, zero, suc, List, [], ◌∷◌, length, take, drop, map, get_or, inl, inr, append_assoc, arith, refl, sym, ap, subst, ◌∙◌}
+use Rattle.std.proofs.Common.{◌≡◌, ◌≤◌, ◌<◌, ◌+◌, ◌*◌, ◌-◌, ◌/◌, ◌%◌, ◌^◌, ◌++◌, Bool, true, false, ltb, ℕ, zero, suc, List, [], ◌∷◌, length, take, drop, map, get_or, inl, inr, append_assoc, arith, refl, sym, ap, subst, ◌∙◌}
 use Rattle.std.proofs.Math.Nat.{pow-suc, div-lt_iff_lt-mul}
 use Rattle.std.proofs.Math.Seq.{take-append_seam, drop-append_seam}
 use Rattle.std.proofs.lemmas.Bool.Decides.{leb_tells}
@@ -9,12 +9,12 @@ use Rattle.std.specs.Int.Digits.{number_from_digits}
 use Rattle.byteorder.specs.Endian.{big_from}
 use Rattle.wire_buf.specs.Spelling.{AreBytes}
 use Rattle.std.specs.Prelude.{if◌then◌else◌}
-use Rattle.std.specs.List.{prefix_len}
-use mir.Val.{bool_byte}
-use Rattle.rows_decimal.specs.Digits.{AreDigits, group_size, side_size, group_bytes, nines_bytes, before_bytes, after_bytes, top_turned, signed, has_minus_bit}
-use Rattle.rows_decimal.specs.Decimals.{Value, Gains, NoDigits, Unpacks, IsPacked, NonePacked, some_digit, without_zero_groups}
+use Rattle.rows_decimal.specs.Digits.{AreDigits, group_size, side_size, group_bytes, nines_bytes, before_bytes, after_bytes, top_flipped, signed}
+use Rattle.rows_decimal.specs.Steps.{Gains, NoDigits, has_minus_bit}
+use Rattle.rows_decimal.specs.Decimals.{Value, Unpacks, IsPacked, NonePacked, some_digit, without_zero_groups}
 use Rattle.rows_decimal.proofs.GroupLemmas.{take_digits, drop_digits, append_digits, number_bound, fits_group, nines_append}
-use Rattle.rows_decimal.proofs.TakingLemmas.{length-group, length-nines, are_bytes}
+use Rattle.rows_decimal.proofs.ZeroLemmas.{groups_dropped}
+use Rattle.rows_decimal.proofs.TakingLemmas.{length-group, length-nines, are_bytes, group_none}
 
 -- ---- before the point
 
@@ -183,7 +183,7 @@ all_back (x ∷ xs) h =
     let e : 255 - (255 - x) ≡ x = omega (arith, small) in
     ap (λ k. k ∷ map (λ b. 255 - b) (map (λ b. 255 - b) xs)) e ∙ ap (λ l. x ∷ l) (all_back xs (λ k. h (suc k)))
 
-pub top_back : (xs : List ℕ) → AreBytes xs → top_turned (top_turned xs) ≡ xs
+pub top_back : (xs : List ℕ) → AreBytes xs → top_flipped (top_flipped xs) ≡ xs
 top_back [] h = refl
 top_back (x ∷ xs) h =
     let small = h 0 in
@@ -195,7 +195,7 @@ all_bytes [] k = omega arith
 all_bytes (x ∷ xs) zero = omega arith
 all_bytes (x ∷ xs) (suc k) = all_bytes xs k
 
-pub top_bytes : (xs : List ℕ) → AreBytes xs → AreBytes (top_turned xs)
+pub top_bytes : (xs : List ℕ) → AreBytes xs → AreBytes (top_flipped xs)
 top_bytes [] h k = h k
 top_bytes (x ∷ xs) h zero = omega arith
 top_bytes (x ∷ xs) h (suc k) = h (suc k)
@@ -209,8 +209,8 @@ signed_back true xs h = all_back xs h
 signed_back false xs h = refl
 
 -- what is turned so was packed so
-pub plain_packs : (n : Bool) (bytes x : List ℕ) → AreBytes bytes → x ≡ top_turned (signed n bytes) → signed n (top_turned x) ≡ bytes
-plain_packs n bytes x h e = ap (λ l. signed n (top_turned l)) e ∙ ap (signed n) (top_back (signed n bytes) (signed_bytes n bytes h)) ∙ signed_back n bytes h
+pub plain_packs : (n : Bool) (bytes x : List ℕ) → AreBytes bytes → x ≡ top_flipped (signed n bytes) → signed n (top_flipped x) ≡ bytes
+plain_packs n bytes x h e = ap (λ l. signed n (top_flipped l)) e ∙ ap (signed n) (top_back (signed n bytes) (signed_bytes n bytes h)) ∙ signed_back n bytes h
 
 pub below-128 : (b : ℕ) → b < 128 → ltb b 128 ≡ true
 below-128 b h = elim (leb_tells (suc b) 128) [ inl t ↦ t.0 | inr t ↦ absurd (omega (arith, t.1, h)) ]
@@ -219,12 +219,12 @@ pub above-128 : (b : ℕ) → 128 ≤ b → ltb b 128 ≡ false
 above-128 b h = elim (leb_tells (suc b) 128) [ inl t ↦ absurd (omega (arith, t.1, h)) | inr t ↦ t.0 ]
 
 -- packed bytes tell the sign, and so what was packed
-pub packed_plain : (n : Bool) (y : List ℕ) → AreBytes y → get_or y 0 0 < 128 → top_turned (signed (has_minus_bit (signed n (top_turned y))) (signed n (top_turned y))) ≡ y
+pub packed_plain : (n : Bool) (y : List ℕ) → AreBytes y → get_or y 0 0 < 128 → top_flipped (signed (has_minus_bit (signed n (top_flipped y))) (signed n (top_flipped y))) ≡ y
 packed_plain true [] h low = refl
 packed_plain false [] h low = refl
 packed_plain true (b ∷ y) h low =
     let small : 255 - (b + 128) % 256 < 128 = omega (arith, low) in
-    rw (below-128 (255 - (b + 128) % 256) small) (ap top_turned (all_back (top_turned (b ∷ y)) (top_bytes (b ∷ y) h)) ∙ top_back (b ∷ y) h)
+    rw (below-128 (255 - (b + 128) % 256) small) (ap top_flipped (all_back (top_flipped (b ∷ y)) (top_bytes (b ∷ y) h)) ∙ top_back (b ∷ y) h)
 packed_plain false (b ∷ y) h low =
     let large : 128 ≤ (b + 128) % 256 = omega (arith, low) in
     rw (above-128 ((b + 128) % 256) large) (top_back (b ∷ y) h)
@@ -233,7 +233,7 @@ packed_plain false (b ∷ y) h low =
 
 pub kept_are : (keep : Bool) (ds : List ℕ) → AreDigits ds → AreDigits (if keep then ds else without_zero_groups ds)
 kept_are true ds h = h
-kept_are false ds h = drop_digits _ ds h
+kept_are false ds h = subst AreDigits (groups_dropped ds) (drop_digits _ ds h)
 
 pub length-before : (ds : List ℕ) → length (before_bytes ds) ≡ side_size (length ds)
 unfolding before_bytes
@@ -244,7 +244,7 @@ length-before ds =
     let m : length (nines_bytes (n / 9) (drop (n % 9) ds)) ≡ 4 * (n / 9) = length-nines (n / 9) (drop (n % 9) ds) (omega (arith, length-drop (n % 9) ds)) in
     omega (arith, length-append (group_bytes (take (n % 9) ds)) (nines_bytes (n / 9) (drop (n % 9) ds)), g, m)
 
-pub unpacks : (keep neg : Bool) (before after s : ℕ) (bytes x whole fraction short : List ℕ) (d : Value) → AreBytes bytes → x ≡ top_turned (signed neg bytes)
+pub unpacks : (keep neg : Bool) (before after s : ℕ) (bytes x whole fraction short : List ℕ) (d : Value) → AreBytes bytes → x ≡ top_flipped (signed neg bytes)
     → Gains before_bytes before (take s x) [] whole → Gains after_bytes after (drop s x) [] fraction
     → short ≡ (if keep then whole else without_zero_groups whole) → d ≡ some_digit (record { negative = neg; before = short; after = fraction }) → Unpacks keep before after d bytes
 unpacks keep neg before after s bytes x whole fraction short d are plain a b cut made = record {
@@ -254,29 +254,29 @@ unpacks keep neg before after s bytes x whole fraction short d are plain a b cut
     after_size = b.size;
     before_are = a.are;
     after_are = b.are;
-    bytes_are = ap (λ l. signed neg (top_turned (l ++ after_bytes b.digits))) a.bytes_are ∙ ap (λ l. signed neg (top_turned (take s x ++ l))) b.bytes_are
-        ∙ ap (λ l. signed neg (top_turned l)) (take-append-drop s x) ∙ plain_packs neg bytes x are plain;
+    bytes_are = ap (λ l. signed neg (top_flipped (l ++ after_bytes b.digits))) a.bytes_are ∙ ap (λ l. signed neg (top_flipped (take s x ++ l))) b.bytes_are
+        ∙ ap (λ l. signed neg (top_flipped l)) (take-append-drop s x) ∙ plain_packs neg bytes x are plain;
   };
   made = made ∙ ap (λ (l : List ℕ). let v : Value = record { negative = neg; before = l; after = fraction } in some_digit v) (cut ∙ ap (λ (l : List ℕ). if keep then l else without_zero_groups l) a.appended)
       ∙ ap (λ (l : List ℕ). let v : Value = record { negative = neg; before = if keep then a.digits else without_zero_groups a.digits; after = l } in some_digit v) b.appended;
 }
 
 -- what was packed is what is turned back
-pub plain_of : (neg : Bool) (bytes x : List ℕ) (before after : ℕ) (v : Value) → neg ≡ has_minus_bit bytes → x ≡ top_turned (signed neg bytes) → IsPacked before after v bytes
+pub plain_of : (neg : Bool) (bytes x : List ℕ) (before after : ℕ) (v : Value) → neg ≡ has_minus_bit bytes → x ≡ top_flipped (signed neg bytes) → IsPacked before after v bytes
     → x ≡ before_bytes v.before ++ after_bytes v.after
 plain_of neg bytes x before after v sign plain p =
     let y = before_bytes v.before ++ after_bytes v.after in
     let back = packed_plain v.negative y (sides_are_bytes v.before v.after) (sides_low v.before v.after p.before_are p.after_are) in
-    plain ∙ ap (λ n. top_turned (signed n bytes)) sign ∙ subst (λ (l : List ℕ). top_turned (signed (has_minus_bit l) l) ≡ y) p.bytes_are back
+    plain ∙ ap (λ n. top_flipped (signed n bytes)) sign ∙ subst (λ (l : List ℕ). top_flipped (signed (has_minus_bit l) l) ≡ y) p.bytes_are back
 
-pub lacks_before : (neg : Bool) (before after s : ℕ) (bytes x : List ℕ) → neg ≡ has_minus_bit bytes → x ≡ top_turned (signed neg bytes) → s ≡ side_size before → NoDigits before_bytes before (take s x)
+pub lacks_before : (neg : Bool) (before after s : ℕ) (bytes x : List ℕ) → neg ≡ has_minus_bit bytes → x ≡ top_flipped (signed neg bytes) → s ≡ side_size before → NoDigits before_bytes before (take s x)
     → NonePacked before after bytes
 lacks_before neg before after s bytes x sign plain is none v p =
     let long : length (before_bytes v.before) ≡ s = length-before v.before ∙ ap side_size p.before_size ∙ sym is in
     none v.before p.before_size p.before_are
     (sym (take-append_seam (before_bytes v.before) (after_bytes v.after)) ∙ ap (λ k. take k (before_bytes v.before ++ after_bytes v.after)) long ∙ ap (take s) (sym (plain_of neg bytes x before after v sign plain p)))
 
-pub lacks_after : (neg : Bool) (before after s : ℕ) (bytes x : List ℕ) → neg ≡ has_minus_bit bytes → x ≡ top_turned (signed neg bytes) → s ≡ side_size before → NoDigits after_bytes after (drop s x)
+pub lacks_after : (neg : Bool) (before after s : ℕ) (bytes x : List ℕ) → neg ≡ has_minus_bit bytes → x ≡ top_flipped (signed neg bytes) → s ≡ side_size before → NoDigits after_bytes after (drop s x)
     → NonePacked before after bytes
 lacks_after neg before after s bytes x sign plain is none v p =
     let long : length (before_bytes v.before) ≡ s = length-before v.before ∙ ap side_size p.before_size ∙ sym is in
@@ -292,17 +292,6 @@ gains_from_none pack count bytes old new e g = record { digits = g.digits; size 
 pub gained_are : (pack : List ℕ → List ℕ) (count : ℕ) (bytes old new : List ℕ) → old ≡ [] → Gains pack count bytes old new → AreDigits new
 gained_are pack count bytes old new e g = subst AreDigits (sym (g.appended ∙ ap (λ l. l ++ g.digits) e)) g.are
 
--- whole groups, and one more for what is left
-ceiling : (n : ℕ) → n / 9 + bool_byte (ltb 0 (n % 9)) ≡ (n + 8) / 9
-ceiling n = elim (leb_tells 1 (n % 9)) [ inl t ↦ rw t.0 (omega (arith, t.1)) | inr t ↦ rw t.0 (omega (arith, t.1)) ]
-
-pub kept_are_these : (ds : List ℕ) (n zeros rest m u : ℕ) → n ≡ length ds → zeros ≡ prefix_len (λ d. eqb d 0) ds → rest ≡ bool_byte (ltb 0 ((n - zeros) % 9)) → m ≡ length ds → u ≡ m - 9 * ((n - zeros) / 9 + rest)
-    → drop u ds ≡ without_zero_groups ds
-kept_are_these ds n zeros rest m u size front more again is =
-    let groups : (n - zeros) / 9 + rest ≡ (length ds - prefix_len (λ d. eqb d 0) ds + 8) / 9 =
-    ap (λ k. (n - zeros) / 9 + k) more ∙ ceiling (n - zeros) ∙ ap (λ k. (k - zeros + 8) / 9) size ∙ ap (λ k. (length ds - k + 8) / 9) front in
-    ap (λ k. drop k ds) (is ∙ ap (λ k. k - 9 * ((n - zeros) / 9 + rest)) again ∙ ap (λ k. length ds - 9 * k) groups)
-
 pub length-after : (ds : List ℕ) → length (after_bytes ds) ≡ side_size (length ds)
 unfolding after_bytes
 length-after ds =
@@ -311,3 +300,9 @@ length-after ds =
     let g : length (group_bytes (drop (9 * (n / 9)) ds)) ≡ group_size (n % 9) = length-group (drop (9 * (n / 9)) ds) ∙ ap group_size left in
     let m : length (nines_bytes (n / 9) ds) ≡ 4 * (n / 9) = length-nines (n / 9) ds (omega arith) in
     omega (arith, length-append (nines_bytes (n / 9) ds) (group_bytes (drop (9 * (n / 9)) ds)), g, m)
+
+-- a hundred isn't two digits
+pub no_hundred : NonePacked 2 0 (228 ∷ [])
+no_hundred =
+    lacks_before false 2 0 1 (228 ∷ []) (100 ∷ []) refl refl refl
+    (before_lacks_first 2 1 (100 ∷ []) refl (group_none 2 100 (100 ∷ []) (omega arith) refl refl (omega arith)))

@@ -1,12 +1,15 @@
 -- What a decimal is: a sign, and digits before and after the point. Its packed form, and what is read from one.
-use Rattle.std.specs.Prelude.{◌≡◌, ◌≤◌, ◌<◌, ◌+◌, ◌*◌, ◌/◌, ◌%◌, ◌-◌, ◌⊎◌, ℕ, zero, suc, List, [], ◌∷◌, ◌++◌, length, drop, Bool, true, false, Option, ⊤, if◌then◌else◌, ◌==◌}
-use Rattle.std.specs.List.{prefix_len}
+use Rattle.std.specs.Prelude.{◌≡◌, ◌≤◌, ◌<◌, ◌+◌, ◌/◌, ◌%◌, ◌-◌, ◌⊎◌, ℕ, zero, suc, List, [], ◌∷◌, ◌++◌, length, take, drop, Bool, true, false, Option, ⊤, if◌then◌else◌, ◌==◌}
+use Rattle.std.specs.List.{list_all}
 use Rattle.std.specs.Int.Digits.{number_from_digits}
 use Rattle.std.specs.Ordering.{nat_cmp}
 use Rattle.std.specs.declared.cmp.Ordering.{Ordering}
 use Rattle.std.specs.declared.cmp.Ordering.TheVariants.{Less, Greater}
-use Rattle.std.specs.Io.KnownBytes.{Consumes, IsAtEnd}
-use Rattle.rows_decimal.specs.Digits.{AreDigits, side_size, before_bytes, after_bytes, top_turned, signed}
+use Rattle.std.specs.Io.KnownBytes.{Consumes, Appends, IsAtEnd}
+use Rattle.wire_buf.specs.declared.fault.WireFault.{WireFault}
+use Rattle.wire_buf.specs.declared.fault.WireFault.TheVariants as wire
+use Rattle.wire_streams.specs.Transfers.{WritesSome}
+use Rattle.rows_decimal.specs.Digits.{AreDigits, side_size, before_bytes, after_bytes, top_flipped, signed}
 use Rattle.rows_decimal.specs.declared.fields.Decimal.{Decimal}
 use Rattle.rows_values.specs.declared.fault.RowsError.{RowsError}
 use Rattle.rows_values.specs.declared.fault.RowsError.TheVariants.{EndOfBody, Decimal as BadDecimal, Memory, Read}
@@ -27,7 +30,7 @@ zero_value = record { negative = false; before = 0 ∷ []; after = [] }
 
 -- the packed form
 abbrev pub packed : Value → List ℕ
-packed v = signed v.negative (top_turned (before_bytes v.before ++ after_bytes v.after))
+packed v = signed v.negative (top_flipped (before_bytes v.before ++ after_bytes v.after))
 
 -- the packed form of what a decimal holds
 abbrev pub packed_of : Decimal → List ℕ
@@ -48,9 +51,30 @@ number_cmp false m false n = nat_cmp m n
 abbrev pub packed_size : ℕ → ℕ → ℕ
 packed_size before after = side_size before + side_size after
 
--- digits before the point without the leading groups that are zero: from the point as many whole groups as the others take, or all
+-- only zeros
+abbrev pub only_zeros : List ℕ → Bool
+only_zeros ds = list_all (λ d. d == 0) ds
+
+-- of n groups of nine digits the first ones are dropped that are only zeros
+unfoldable pub without_zero_nines : ℕ → List ℕ → List ℕ
+without_zero_nines zero ds = ds
+without_zero_nines (suc n) ds = if only_zeros (take 9 ds) then without_zero_nines n (drop 9 ds) else ds
+
+-- digits before the point without the first groups that are only zeros; the very first is of the digits left over from nines
 abbrev pub without_zero_groups : List ℕ → List ℕ
-without_zero_groups ds = drop (length ds - 9 * ((length ds - prefix_len (λ d. d == 0) ds + 8) / 9)) ds
+without_zero_groups ds = let left = length ds % 9 in if only_zeros (take left ds) then without_zero_nines (length ds / 9) (drop left ds) else ds
+
+-- the digits of the first group of n before the point: those left over from nines, or nine
+abbrev pub first_group : ℕ → ℕ
+first_group n = if (n % 9) == 0 then 9 else n % 9
+
+-- only zeros are dropped, and no part of a group; and the first group of the rest, if one is left, isn't only zeros
+pub record DropsZeroGroups (ds rest : List ℕ) : Type 0 where
+  pub dropped : List ℕ
+  pub whole : ds ≡ dropped ++ rest
+  pub zeros : only_zeros dropped ≡ true
+  pub at_group : (dropped ≡ []) ⊎ (length rest % 9 ≡ 0)
+  pub others_first : 0 < length rest → only_zeros (take (first_group (length rest)) rest) ≡ false
 
 -- with no digit on either side it is zero
 abbrev pub some_digit : Value → Value
@@ -85,19 +109,25 @@ pub record ReadsDecimal (keep : Bool) (precision scale : ℕ) (d : Value) (old n
   pub consumed : Consumes old new taken
   pub unpacked : Unpacks keep (precision - scale) scale d taken
 
--- why none was read: more digits after the point than in all, and nothing was taken; or the next bytes pack no digits; or they end too early; a failing reader and want of memory say nothing of the bytes
+-- why none was read: the bytes that were taken are as many as the digits need, and pack none; or they end too early; a failing reader and want of memory say nothing of the bytes
 abbrev pub IsDecimalCause : ℕ → ℕ → RowsError → List ℕ → Option (List ℕ) → Type 0
-IsDecimalCause precision scale BadDecimal taken new = ((precision < scale) × (taken ≡ [])) ⊎ ((length taken ≡ packed_size (precision - scale) scale) × NonePacked (precision - scale) scale taken)
-IsDecimalCause precision scale EndOfBody taken new = (length taken < packed_size (precision - scale) scale) × IsAtEnd new
-IsDecimalCause precision scale Read taken new = ⊤
-IsDecimalCause precision scale Memory taken new = ⊤
-IsDecimalCause precision scale fault taken new = ⊥
+IsDecimalCause before after BadDecimal taken new = (length taken ≡ packed_size before after) × NonePacked before after taken
+IsDecimalCause before after EndOfBody taken new = (length taken < packed_size before after) × IsAtEnd new
+IsDecimalCause before after Read taken new = ⊤
+IsDecimalCause before after Memory taken new = ⊤
+IsDecimalCause before after fault taken new = ⊥
 
--- some bytes were taken, and the fault is why no decimal came
-pub record FailsDecimal (precision scale : ℕ) (fault : RowsError) (old new : Option (List ℕ)) : Type 0 where
+-- at most the bytes of so many digits before and after the point were taken, and the fault is why no decimal came
+pub record FailsDigits (before after : ℕ) (fault : RowsError) (old new : Option (List ℕ)) : Type 0 where
   pub taken : List ℕ
   pub consumed : Consumes old new taken
-  pub cause : IsDecimalCause precision scale fault taken new
+  pub within : length taken ≤ packed_size before after
+  pub cause : IsDecimalCause before after fault taken new
+
+-- there are more digits after the point than in all, and nothing was taken; or there are not, and no decimal came
+pub data FailsDecimal (precision scale : ℕ) (fault : RowsError) (old new : Option (List ℕ)) : Type 0 where
+  unordered : precision < scale → fault ≡ BadDecimal → Consumes old new [] → FailsDecimal precision scale fault old new
+  ordered : scale ≤ precision → FailsDigits (precision - scale) scale fault old new → FailsDecimal precision scale fault old new
 
 -- a precision and a scale in one byte each, and then what they say
 pub record ReadsPacked (keep : Bool) (d : Value) (old new : Option (List ℕ)) : Type 0 where
@@ -107,24 +137,11 @@ pub record ReadsPacked (keep : Bool) (d : Value) (old new : Option (List ℕ)) :
   pub consumed : Consumes old middle (precision ∷ scale ∷ [])
   pub reads : ReadsDecimal keep precision scale d middle new
 
--- the precision and the scale were taken, and no decimal is behind them; or the bytes end before that
+-- the precision and the scale were not both there, or the reader failed; or both were taken, and no decimal is behind them
 pub data FailsPacked : RowsError → Option (List ℕ) → Option (List ℕ) → Type 0 where
-  early : {fault : RowsError} {old new : Option (List ℕ)} (taken : List ℕ) → Consumes old new taken → ((fault ≡ EndOfBody) × IsAtEnd new × (length taken < 2)) ⊎ (fault ≡ Read) ⊎ (fault ≡ Memory) → FailsPacked fault old new
+  early : {fault : RowsError} {old new : Option (List ℕ)} (taken : List ℕ) → Consumes old new taken → length taken ≤ 2 → ((fault ≡ EndOfBody) × IsAtEnd new × (length taken < 2)) ⊎ (fault ≡ Read) → FailsPacked fault old new
   behind : {fault : RowsError} {old middle new : Option (List ℕ)} (precision scale : ℕ) → Consumes old middle (precision ∷ scale ∷ []) → FailsDecimal precision scale fault middle new → FailsPacked fault old new
 
--- digits of one side are appended, whose bytes these are
-pub record Gains (pack : List ℕ → List ℕ) (count : ℕ) (bytes old new : List ℕ) : Type 0 where
-  pub digits : List ℕ
-  pub size : length digits ≡ count
-  pub are : AreDigits digits
-  pub bytes_are : pack digits ≡ bytes
-  pub appended : new ≡ old ++ digits
-
--- no digits have these bytes
-abbrev pub NoDigits : (List ℕ → List ℕ) → ℕ → List ℕ → Type 0
-NoDigits pack count bytes = (ds : List ℕ) → length ds ≡ count → AreDigits ds → pack ds ≡ bytes → ⊥
-
--- the last k digits of a number
-unfoldable pub digits_in : ℕ → ℕ → List ℕ
-digits_in zero n = []
-digits_in (suc k) n = digits_in k (n / 10) ++ (n % 10 ∷ [])
+-- memory was refused, and nothing was written; or the writer failed, and a front of the bytes was
+abbrev pub FailsToWrite : WireFault → List ℕ → Option (List ℕ) → Option (List ℕ) → Type 0
+FailsToWrite fault bytes old new = ((fault ≡ wire.Memory) × Appends old new []) ⊎ ((fault ≡ wire.Write) × WritesSome bytes old new)

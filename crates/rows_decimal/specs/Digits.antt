@@ -1,5 +1,5 @@
 -- MySQL's DECIMAL in its packed form: digits are cut into groups of nine from the point outward, and the number of each group stands in its bytes, the highest first.
-use Rattle.std.specs.Prelude.{ℕ, zero, suc, ◌+◌, ◌*◌, ◌/◌, ◌%◌, ◌<◌, Bool, List, [], ◌∷◌, ◌++◌, length, take, drop, map, slice_index, ◌-◌, if◌then◌else◌, false, nat_lt}
+use Rattle.std.specs.Prelude.{ℕ, zero, suc, ◌+◌, ◌*◌, ◌/◌, ◌%◌, ◌<◌, Bool, List, [], ◌∷◌, ◌++◌, length, take, drop, map, slice_index, ◌-◌, if◌then◌else◌}
 use Rattle.std.specs.Int.Digits.{number_from_digits}
 use Rattle.byteorder.specs.Endian.{big_bytes}
 
@@ -32,16 +32,11 @@ before_bytes ds = let left = length ds % 9 in group_bytes (take left ds) ++ nine
 unfoldable pub after_bytes : List ℕ → List ℕ
 after_bytes ds = let whole = length ds / 9 in nines_bytes whole ds ++ group_bytes (drop (9 * whole) ds)
 
--- the first byte with its top bit turned
-abbrev pub top_turned : List ℕ → List ℕ
-top_turned [] = []
-top_turned (b ∷ x) = ((b + 128) % 256) ∷ x
+-- the first byte with its top bit flipped
+abbrev pub top_flipped : List ℕ → List ℕ
+top_flipped [] = []
+top_flipped (b ∷ x) = ((b + 128) % 256) ∷ x
 
--- whether packed bytes are those of a negative number: the top bit is not set
-abbrev pub has_minus_bit : List ℕ → Bool
-has_minus_bit [] = false
-has_minus_bit (b ∷ x) = nat_lt b 128
-
--- all bits turned where the number is negative
+-- all bits flipped where the number is negative
 abbrev pub signed : Bool → List ℕ → List ℕ
 signed negative x = if negative then map (λ b. 255 - b) x else x

@@ -1,3 +1,5 @@
 pub mod Digits
 pub mod Decimals
 pub mod Texts
+pub mod Steps
+pub mod GroupsLeft

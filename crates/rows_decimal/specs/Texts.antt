@@ -2,7 +2,7 @@
 use Rattle.std.specs.Prelude.{◌≡◌, ⊤, ℕ, ◌+◌, ◌-◌, List, [], ◌∷◌, ◌++◌, length, drop, map, Bool, false, not, ◌==◌, ◌&&◌, ◌||◌, nat_lt, Option, Some, None, if◌then◌else◌}
 use Rattle.std.specs.List.{prefix_len, list_all, before_first, after_first}
 use Rattle.std.specs.Char.{is_ascii_digit}
-use Rattle.rows_decimal.specs.Decimals.{Value}
+use Rattle.rows_decimal.specs.Decimals.{Value, only_zeros}
 use Rattle.rows_decimal.specs.declared.parse.ParseDecimalError.{ParseDecimalError}
 use Rattle.rows_decimal.specs.declared.parse.ParseDecimalError.TheVariants.{Text, Memory}
 
@@ -28,6 +28,16 @@ sign_text negative = if negative then 45 ∷ [] else []
 -- what is shown
 abbrev pub decimal_text : Value → List ℕ
 decimal_text v = sign_text v.negative ++ (whole_text v.before ++ fraction_text v.after)
+
+-- the digits before the point that are shown
+abbrev pub shown_digits : List ℕ → List ℕ
+shown_digits ds = if length (significant ds) == 0 then 0 ∷ [] else significant ds
+
+-- a value without the zeros in front, and without a sign where it is zero
+abbrev pub shown_value : Value → Value
+shown_value v =
+    let before = shown_digits v.before in
+    record { negative = v.negative && not (only_zeros before && only_zeros v.after); before = before; after = v.after }
 
 -- while a text begins with two zeros, its first character is dropped
 abbrev pub one_zero : List ℕ → List ℕ

@@ -1,4 +1,4 @@
-//! Zero, and the size of a decimal.
+//! Zero, copies, and the size of a decimal.
 
 ghost use Rattle.std.specs.Prelude.{◌≡◌, IfOk, length};
 ghost use Rattle.rows_decimal.specs.Decimals.{value_of, zero_value, packed_size};
@@ -21,9 +21,20 @@ impl Decimal {
         })
     }
 
+    /// The same decimal in memory of its own. Want of memory is `AllocError`.
+    pub fn clone(&self, alloc: Global) -> Result<Decimal, AllocError>
+        ensures { IfOk result (λ d. value_of d ≡ value_of self.now) }
+    {
+        Ok(Decimal {
+            negative: self.negative,
+            before: Vec::from_slice(alloc, &self.before)?,
+            after: Vec::from_slice(alloc, &self.after)?,
+        })
+    }
+
     /// How many bytes the packed form takes.
     pub fn bin_size(&self) -> usize
-        ensures { result ≡ packed_size (length self.now.before.items) (length self.now.after.items) }
+        ensures { result ≡ packed_size (length (value_of self.now).before) (length (value_of self.now).after) }
     {
         side_size(self.before.len()) + side_size(self.after.len())
     }

@@ -17,6 +17,9 @@ pub const DIG_BASE: usize = 1_000_000_000;
 /// How many bytes a group of 0 to 9 digits takes.
 pub const DIG_TO_BYTES: [u8; 10] = [0, 1, 1, 2, 2, 3, 3, 4, 4, 4];
 
+/// How many bytes a full group takes.
+pub(crate) const GROUP_BYTES: usize = 4;
+
 /// The powers of ten from 10^0 to 10^9.
 pub const POWERS_10: [Digit; 10] = [
     1,
@@ -45,7 +48,7 @@ pub(crate) fn side_size(digits: usize) -> usize
     ensures size { result ≡ side_size_of digits }
     ensures bound { result ≤ 4 * (digits / 9) + 4 }
 {
-    4 * (digits / DIG_PER_DEC) + group_size(digits % DIG_PER_DEC)
+    GROUP_BYTES * (digits / DIG_PER_DEC) + group_size(digits % DIG_PER_DEC)
 }
 
 /// How many bytes a group of digits takes.

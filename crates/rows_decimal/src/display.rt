@@ -1,87 +1,100 @@
 //! A decimal as text.
 
-ghost use Rattle.std.specs.Prelude.{◌≡◌, ◌==◌, Some, length};
+ghost use Rattle.std.specs.Prelude.{◌≡◌, ◌≤◌, ◌==◌, Some, length};
+ghost use Rattle.std.specs.Fmt.{WritesStyledOnOk};
 ghost use Rattle.rows_decimal.specs.Digits.{AreDigits};
 ghost use Rattle.rows_decimal.specs.Decimals.{value_of};
-ghost use Rattle.rows_decimal.specs.Texts.{decimal_text, glyphs, whole_text, fraction_text, significant as significant_of};
+ghost use Rattle.rows_decimal.specs.Texts.{decimal_text, sign_text, glyphs, whole_text, fraction_text, significant as significant_of};
 
 use crate::digits::leading;
 use crate::fields::Decimal;
-use std::fmt;
+use std::{fmt, str};
 
-/// The sign where it is negative, the digits before the point without zeros in front, or `0`, and a
-/// point and the digits after it, if there are any. Flags and widths are ignored.
+/// How many characters are written at once: those of MySQL's longest decimals.
+const RUN: usize = 65;
+
 impl fmt::Display for Decimal {
     ghost output = { λ d. Some (decimal_text (value_of d)) };
 
+    ghost styled_output = { λ d _. Some (decimal_text (value_of d)) };
+
+    /// The sign where it is negative, the digits before the point without zeros in front, or `0`,
+    /// and a point and the digits after it, if there are any. Flags and widths are ignored.
     fn fmt<W: fmt::Write>(&self, f: &mut fmt::Formatter<W>) -> fmt::Result {
-        let sign = if self.negative { "-" } else { "" };
-        let whole = Whole {
-            digits: &self.before,
-        };
-        let fraction = Fraction {
-            digits: &self.after,
-        };
-        write!(f, "{sign}{whole}{fraction}")
+        put_sign(self.negative, f)?;
+        put_whole(&self.before, f)?;
+        put_fraction(&self.after, f)
     }
 }
 
-/// The digits before the point.
-#[derive(Drop)]
-struct Whole<'a> {
-    digits: &'a [u8],
-    ghost digits_are: { AreDigits digits.now },
+/// A minus where it is negative.
+fn put_sign<W: fmt::Write>(negative: bool, f: &mut fmt::Formatter<W>) -> fmt::Result
+    ensures { WritesStyledOnOk W.write_str_gives f.old result (sign_text negative) f.new }
+{
+    f.write_str(if negative { "-" } else { "" })
 }
 
-impl fmt::Display for Whole<'_> {
-    ghost output = { λ w. Some (whole_text w.digits.now) };
-
-    fn fmt<W: fmt::Write>(&self, f: &mut fmt::Formatter<W>) -> fmt::Result {
-        let digits = significant(self.digits);
-        if digits.is_empty() {
-            return write!(f, "0");
-        }
-        let shown = Shown { digits };
-        write!(f, "{shown}")
+/// The digits before the point without zeros in front, or a zero.
+fn put_whole<W: fmt::Write>(digits: &[u8], f: &mut fmt::Formatter<W>) -> fmt::Result
+    requires { AreDigits digits.now }
+    ensures { WritesStyledOnOk W.write_str_gives f.old result (whole_text digits.now) f.new }
+{
+    let shown = significant(digits);
+    if shown.is_empty() {
+        return f.write_str("0");
     }
+    put_glyphs(shown, f)
 }
 
-/// The point and the digits after it.
-#[derive(Drop)]
-struct Fraction<'a> {
-    digits: &'a [u8],
-    ghost digits_are: { AreDigits digits.now },
-}
-
-impl fmt::Display for Fraction<'_> {
-    ghost output = { λ w. Some (fraction_text w.digits.now) };
-
-    fn fmt<W: fmt::Write>(&self, f: &mut fmt::Formatter<W>) -> fmt::Result {
-        if self.digits.is_empty() {
-            return Ok(());
-        }
-        let shown = Shown {
-            digits: self.digits,
-        };
-        write!(f, ".{shown}")
+/// A point and the digits, if there are any.
+fn put_fraction<W: fmt::Write>(digits: &[u8], f: &mut fmt::Formatter<W>) -> fmt::Result
+    requires { AreDigits digits.now }
+    ensures { WritesStyledOnOk W.write_str_gives f.old result (fraction_text digits.now) f.new }
+{
+    if digits.is_empty() {
+        return Ok(());
     }
+    f.write_str(".")?;
+    put_glyphs(digits, f)
 }
 
 /// Digits as their characters.
-#[derive(Drop)]
-struct Shown<'a> {
-    digits: &'a [u8],
-    ghost digits_are: { AreDigits digits.now },
+fn put_glyphs<W: fmt::Write>(digits: &[u8], f: &mut fmt::Formatter<W>) -> fmt::Result
+    requires { AreDigits digits.now }
+    ensures { WritesStyledOnOk W.write_str_gives f.old result (glyphs digits.now) f.new }
+{
+    let mut rest = digits;
+    while !rest.is_empty() {
+        let (run, more) = rest.split_at(rest.len().min(RUN));
+        put_run(run, f)?;
+        rest = more;
+    }
+    Ok(())
 }
 
-impl fmt::Display for Shown<'_> {
-    ghost output = { λ w. Some (glyphs w.digits.now) };
+/// As many digits as are written at once.
+fn put_run<W: fmt::Write>(digits: &[u8], f: &mut fmt::Formatter<W>) -> fmt::Result
+    requires few { length digits.now ≤ 65 }
+    requires are { AreDigits digits.now }
+    ensures { WritesStyledOnOk W.write_str_gives f.old result (glyphs digits.now) f.new }
+{
+    let mut buffer = [b'0'; RUN];
+    let text = &mut buffer[..digits.len()];
+    spell(digits, text);
+    match str::from_utf8(text) {
+        Ok(text) => f.write_str(text),
+        Err(_) => Err(fmt::Error),
+    }
+}
 
-    fn fmt<W: fmt::Write>(&self, f: &mut fmt::Formatter<W>) -> fmt::Result {
-        for digit in self.digits {
-            write!(f, "{digit}")?;
-        }
-        Ok(())
+/// Writes the characters of digits over as many bytes.
+fn spell(digits: &[u8], text: &mut [u8])
+    requires size { length digits.now ≡ length text.old }
+    requires are { AreDigits digits.now }
+    ensures { text.new ≡ glyphs digits.now }
+{
+    for i in 0..digits.len() {
+        text[i] = b'0' + digits[i];
     }
 }
 

@@ -2,23 +2,22 @@
 //!
 //! [`Decimal`] holds a sign and the digits before and after the point. `specs/Digits.antt` says how
 //! digits are packed, `specs/Decimals.antt` what is read and written, and `specs/Texts.antt` what is
-//! shown and taken as text.
+//! shown and taken as text. [`laws`] ties these to one another, and has worked values.
 #![tactic(auto)]
 
 mod decimal;
 mod digits;
 mod display;
 mod fields;
-mod laws;
+mod groups;
+pub mod laws;
 mod order;
 mod packing;
 mod parse;
-mod streams;
 #[cfg(test)]
 mod tests;
 mod unpacking;
 
 pub use digits::{DIG_BASE, DIG_PER_DEC, DIG_TO_BYTES, Digit, POWERS_10, decimal_bin_size};
 pub use fields::Decimal;
-pub use laws::{numbers_in_order, read_back, worked_decimals};
 pub use parse::ParseDecimalError;

@@ -1,16 +1,16 @@
-//! The order of decimals: that of their packed forms, byte by byte. So decimals of one precision and
-//! scale are in the order of their numbers, and a negative zero stands just below zero.
+//! The order of decimals: that of their packed forms. So decimals of one precision and scale are in
+//! the order of their numbers, and a negative zero stands just below zero.
 
 ghost use Rattle.std.specs.Prelude.{◌≡◌, ◌≤◌, ◌<◌, ◌+◌, ◌*◌, ◌/◌, ◌%◌, ◌++◌, ◌==◌, Some, nat_eq, refl, length, slice_index, if◌then◌else◌};
 ghost use Rattle.std.specs.Ordering.{nat_cmp};
 ghost use Rattle.std.specs.Cmp.{on_equiv, on_total, on_po, on_per, partial_equiv_from_equiv};
 ghost use Rattle.std.specs.Cmp.Lexicographic.{pointwise, slice_cmp, nat_list_eq_equiv, nat_list_cmp_total, texts_ties, texts_po};
-ghost use Rattle.rows_decimal.specs.Digits.{AreDigits, group_size as group_size_of, side_size as side_size_of, group_bytes, nines_bytes, before_bytes, after_bytes};
-ghost use Rattle.rows_decimal.specs.Decimals.{value_of, packed, packed_of, packed_size};
+ghost use Rattle.rows_decimal.specs.Digits.{signed};
+ghost use Rattle.rows_decimal.specs.Decimals.{value_of, packed_of};
+ghost use Rattle.rows_decimal.specs.Steps.{sides_bytes};
+ghost use Rattle.rows_decimal.specs.GroupsLeft.{bytes_left};
 
-use crate::digits::{DIG_PER_DEC, group_size, side_size};
-use crate::fields::Decimal;
-use crate::packing::number;
+use crate::fields::{Decimal, GroupBytes};
 use std::cmp::Ordering;
 
 impl PartialEq for Decimal {
@@ -56,98 +56,44 @@ impl Decimal {
     fn packed_cmp(&self, other: &Decimal) -> Ordering
         ensures { result ≡ slice_cmp nat_cmp (packed_of self.now) (packed_of other.now) }
     {
-        let own_size = self.bin_size();
-        let other_size = other.bin_size();
-        for i in 0..own_size.min(other_size) {
-            let order = self.packed_byte(i).cmp(&other.packed_byte(i));
-            if order.is_ne() {
-                return order;
+        if self.negative != other.negative {
+            return if self.negative {
+                Ordering::Less
+            } else {
+                Ordering::Greater
+            };
+        }
+        bytes_cmp(self.negative, self.group_bytes(), other.group_bytes())
+    }
+
+    /// The bytes of the groups, before any bit is flipped.
+    fn group_bytes(&self) -> GroupBytes<'_>
+        ensures { bytes_left result ≡ sides_bytes (value_of self.now).before (value_of self.now).after }
+    {
+        GroupBytes::new(&self.before, &self.after)
+    }
+}
+
+/// The order of bytes that are all flipped where they are those of negative numbers.
+fn bytes_cmp(negative: bool, mut first: GroupBytes<'_>, mut second: GroupBytes<'_>) -> Ordering
+    ensures { result ≡ slice_cmp nat_cmp (signed negative (bytes_left first.entry)) (signed negative (bytes_left second.entry)) }
+{
+    while let Some(byte) = first.next() {
+        match second.next() {
+            Some(other) => {
+                if byte != other {
+                    return if negative {
+                        other.cmp(&byte)
+                    } else {
+                        byte.cmp(&other)
+                    };
+                }
             }
+            None => return Ordering::Greater,
         }
-        own_size.cmp(&other_size)
     }
-
-    /// The byte at a place of the packed form.
-    fn packed_byte(&self, at: usize) -> u8
-        requires { at < packed_size (length self.now.before.items) (length self.now.after.items) }
-        ensures { result ≡ slice_index (packed_of self.now) at }
-    {
-        let turned = top_turned_at(self.plain_byte(at), at);
-        if self.negative {
-            return 255 - turned;
-        }
-        turned
+    match second.next() {
+        Some(_) => Ordering::Less,
+        None => Ordering::Equal,
     }
-
-    /// The byte at a place of the groups.
-    fn plain_byte(&self, at: usize) -> u8
-        requires { at < packed_size (length self.now.before.items) (length self.now.after.items) }
-        ensures { result ≡ slice_index
-            (before_bytes self.now.before.items ++ after_bytes self.now.after.items) at }
-    {
-        let front = side_size(self.before.len());
-        if at < front {
-            return before_byte(&self.before, at);
-        }
-        after_byte(&self.after, at - front)
-    }
-}
-
-/// A byte with its top bit turned where it is the first.
-fn top_turned_at(byte: u8, at: usize) -> u8
-    ensures { result ≡ (if at == 0 then (byte + 128) % 256 else byte) }
-{
-    if at == 0 {
-        byte.wrapping_add(128)
-    } else {
-        byte
-    }
-}
-
-/// A byte of the groups before the point.
-fn before_byte(digits: &[u8], at: usize) -> u8
-    requires are { AreDigits digits.now }
-    requires within { at < side_size_of (length digits.now) }
-    ensures { result ≡ slice_index (before_bytes digits.now) at }
-{
-    let left = digits.len() % DIG_PER_DEC;
-    let first = group_size(left);
-    if at < first {
-        return group_byte(&digits[..left], at);
-    }
-    nine_byte(&digits[left..], at - first)
-}
-
-/// A byte of the groups after the point.
-fn after_byte(digits: &[u8], at: usize) -> u8
-    requires are { AreDigits digits.now }
-    requires within { at < side_size_of (length digits.now) }
-    ensures { result ≡ slice_index (after_bytes digits.now) at }
-{
-    let whole = digits.len() / DIG_PER_DEC;
-    if at < 4 * whole {
-        return nine_byte(digits, at);
-    }
-    group_byte(&digits[DIG_PER_DEC * whole..], at - 4 * whole)
-}
-
-/// A byte of groups of nine digits.
-fn nine_byte(digits: &[u8], at: usize) -> u8
-    requires are { AreDigits digits.now }
-    requires within { at < 4 * (length digits.now / 9) }
-    ensures { result ≡ slice_index (nines_bytes (length digits.now / 9) digits.now) at }
-{
-    let i = at / 4;
-    group_byte(&digits[9 * i..9 * i + 9], at % 4)
-}
-
-/// A byte of one group.
-fn group_byte(digits: &[u8], at: usize) -> u8
-    requires few { length digits.now ≤ 9 }
-    requires are { AreDigits digits.now }
-    requires within { at < group_size_of (length digits.now) }
-    ensures { result ≡ slice_index (group_bytes digits.now) at }
-{
-    let unused = 4 - group_size(digits.len());
-    number(digits).to_be_bytes()[unused + at]
 }

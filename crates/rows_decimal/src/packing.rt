@@ -3,31 +3,29 @@
 ghost use Rattle.std.specs.Prelude.{◌≡◌, ◌≤◌, ◌++◌, ◌/◌, ◌-◌, ◌⊎◌, OnOk, IfOk, IfErr, length, map};
 ghost use Rattle.std.specs.Int.Digits.{number_from_digits};
 ghost use Rattle.std.specs.Io.KnownBytes.{Appends};
-ghost use Rattle.wire_buf.specs.declared.fault.WireFault.TheVariants.{Write as WriteFault, Memory};
-ghost use Rattle.wire_ints.specs.Streams.{WritesSome};
-ghost use Rattle.rows_decimal.specs.Digits.{AreDigits, group_bytes, nines_bytes, before_bytes, after_bytes, top_turned};
-ghost use Rattle.rows_decimal.specs.Decimals.{value_of, packed};
+ghost use Rattle.rows_decimal.specs.Digits.{AreDigits, group_bytes, nines_bytes, before_bytes, after_bytes, top_flipped};
+ghost use Rattle.rows_decimal.specs.Decimals.{value_of, packed, FailsToWrite};
 
-use crate::digits::{DIG_PER_DEC, group_size};
+use crate::digits::{DIG_PER_DEC, GROUP_BYTES, group_size};
 use crate::fields::Decimal;
-use crate::streams::write_out;
 use std::alloc::{AllocError, Global};
 use std::io::Write;
 use wire_buf::WireFault;
+use wire_streams::write_all;
 
 impl Decimal {
     /// Writes the packed form, which column values have: the digits in groups of nine from the point
     /// outward, each group a number of up to four bytes with the highest first, the top bit of all
-    /// turned, and all bits turned where it is negative. A writer that fails is `Write`, and a front
+    /// flipped, and all bits flipped where it is negative. A writer that fails is `Write`, and a front
     /// of the bytes is then written; want of memory is `Memory`, and nothing is written.
     pub fn write_bin<W: Write>(&self, alloc: Global, output: &mut W) -> Result<(), WireFault>
         ensures ok { OnOk result (Appends (W.contents output.old) (W.contents output.new)
             (packed (value_of self.now))) }
-        ensures err { IfErr result (λ e. (e ≡ Memory ⊎ e ≡ WriteFault) × WritesSome
-            (packed (value_of self.now)) (W.contents output.old) (W.contents output.new)) }
+        ensures err { IfErr result (λ e. FailsToWrite e (packed (value_of self.now))
+            (W.contents output.old) (W.contents output.new)) }
     {
         let bytes = self.pack(alloc)?;
-        write_out(output, &bytes)
+        write_all(output, &bytes)
     }
 
     /// The packed form.
@@ -37,25 +35,25 @@ impl Decimal {
         let mut bytes = Vec::with_capacity(alloc, self.bin_size())?;
         put_before(&self.before, &mut bytes)?;
         put_after(&self.after, &mut bytes)?;
-        turn_top(&mut bytes);
+        flip_top(&mut bytes);
         if self.negative {
-            turn_all(&mut bytes);
+            flip_all(&mut bytes);
         }
         Ok(bytes)
     }
 }
 
-/// Turns the top bit of the first byte.
-pub(crate) fn turn_top(bytes: &mut [u8])
-    ensures { bytes.new ≡ top_turned bytes.old }
+/// Flips the top bit of the first byte.
+pub(crate) fn flip_top(bytes: &mut [u8])
+    ensures { bytes.new ≡ top_flipped bytes.old }
 {
     if let Some(first) = bytes.first_mut() {
         *first = first.wrapping_add(128);
     }
 }
 
-/// Turns all bits.
-pub(crate) fn turn_all(bytes: &mut [u8])
+/// Flips all bits.
+pub(crate) fn flip_all(bytes: &mut [u8])
     ensures { bytes.new ≡ map (λ b. 255 - b) bytes.old }
 {
     for byte in bytes {
@@ -91,7 +89,7 @@ fn put_nines(digits: &[u8], out: &mut Vec<u8>) -> Result<(), AllocError>
         ++ nines_bytes (length digits.now / 9) digits.now) }
 {
     for i in 0..digits.len() / DIG_PER_DEC {
-        put_group(&digits[9 * i..9 * i + 9], out)?;
+        put_group(&digits[DIG_PER_DEC * i..DIG_PER_DEC * i + DIG_PER_DEC], out)?;
     }
     Ok(())
 }
@@ -103,7 +101,7 @@ fn put_group(digits: &[u8], out: &mut Vec<u8>) -> Result<(), AllocError>
     ensures { OnOk result (out.new.items ≡ out.old.items ++ group_bytes digits.now) }
 {
     let bytes = number(digits).to_be_bytes();
-    let unused = 4 - group_size(digits.len());
+    let unused = GROUP_BYTES - group_size(digits.len());
     out.extend_from_slice(&bytes[unused..])
 }
 

@@ -1,7 +1,11 @@
 //! Worked decimals.
 
+use crate::laws::{
+    numbers_in_order, only_zero_groups_are_dropped, packed_forms_are_uniquely_read, read_back,
+    texts_are_taken_back, worked_decimals,
+};
 use crate::{
-    Decimal, ParseDecimalError, decimal_bin_size, numbers_in_order, read_back, worked_decimals,
+    DIG_BASE, DIG_PER_DEC, DIG_TO_BYTES, Decimal, POWERS_10, ParseDecimalError, decimal_bin_size,
 };
 use rows_values::RowsError;
 use std::alloc::Global;
@@ -47,6 +51,58 @@ fn texts_as_bytes(rt: HostRuntime) -> Result<(), Fail> {
     let zero = Decimal::zero(alloc)?;
     assert!(rt; zero.to_string(alloc)?.as_str() == "0");
     Ok(())
+}
+
+#[test]
+fn flags_are_ignored(rt: HostRuntime) -> Result<(), Fail> {
+    let alloc = rt.alloc();
+    let decimal = Decimal::from_str(alloc, "-01.50")?;
+    let text = format!(in alloc; "{decimal:+012.1}")?;
+    assert!(rt; text.as_str() == "-1.50");
+    let text = format!(in alloc; "{decimal:*>9}|")?;
+    assert!(rt; text.as_str() == "-1.50|");
+    Ok(())
+}
+
+/// Whether as many nines are taken, shown and read back as they are.
+fn many_nines(alloc: Global, count: usize) -> Result<bool, Fail> {
+    let mut text: Vec<u8> = Vec::new(alloc);
+    text.resize(count, b'9')?;
+    text.push(b'.')?;
+    text.resize(2 * count + 1, b'9')?;
+    let decimal = Decimal::parse_str_bytes(alloc, &text)?;
+    let shown = decimal.to_string(alloc)?;
+    Ok(shown.as_str().as_bytes() == text.as_slice() && read_back(alloc, &decimal)? == decimal)
+}
+
+#[test]
+fn long_decimals(rt: HostRuntime) -> Result<(), Fail> {
+    let alloc = rt.alloc();
+    assert!(rt; many_nines(alloc, 9)?);
+    assert!(rt; many_nines(alloc, 65)?);
+    assert!(rt; many_nines(alloc, 66)?);
+    assert!(rt; many_nines(alloc, 200)?);
+    Ok(())
+}
+
+#[test]
+fn copies(rt: HostRuntime) -> Result<(), Fail> {
+    let alloc = rt.alloc();
+    let decimal = Decimal::from_str(alloc, "-007.50")?;
+    let copy = decimal.clone(alloc)?;
+    assert!(rt; copy == decimal);
+    assert!(rt; copy.to_string(alloc)?.as_str() == "-7.50");
+    Ok(())
+}
+
+#[test]
+fn named_numbers(rt: HostRuntime) {
+    assert!(rt; DIG_PER_DEC == 9);
+    assert!(rt; DIG_BASE == 1_000_000_000);
+    assert!(rt; DIG_TO_BYTES == [0, 1, 1, 2, 2, 3, 3, 4, 4, 4]);
+    assert!(rt; POWERS_10[0] == 1);
+    assert!(rt; POWERS_10[5] == 100_000);
+    assert!(rt; POWERS_10[9] == 1_000_000_000);
 }
 
 #[test]
@@ -161,6 +217,24 @@ fn decimals_in_order(rt: HostRuntime) -> Result<(), Fail> {
     assert!(rt; small < none);
     assert!(rt; none.cmp(&large) == Ordering::Less);
     assert!(rt; large == Decimal::from_str(alloc, "01.49")?);
+    let lower = Decimal::from_str(alloc, "-1.51")?;
+    assert!(rt; lower < small);
+    assert!(rt; small > lower);
+    assert!(rt; small.cmp(&small) == Ordering::Equal);
+    Ok(())
+}
+
+#[test]
+fn decimals_of_other_sizes_in_order_of_bytes(rt: HostRuntime) -> Result<(), Fail> {
+    let alloc = rt.alloc();
+    let one = Decimal::from_str(alloc, "1")?;
+    let tenths = Decimal::from_str(alloc, "1.0")?;
+    let below = Decimal::from_str(alloc, "-1")?;
+    let large = Decimal::from_str(alloc, "1000000000")?;
+    assert!(rt; one < tenths);
+    assert!(rt; below < tenths);
+    assert!(rt; large.cmp(&one) == Ordering::Greater);
+    assert!(rt; large != one);
     Ok(())
 }
 
@@ -168,10 +242,12 @@ fn decimals_in_order(rt: HostRuntime) -> Result<(), Fail> {
 fn laws_of_decimals(rt: HostRuntime) -> Result<(), Fail> {
     let alloc = rt.alloc();
     worked_decimals();
-    let one = Decimal::zero(alloc)?;
-    let other = Decimal::zero(alloc)?;
-    assert!(rt; numbers_in_order(&one, &other) == Ordering::Equal);
-    assert!(rt; read_back(alloc, &one)? == one);
+    numbers_in_order();
+    packed_forms_are_uniquely_read();
+    only_zero_groups_are_dropped();
+    texts_are_taken_back();
+    let value = Decimal::from_str(alloc, "-1234567890.1234")?;
+    assert!(rt; read_back(alloc, &value)? == value);
     Ok(())
 }
 
@@ -194,6 +270,7 @@ fn decimal_refusals(rt: HostRuntime) {
     );
     let mut any = b"\x80\x00".as_slice();
     assert!(rt; Decimal::read_bin(alloc, &mut any, 2, 3, false).err() == Some(RowsError::Decimal));
+    assert!(rt; any == b"\x80\x00".as_slice());
     let mut short = b"\x80".as_slice();
     assert!(rt;
         Decimal::read_bin(alloc, &mut short, 4, 0, false).err() == Some(RowsError::EndOfBody)

@@ -1,20 +1,21 @@
 //! The packed form of a decimal, read.
 
-ghost use Rattle.std.specs.Prelude.{◌≡◌, ◌≤◌, ◌<◌, ◌-◌, ◌*◌, ◌^◌, ◌++◌, ◌/◌, ◌⊎◌, OnOk, IfOk, IfErr, length, if◌then◌else◌};
+ghost use Rattle.std.specs.Prelude.{◌≡◌, ◌≤◌, ◌<◌, ◌-◌, ◌*◌, ◌^◌, ◌++◌, ◌/◌, ◌⊎◌, OnOk, IfOk, IfErr, true, false, length, if◌then◌else◌};
 ghost use Rattle.rows_values.specs.declared.fault.RowsError.TheVariants.{Decimal as BadDecimal, Memory};
-ghost use Rattle.rows_decimal.specs.Digits.{AreDigits, group_size as group_size_of, side_size as side_size_of, group_bytes, nines_bytes, before_bytes, after_bytes, top_turned, signed, has_minus_bit as has_minus_bit_in};
+ghost use Rattle.rows_decimal.specs.Digits.{AreDigits, group_size as group_size_of, side_size as side_size_of, group_bytes, nines_bytes, before_bytes, after_bytes, top_flipped, signed};
+ghost use Rattle.rows_decimal.specs.Steps.{Gains, NoDigits, digits_in, has_minus_bit as has_minus_bit_in};
 ghost use Rattle.byteorder.specs.Endian.{big_number};
 ghost use Rattle.wire_buf.specs.Spelling.{AreBytes};
-ghost use Rattle.rows_decimal.specs.Decimals.{value_of, packed_size, some_digit, without_zero_groups, Unpacks, NonePacked, ReadsDecimal, FailsDecimal, ReadsPacked, FailsPacked, Gains, NoDigits, digits_in};
+ghost use Rattle.rows_decimal.specs.Decimals.{value_of, packed_size, some_digit, without_zero_groups, Unpacks, NonePacked, ReadsDecimal, FailsDecimal, ReadsPacked, FailsPacked};
 
-use crate::digits::{DIG_PER_DEC, decimal_bin_size, group_size, leading, side_size};
+use crate::digits::{DIG_PER_DEC, GROUP_BYTES, decimal_bin_size, group_size, leading, side_size};
 use crate::fields::Decimal;
-use crate::packing::{turn_all, turn_top};
-use crate::streams::gather;
+use crate::packing::{flip_all, flip_top};
 use byteorder::{BigEndian, ByteOrder};
 use rows_values::RowsError;
 use std::alloc::{AllocError, Global};
 use std::io::Read;
+use wire_streams::{read_exact, read_more};
 
 impl Decimal {
     /// Reads the packed form of `precision` digits, `scale` of them after the point, as column values
@@ -41,7 +42,7 @@ impl Decimal {
             return Err(RowsError::Decimal);
         }
         let mut bytes = Vec::new(alloc);
-        gather(input, decimal_bin_size(precision, scale) as u64, &mut bytes)?;
+        read_more(input, decimal_bin_size(precision, scale) as u64, &mut bytes)?;
         unpack(alloc, &mut bytes, precision - scale, scale, keep_precision)
     }
 
@@ -57,11 +58,16 @@ impl Decimal {
         ensures err { IfErr result
             (λ e. FailsPacked e (R.remaining input.old) (R.remaining input.new)) }
     {
-        let mut sizes = Vec::new(alloc);
-        gather(input, 2, &mut sizes)?;
-        let precision = usize::from(sizes[0]);
-        let scale = usize::from(sizes[1]);
-        Decimal::read_bin(alloc, input, precision, scale, keep_precision)
+        let mut sizes = [0u8; 2];
+        read_exact(input, &mut sizes)?;
+        let [precision, scale] = sizes;
+        Decimal::read_bin(
+            alloc,
+            input,
+            usize::from(precision),
+            usize::from(scale),
+            keep_precision,
+        )
     }
 }
 
@@ -77,28 +83,28 @@ fn unpack(
     ensures ok { IfOk result (λ d. Unpacks keep before after (value_of d) bytes.old) }
     ensures err { IfErr result (λ e. e ≡ Memory ⊎ ((e ≡ BadDecimal) × NonePacked before after bytes.old)) }
 {
-    let negative = turn_back(bytes);
+    let negative = flip_back(bytes);
     let (front, back) = bytes.split_at(side_size(before));
     let mut whole = Vec::new(alloc);
     take_before(front, before, &mut whole)?;
     let mut fraction = Vec::new(alloc);
     take_after(back, after, &mut fraction)?;
-    let whole = kept_digits(alloc, whole, keep)?;
+    drop_zero_groups(&mut whole, keep);
     let decimal = finish(alloc, negative, whole, fraction)?;
     Ok(decimal)
 }
 
-/// Turns packed bits back, and says whether they were those of a negative number.
-fn turn_back(bytes: &mut [u8]) -> bool
+/// Flips packed bits back, and says whether they were those of a negative number.
+fn flip_back(bytes: &mut [u8]) -> bool
     ensures sign { result ≡ has_minus_bit_in bytes.old }
-    ensures plain { bytes.new ≡ top_turned (signed result bytes.old) }
+    ensures plain { bytes.new ≡ top_flipped (signed result bytes.old) }
     ensures bytes { AreBytes bytes.old }
 {
     let negative = has_minus_bit(bytes);
     if negative {
-        turn_all(bytes);
+        flip_all(bytes);
     }
-    turn_top(bytes);
+    flip_top(bytes);
     negative
 }
 
@@ -135,23 +141,17 @@ fn finish(
     })
 }
 
-/// All of the digits, or those without the leading groups that are zero.
-fn kept_digits(alloc: Global, digits: Vec<u8>, keep: bool) -> Result<Vec<u8>, AllocError>
-    ensures { IfOk result (λ ds. ds.items ≡
-        (if keep then digits.items else without_zero_groups digits.items)) }
+/// Drops the leading groups that are zero, unless all digits are to be kept.
+fn drop_zero_groups(digits: &mut Vec<u8>, keep: bool)
+    ensures { digits.new.items ≡ (if keep then digits.old.items else without_zero_groups digits.old.items) }
 {
     if keep {
-        return Ok(digits);
+        return;
     }
-    let shown = digits.len() - leading(&digits, 0);
+    let shown = digits.len() - leading(digits, 0);
     let groups = shown / DIG_PER_DEC + usize::from(shown % DIG_PER_DEC > 0);
     let unused = digits.len().saturating_sub(DIG_PER_DEC * groups);
-    if unused == 0 {
-        return Ok(digits);
-    }
-    let mut kept = Vec::new(alloc);
-    kept.extend_from_slice(&digits[unused..])?;
-    Ok(kept)
+    drop(digits.drain(..unused));
 }
 
 /// Appends the digits before the point.
@@ -173,7 +173,7 @@ fn take_after(bytes: &[u8], count: usize, digits: &mut Vec<u8>) -> Result<(), Ro
     ensures err { IfErr result (λ e. e ≡ Memory ⊎ ((e ≡ BadDecimal) × NoDigits after_bytes count bytes.now)) }
 {
     let whole = count / DIG_PER_DEC;
-    let (front, rest) = bytes.split_at(4 * whole);
+    let (front, rest) = bytes.split_at(GROUP_BYTES * whole);
     take_nines(front, whole, digits)?;
     take_group(rest, count % DIG_PER_DEC, digits)
 }
@@ -185,7 +185,11 @@ fn take_nines(bytes: &[u8], count: usize, digits: &mut Vec<u8>) -> Result<(), Ro
     ensures err { IfErr result (λ e. e ≡ Memory ⊎ ((e ≡ BadDecimal) × NoDigits (nines_bytes count) (9 * count) bytes.now)) }
 {
     for i in 0..count {
-        take_group(&bytes[4 * i..4 * i + 4], 9, digits)?;
+        take_group(
+            &bytes[GROUP_BYTES * i..GROUP_BYTES * i + GROUP_BYTES],
+            DIG_PER_DEC,
+            digits,
+        )?;
     }
     Ok(())
 }
@@ -213,18 +217,32 @@ fn number_at(bytes: &[u8]) -> u64
 
 /// Appends the last digits of a number, if it has no more.
 fn push_digits(number: u64, count: usize, digits: &mut Vec<u8>) -> Result<(), RowsError>
+    requires { count ≤ 9 }
     ensures ok { OnOk result ((number < 10 ^ count)
         × (digits.new.items ≡ digits.old.items ++ digits_in count number)) }
     ensures err { IfErr result (λ e. e ≡ Memory ⊎ ((e ≡ BadDecimal) × (10 ^ count ≤ number))) }
 {
-    if count == 0 {
-        return if number == 0 {
-            Ok(())
-        } else {
-            Err(RowsError::Decimal)
-        };
+    let mut group = [0; DIG_PER_DEC];
+    let places = &mut group[..count];
+    if !put_digits(number, places) {
+        return Err(RowsError::Decimal);
     }
-    push_digits(number / 10, count - 1, digits)?;
-    digits.push((number % 10) as u8)?;
+    digits.extend_from_slice(places)?;
     Ok(())
+}
+
+/// Writes the last digits of a number over all of the places, and answers whether it has no more.
+fn put_digits(number: u64, places: &mut [u8]) -> bool
+    ensures digits { places.new ≡ digits_in (length places.old) number }
+    ensures fits { result ≡ true → number < 10 ^ length places.old }
+    ensures past { result ≡ false → 10 ^ length places.old ≤ number }
+{
+    let mut left = number;
+    let mut at = places.len();
+    while at > 0 {
+        at -= 1;
+        places[at] = (left % 10) as u8;
+        left /= 10;
+    }
+    left == 0
 }

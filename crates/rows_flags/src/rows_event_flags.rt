@@ -31,14 +31,17 @@ impl Flags for RowsEventFlags {
 
     ghost set_of = { λ flags. flags.0 };
 
+    /// All flags, with their names.
     fn flags<'a>() -> &'a [Flag<RowsEventFlags>] {
         RowsEventFlags::FLAGS
     }
 
+    /// The bits of the set as a number.
     fn bits(&self) -> u16 {
         self.0
     }
 
+    /// The set of these bits; bits that are no flag are kept.
     fn from_bits_retain(bits: u16) -> RowsEventFlags {
         RowsEventFlags(bits)
     }
@@ -63,6 +66,7 @@ impl TryFrom<u16> for RowsEventFlags {
 impl From<RowsEventFlags> for u16 {
     ghost from_gives = { λ flags bits. bits ≡ flags.0 };
 
+    /// The bits of the set as a number.
     fn from(flags: RowsEventFlags) -> u16 {
         flags.0
     }
@@ -71,6 +75,7 @@ impl From<RowsEventFlags> for u16 {
 impl From<UnknownRowsEventFlags> for u16 {
     ghost from_gives = { λ unknown bits. bits ≡ unknown.0 };
 
+    /// The bits that were refused, the known ones among them.
     fn from(unknown: UnknownRowsEventFlags) -> u16 {
         unknown.0
     }

@@ -25,14 +25,17 @@ impl Flags for SemiSyncFlags {
 
     ghost set_of = { λ flags. flags.0 };
 
+    /// All flags, with their names.
     fn flags<'a>() -> &'a [Flag<SemiSyncFlags>] {
         SemiSyncFlags::FLAGS
     }
 
+    /// The bits of the set as a number.
     fn bits(&self) -> u8 {
         self.0
     }
 
+    /// The set of these bits; bits that are no flag are kept.
     fn from_bits_retain(bits: u8) -> SemiSyncFlags {
         SemiSyncFlags(bits)
     }
@@ -57,6 +60,7 @@ impl TryFrom<u8> for SemiSyncFlags {
 impl From<SemiSyncFlags> for u8 {
     ghost from_gives = { λ flags bits. bits ≡ flags.0 };
 
+    /// The bits of the set as a number.
     fn from(flags: SemiSyncFlags) -> u8 {
         flags.0
     }
@@ -65,6 +69,7 @@ impl From<SemiSyncFlags> for u8 {
 impl From<UnknownSemiSyncFlags> for u8 {
     ghost from_gives = { λ unknown bits. bits ≡ unknown.0 };
 
+    /// The bits that were refused, the known ones among them.
     fn from(unknown: UnknownSemiSyncFlags) -> u8 {
         unknown.0
     }

@@ -25,14 +25,17 @@ impl Flags for UserVarFlags {
 
     ghost set_of = { λ flags. flags.0 };
 
+    /// All flags, with their names.
     fn flags<'a>() -> &'a [Flag<UserVarFlags>] {
         UserVarFlags::FLAGS
     }
 
+    /// The bits of the set as a number.
     fn bits(&self) -> u8 {
         self.0
     }
 
+    /// The set of these bits; bits that are no flag are kept.
     fn from_bits_retain(bits: u8) -> UserVarFlags {
         UserVarFlags(bits)
     }
@@ -57,6 +60,7 @@ impl TryFrom<u8> for UserVarFlags {
 impl From<UserVarFlags> for u8 {
     ghost from_gives = { λ flags bits. bits ≡ flags.0 };
 
+    /// The bits of the set as a number.
     fn from(flags: UserVarFlags) -> u8 {
         flags.0
     }
@@ -65,6 +69,7 @@ impl From<UserVarFlags> for u8 {
 impl From<UnknownUserVarFlags> for u8 {
     ghost from_gives = { λ unknown bits. bits ≡ unknown.0 };
 
+    /// The bits that were refused, the known ones among them.
     fn from(unknown: UnknownUserVarFlags) -> u8 {
         unknown.0
     }

@@ -1,3 +1,3 @@
-pub mod ReadLemmas
+pub mod RowLemmas
 pub mod PackedLemmas
 pub mod TimeTextLemmas

@@ -26,6 +26,10 @@ abbrev pub count_below : (ℕ → Bool) → ℕ → ℕ
 count_below is_set zero = 0
 count_below is_set (suc n) = count_below is_set n + (if is_set n then 1 else 0)
 
+-- bits of which none was passed
+abbrev pub all_bits : Bits → BitsIter
+all_bits b = record { bits = b; next = 0 }
+
 -- one step over bits: the next bit is given and passed, where there is one
 abbrev pub TakesBit : BitsIter → Option Bool → BitsIter → Type 0
 TakesBit it bit after =

@@ -1,5 +1,5 @@
 -- What the definition of a column says.
-use Rattle.std.specs.Prelude.{ℕ, List}
+use Rattle.std.specs.Prelude.{ℕ, List, []}
 use Rattle.wire_consts.specs.declared.column_type.ColumnType.{ColumnType}
 use Rattle.wire_consts.specs.declared.column_flags.ColumnFlags.{ColumnFlags}
 use Rattle.rows_values.specs.declared.column.Column.{Column}
@@ -22,4 +22,16 @@ parts_of c = record {
   name = c.name.items;
   flags = c.flags;
   character_set = c.character_set;
+}
+
+-- a column of a type, without names, flags and character set
+abbrev pub parts_of_type : ColumnType → ColumnParts
+parts_of_type kind = record {
+  column_type = kind;
+  schema = [];
+  table = [];
+  org_table = [];
+  name = [];
+  flags = record { 0 = 0 };
+  character_set = 0;
 }

@@ -1,5 +1,5 @@
 -- Values of so many bytes, read from a reader whose bytes may be known.
-use Rattle.std.specs.Prelude.{◌≡◌, ◌<◌, ◌⊎◌, ℕ, List, length, Option}
+use Rattle.std.specs.Prelude.{◌≡◌, ◌≤◌, ◌<◌, ◌⊎◌, ℕ, List, length, Option}
 use Rattle.std.specs.Io.KnownBytes.{Consumes, IsAtEnd}
 use Rattle.rows_values.specs.declared.fault.RowsError.{RowsError}
 use Rattle.rows_values.specs.declared.fault.RowsError.TheVariants.{EndOfBody, Read}
@@ -15,4 +15,5 @@ pub record ReadsValue {A : Type 0} (n : ℕ) (value : List ℕ → A) (v : A) (o
 pub record IsCut (fault : RowsError) (n : ℕ) (old new : Option (List ℕ)) : Type 0 where
   pub taken : List ℕ
   pub consumed : Consumes old new taken
+  pub within : length taken ≤ n
   pub cause : ((fault ≡ EndOfBody) × IsAtEnd new × (length taken < n)) ⊎ (fault ≡ Read)

@@ -1,27 +1,22 @@
 -- The text of dates and times of day and of spans of time, as MySQL shows them.
-use Rattle.std.specs.Prelude.{ℕ, ◌/◌, ◌%◌, Bool, not, ◌&&◌, ◌==◌, List, [], ◌∷◌, ◌++◌, Option, Some, None, take, nat_lt, if◌then◌else◌, codes, ℤ, pos, int_lt, unsigned_abs}
-use Rattle.std.specs.List.{flat_map}
+use Rattle.std.specs.Prelude.{ℕ, ◌-◌, ◌/◌, ◌%◌, Bool, not, ◌&&◌, ◌==◌, List, [], ◌∷◌, ◌++◌, Option, Some, None, take, length, replicate, nat_lt, if◌then◌else◌, codes, ℤ, pos, int_lt, unsigned_abs}
 use Rattle.std.specs.Fmt.{decimal}
 use Rattle.rows_values.specs.declared.time.MysqlTime.{MysqlTime}
 use Rattle.rows_values.specs.declared.time.MysqlTimestampType.{MysqlTimestampType}
 use Rattle.rows_values.specs.declared.time.MysqlTimestampType.TheVariants.{MYSQL_TIMESTAMP_NONE, MYSQL_TIMESTAMP_ERROR, MYSQL_TIMESTAMP_DATE, MYSQL_TIMESTAMP_DATETIME, MYSQL_TIMESTAMP_TIME, MYSQL_TIMESTAMP_DATETIME_TZ}
 
+-- a number in decimal, with zeros before it up to a least width
+unfoldable pub padded : ℕ → ℕ → List ℕ
+padded width n = replicate (width - length (decimal n)) 48 ++ decimal n
+
 -- the two digits of a part; a part that has more is shown as 00
 unfoldable pub two_digits : ℕ → List ℕ
-two_digits n = if nat_lt n 100 then decimal (n / 10) ++ decimal (n % 10) else codes "00"
+two_digits n = if nat_lt n 100 then padded 2 n else codes "00"
 
--- a number with at least two digits
-unfoldable pub at_least_two : ℕ → List ℕ
-at_least_two n = (if nat_lt n 10 then 48 ∷ [] else []) ++ decimal n
-
--- the powers of ten that the six digits of microseconds count, the highest first
-abbrev pub micro_digits : List ℕ
-micro_digits = 100000 ∷ 10000 ∷ 1000 ∷ 100 ∷ 10 ∷ 1 ∷ []
-
--- with a precision a point and that many digits of the microseconds, six at most
+-- with a precision a point and that many of the six digits of the microseconds
 unfoldable pub fraction_text : Option ℕ → ℕ → List ℕ
 fraction_text None n = []
-fraction_text (Some p) n = if p == 0 then [] else 46 ∷ flat_map (λ power. decimal (n / power % 10)) (take p micro_digits)
+fraction_text (Some p) n = if p == 0 then [] else 46 ∷ take p (padded 6 (n % 1000000))
 
 -- century and year, month and day
 unfoldable pub date_text : MysqlTime → List ℕ
@@ -37,11 +32,11 @@ date_and_time_text precision t = date_text t ++ 32 ∷ two_digits t.hour ++ afte
 
 -- a span of time: its hours have all their digits
 unfoldable pub span_text : Option ℕ → MysqlTime → List ℕ
-span_text precision t = (if t.neg then 45 ∷ [] else []) ++ at_least_two t.hour ++ after_hour precision t
+span_text precision t = (if t.neg then 45 ∷ [] else []) ++ padded 2 t.hour ++ after_hour precision t
 
 -- hours in a width of two, in which a minus counts
 unfoldable pub zone_hours : Bool → ℕ → List ℕ
-zone_hours negative hours = if negative && not (hours == 0) then 45 ∷ decimal hours else at_least_two hours
+zone_hours negative hours = if negative && not (hours == 0) then 45 ∷ decimal hours else padded 2 hours
 
 -- a plus, the hours toward zero, and the minutes of the magnitude
 unfoldable pub zone_text : ℤ → List ℕ

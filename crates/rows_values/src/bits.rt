@@ -12,7 +12,7 @@ pub struct Bits<'a> {
 
 impl<'a> Bits<'a> {
     ghost use Rattle.std.specs.Prelude.{◌≡◌, ◌≤◌, ◌<◌, ◌*◌, ◌==◌, ℕ, length};
-    ghost use Rattle.rows_values.specs.BitLists.{lowest_bit, highest_bit, bit_of, len_of, bit_at, count_below};
+    ghost use Rattle.rows_values.specs.BitLists.{lowest_bit, highest_bit, bit_of, len_of, bit_at, count_below, all_bits};
 
     /// The first bits of these bytes, each byte from its lowest bit on, as null bits stand.
     pub fn lowest(bytes: &'a [u8], len: usize) -> Bits<'a>
@@ -83,7 +83,7 @@ impl<'a> Bits<'a> {
 
     /// The bits in order.
     pub fn iter(&self) -> BitsIter<'a>
-        ensures { result ≡ record { bits = self.now; next = 0 } }
+        ensures { result ≡ all_bits self.now }
     {
         BitsIter {
             bits: *self,

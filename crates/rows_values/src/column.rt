@@ -1,7 +1,7 @@
-ghost use Rattle.std.specs.Prelude.{◌≡◌, IfOk, []};
+ghost use Rattle.std.specs.Prelude.{◌≡◌, IfOk};
 ghost use Rattle.std.specs.Str.{IsUtf8};
 ghost use Rattle.std.specs.Cow.{cow_str_bytes};
-ghost use Rattle.rows_values.specs.Columns.{parts_of};
+ghost use Rattle.rows_values.specs.Columns.{parts_of, parts_of_type};
 
 use std::alloc::{AllocError, Global};
 use std::borrow::CowStr;
@@ -23,7 +23,7 @@ pub struct Column {
 impl Column {
     /// A column of this type, without names, flags and character set.
     pub fn new(alloc: Global, column_type: ColumnType) -> Column
-        ensures { parts_of result ≡ record { column_type = column_type; schema = []; table = []; org_table = []; name = []; flags = record { 0 = 0 }; character_set = 0 } }
+        ensures { parts_of result ≡ parts_of_type column_type }
     {
         Column {
             column_type,
@@ -61,7 +61,8 @@ impl Column {
 
     /// The name of the schema as text; what isn't UTF-8 in it is replaced.
     pub fn schema_str(&self, alloc: Global) -> Result<CowStr<'_, Global>, AllocError>
-        ensures { IfOk result (λ t. IsUtf8 (parts_of self.now).schema → cow_str_bytes t ≡ (parts_of self.now).schema) }
+        ensures { IfOk result
+            (λ t. IsUtf8 (parts_of self.now).schema → cow_str_bytes t ≡ (parts_of self.now).schema) }
     {
         lossy(alloc, &self.schema)
     }
@@ -84,7 +85,8 @@ impl Column {
 
     /// The name of the table, which may be an alias, as text; what isn't UTF-8 in it is replaced.
     pub fn table_str(&self, alloc: Global) -> Result<CowStr<'_, Global>, AllocError>
-        ensures { IfOk result (λ t. IsUtf8 (parts_of self.now).table → cow_str_bytes t ≡ (parts_of self.now).table) }
+        ensures { IfOk result
+            (λ t. IsUtf8 (parts_of self.now).table → cow_str_bytes t ≡ (parts_of self.now).table) }
     {
         lossy(alloc, &self.table)
     }
@@ -107,7 +109,8 @@ impl Column {
 
     /// The name of the table in its schema as text; what isn't UTF-8 in it is replaced.
     pub fn org_table_str(&self, alloc: Global) -> Result<CowStr<'_, Global>, AllocError>
-        ensures { IfOk result (λ t. IsUtf8 (parts_of self.now).org_table → cow_str_bytes t ≡ (parts_of self.now).org_table) }
+        ensures { IfOk result
+            (λ t. IsUtf8 (parts_of self.now).org_table → cow_str_bytes t ≡ (parts_of self.now).org_table) }
     {
         lossy(alloc, &self.org_table)
     }
@@ -130,7 +133,8 @@ impl Column {
 
     /// The name of the column as text; what isn't UTF-8 in it is replaced.
     pub fn name_str(&self, alloc: Global) -> Result<CowStr<'_, Global>, AllocError>
-        ensures { IfOk result (λ t. IsUtf8 (parts_of self.now).name → cow_str_bytes t ≡ (parts_of self.now).name) }
+        ensures { IfOk result
+            (λ t. IsUtf8 (parts_of self.now).name → cow_str_bytes t ≡ (parts_of self.now).name) }
     {
         lossy(alloc, &self.name)
     }
@@ -163,6 +167,21 @@ impl Column {
         ensures { result ≡ (parts_of self.now).character_set }
     {
         self.character_set
+    }
+
+    /// A column of the same parts, its names in memory of their own. Want of memory is refused.
+    pub fn clone(&self, alloc: Global) -> Result<Column, AllocError>
+        ensures { IfOk result (λ copy. parts_of copy ≡ parts_of self.now) }
+    {
+        Ok(Column {
+            column_type: self.column_type,
+            schema: Vec::from_slice(alloc, &self.schema)?,
+            table: Vec::from_slice(alloc, &self.table)?,
+            org_table: Vec::from_slice(alloc, &self.org_table)?,
+            name: Vec::from_slice(alloc, &self.name)?,
+            flags: self.flags,
+            character_set: self.character_set,
+        })
     }
 }
 

@@ -60,6 +60,7 @@ pub enum JsonbError {
 impl From<AllocError> for RowsError {
     ghost from_gives = { λ e f. f ≡ Memory };
 
+    /// Want of memory is `Memory`.
     fn from(_error: AllocError) -> RowsError {
         RowsError::Memory
     }
@@ -68,6 +69,7 @@ impl From<AllocError> for RowsError {
 impl<T: Drop> From<AllocFailed<T>> for RowsError {
     ghost from_gives = { λ e f. f ≡ Memory };
 
+    /// Want of memory is `Memory`; the value that found no place is dropped.
     fn from(_error: AllocFailed<T>) -> RowsError {
         RowsError::Memory
     }
@@ -76,6 +78,7 @@ impl<T: Drop> From<AllocFailed<T>> for RowsError {
 impl From<JsonbError> for RowsError {
     ghost from_gives = { λ e f. f ≡ Jsonb (Some e) };
 
+    /// The fault of a document's pointers and sizes is kept.
     fn from(error: JsonbError) -> RowsError {
         RowsError::Jsonb(Some(error))
     }

@@ -8,6 +8,7 @@
 mod bits;
 mod column;
 mod fault;
+pub mod laws;
 mod packed;
 mod row;
 #[cfg(test)]

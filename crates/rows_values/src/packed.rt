@@ -1,14 +1,14 @@
 //! Packed times: arithmetic, and what is packed in the cells of times.
 
-ghost use Rattle.std.specs.Prelude.{◌≡◌, ◌+◌, ◌-◌, ◌≤◌, ◌<◌, ◌^◌, ◌*◌, pos, length, IfOk, IfErr, OnOk};
-ghost use Rattle.std.specs.Io.KnownBytes.{Consumes};
+ghost use Rattle.std.specs.Prelude.{◌≡◌, ◌+◌, ◌-◌, ◌≤◌, ◌<◌, ◌^◌, ◌*◌, pos, length, IfOk, IfErr};
 ghost use Rattle.byteorder.specs.Endian.{big_number};
 ghost use Rattle.rows_values.specs.PackedTimes.{packed, packed_int, int_part, frac_part, fraction_len, fraction, time2, datetime2, timestamp2};
 ghost use Rattle.rows_values.specs.ReadTimes.{ReadsValue, IsCut};
 
 use crate::fault::RowsError;
 use byteorder::{BigEndian, ByteOrder};
-use std::io::{ErrorKind, Read};
+use std::io::Read;
+use wire_streams::read_exact;
 
 /// What the three bytes of a `TIME2` without fraction hold above its hours, minutes and seconds.
 pub const TIMEF_INT_OFS: i64 = 0x80_0000;
@@ -21,9 +21,6 @@ pub const DATETIMEF_INT_OFS: i64 = 0x80_0000_0000;
 
 /// How many fractions a packed time has: 2^24.
 const FRACTIONS: i64 = 0x100_0000;
-
-/// How many reads are made at most for one value.
-const MAX_TURNS: u64 = 0x7fff_ffff_ffff_ffff;
 
 /// A packed time of its whole part, without a fraction; modulo 2^64.
 pub fn my_packed_time_make_int(i: i64) -> i64
@@ -59,13 +56,15 @@ pub fn my_packed_time_get_frac_part(i: i64) -> i64
 /// An end of the input within the cell is `EndOfBody`, and all bytes are then taken; a reader that
 /// fails, and one that is interrupted for 2^63 - 1 times, is `Read`.
 pub fn my_time_packed_from_binary<R: Read>(input: &mut R, dec: u32) -> Result<i64, RowsError>
-    ensures ok { IfOk result (λ v. ReadsValue (3 + fraction_len dec) (time2 (fraction_len dec)) v (R.remaining input.old) (R.remaining input.new)) }
-    ensures err { IfErr result (λ e. IsCut e (3 + fraction_len dec) (R.remaining input.old) (R.remaining input.new)) }
+    ensures ok { IfOk result (λ v. ReadsValue (3 + fraction_len dec) (time2 (fraction_len dec)) v
+        (R.remaining input.old) (R.remaining input.new)) }
+    ensures err { IfErr result
+        (λ e. IsCut e (3 + fraction_len dec) (R.remaining input.old) (R.remaining input.new)) }
 {
     let fraction_bytes = count_of_fraction(dec);
     let mut buf = [0u8; 6];
     let bytes = &mut buf[..3 + fraction_bytes];
-    fill(input, bytes)?;
+    read_exact(input, bytes)?;
     Ok(time_of(bytes, fraction_bytes))
 }
 
@@ -73,13 +72,15 @@ pub fn my_time_packed_from_binary<R: Read>(input: &mut R, dec: u32) -> Result<i6
 /// for each two decimals. A number of decimals past 6 is taken as 0. Refusals are as those of
 /// [`my_time_packed_from_binary`].
 pub fn my_datetime_packed_from_binary<R: Read>(input: &mut R, dec: u32) -> Result<i64, RowsError>
-    ensures ok { IfOk result (λ v. ReadsValue (5 + fraction_len dec) (datetime2 (fraction_len dec)) v (R.remaining input.old) (R.remaining input.new)) }
-    ensures err { IfErr result (λ e. IsCut e (5 + fraction_len dec) (R.remaining input.old) (R.remaining input.new)) }
+    ensures ok { IfOk result (λ v. ReadsValue (5 + fraction_len dec) (datetime2 (fraction_len dec)) v
+        (R.remaining input.old) (R.remaining input.new)) }
+    ensures err { IfErr result
+        (λ e. IsCut e (5 + fraction_len dec) (R.remaining input.old) (R.remaining input.new)) }
 {
     let fraction_bytes = count_of_fraction(dec);
     let mut buf = [0u8; 8];
     let bytes = &mut buf[..5 + fraction_bytes];
-    fill(input, bytes)?;
+    read_exact(input, bytes)?;
     Ok(datetime_of(bytes, fraction_bytes))
 }
 
@@ -87,13 +88,15 @@ pub fn my_datetime_packed_from_binary<R: Read>(input: &mut R, dec: u32) -> Resul
 /// microseconds, in 4 bytes and one for each two decimals. A number of decimals past 6 is taken as
 /// 0. Refusals are as those of [`my_time_packed_from_binary`].
 pub fn my_timestamp_from_binary<R: Read>(input: &mut R, dec: u8) -> Result<(i32, i32), RowsError>
-    ensures ok { IfOk result (λ v. ReadsValue (4 + fraction_len dec) (timestamp2 (fraction_len dec)) v (R.remaining input.old) (R.remaining input.new)) }
-    ensures err { IfErr result (λ e. IsCut e (4 + fraction_len dec) (R.remaining input.old) (R.remaining input.new)) }
+    ensures ok { IfOk result (λ v. ReadsValue (4 + fraction_len dec) (timestamp2 (fraction_len dec)) v
+        (R.remaining input.old) (R.remaining input.new)) }
+    ensures err { IfErr result
+        (λ e. IsCut e (4 + fraction_len dec) (R.remaining input.old) (R.remaining input.new)) }
 {
     let fraction_bytes = count_of_fraction(u32::from(dec));
     let mut buf = [0u8; 7];
     let bytes = &mut buf[..4 + fraction_bytes];
-    fill(input, bytes)?;
+    read_exact(input, bytes)?;
     Ok(timestamp_of(bytes, fraction_bytes))
 }
 
@@ -176,28 +179,4 @@ fn big_endian(bytes: &[u8], n: usize) -> i64
     ensures bound { big_number n bytes.now < 256 ^ n }
 {
     BigEndian::read_uint(bytes, n) as i64
-}
-
-/// Fills the buffer with the next bytes.
-fn fill<R: Read>(reader: &mut R, buf: &mut [u8]) -> Result<(), RowsError>
-    ensures ok { OnOk result (Consumes (R.remaining reader.old) (R.remaining reader.new) buf.new) }
-    ensures err { IfErr result
-        (λ e. IsCut e (length buf.old) (R.remaining reader.old) (R.remaining reader.new)) }
-{
-    let mut filled = 0;
-    'turns: for _turn in 0..MAX_TURNS {
-        if filled == buf.len() {
-            return Ok(());
-        }
-        match reader.read(&mut buf[filled..]) {
-            Ok(0) => return Err(RowsError::EndOfBody),
-            Ok(n) => filled += n,
-            Err(error) => {
-                if error.kind() != ErrorKind::Interrupted {
-                    return Err(RowsError::Read);
-                }
-            }
-        }
-    }
-    Err(RowsError::Read)
 }

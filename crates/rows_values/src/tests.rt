@@ -186,6 +186,9 @@ fn columns_and_rows(rt: HostRuntime) -> Result<(), std::test::Fail> {
     assert_eq!(rt; column.name_str(alloc)?.as_str(), "n\u{fffd}");
     assert_eq!(rt; column.flags(), ColumnFlags::UNSIGNED_FLAG);
     assert_eq!(rt; column.character_set(), 45);
+    let same = column.clone(alloc)?;
+    assert!(rt; same == column);
+    assert_eq!(rt; same.org_table_ref(), b"o".as_slice());
     let mut columns = Vec::new(alloc);
     columns.push(column)?;
     let value = Value::Bytes(Vec::from_slice(alloc, b"x")?);
@@ -200,6 +203,11 @@ fn columns_and_rows(rt: HostRuntime) -> Result<(), std::test::Fail> {
     assert!(rt; row.as_ref(0) == Some(&copy));
     assert!(rt; row.as_ref(1).is_none());
     assert!(rt; row.as_ref(2).is_none());
+    let same = row.clone(alloc)?;
+    assert!(rt; same == row);
+    assert_eq!(rt; same.len(), 2);
+    assert!(rt; same.as_ref(0) == Some(&copy));
+    assert!(rt; same.columns_ref() == row.columns_ref());
     Ok(())
 }
 

@@ -2,7 +2,7 @@
 
 ghost use Rattle.std.specs.Prelude.{◌≡◌, Some, None, [], if◌then◌else◌};
 ghost use Rattle.std.specs.Fmt.{decimal, WritesStyledOnOk, spec_precision, formatter_spec};
-ghost use Rattle.rows_values.specs.TimeTexts.{two_digits, at_least_two, fraction_text, date_text, after_hour, date_and_time_text, zone_text, time_text, span_text, zone_hours};
+ghost use Rattle.rows_values.specs.TimeTexts.{padded, two_digits, fraction_text, date_text, after_hour, date_and_time_text, zone_text, time_text, span_text, zone_hours};
 
 use crate::time::{MysqlTime, MysqlTimestampType};
 use itoa::Buffer;
@@ -17,9 +17,13 @@ impl fmt::Display for MysqlTime {
     ghost styled_output = { λ t spec. Some (time_text (spec_precision spec) t) };
 
     /// The date as `YYYY-MM-DD`, date and time as `YYYY-MM-DD hh:mm:ss`, a span as `hh:mm:ss` with
-    /// its sign; with a precision also that many digits of the microseconds, six at most. A time
-    /// zone is put after it as `+hh:mm`. A part that is out of range is shown as 00, save the hours
-    /// of a span.
+    /// its sign; with a precision also that many digits of the microseconds, six at most. A part
+    /// that is out of range is shown as 00, save the hours of a span.
+    ///
+    /// Behind date and time a time zone is a plus, the hours of its displacement toward zero, a
+    /// colon and the minutes of its magnitude in two digits. The hours have two digits or more; of
+    /// a displacement below zero by an hour or more they have a minus, and at least one digit. So
+    /// five hours and a half west of UTC are `+-5:30`, and half an hour west `+00:30`.
     fn fmt<W: fmt::Write>(&self, f: &mut fmt::Formatter<W>) -> fmt::Result {
         match self.time_type {
             MysqlTimestampType::MYSQL_TIMESTAMP_NONE | MysqlTimestampType::MYSQL_TIMESTAMP_ERROR =>
@@ -57,13 +61,12 @@ fn put_two_digits<W: fmt::Write>(part: u32, f: &mut fmt::Formatter<W>) -> fmt::R
 fn put_if<W: fmt::Write>(shown: bool, text: &str, f: &mut fmt::Formatter<W>) -> fmt::Result
     ensures { WritesStyledOnOk W.write_str_gives f.old result (if shown then text.now else []) f.new }
 {
-    f.write_str(if shown { text } else { "" })
+    if shown { f.write_str(text) } else { Ok(()) }
 }
 
 /// A number of at least two digits.
-#[tactic(auto, unfolding(crate::specs::TimeTexts::at_least_two))]
 fn put_at_least_two<W: fmt::Write>(number: u32, f: &mut fmt::Formatter<W>) -> fmt::Result
-    ensures { WritesStyledOnOk W.write_str_gives f.old result (at_least_two number) f.new }
+    ensures { WritesStyledOnOk W.write_str_gives f.old result (padded 2 number) f.new }
 {
     put_if(number < 10, "0", f)?;
     put_number(number, f)
@@ -83,7 +86,8 @@ fn put_date<W: fmt::Write>(time: &MysqlTime, f: &mut fmt::Formatter<W>) -> fmt::
 
 #[tactic(auto, unfolding(crate::specs::TimeTexts::span_text))]
 fn put_span<W: fmt::Write>(time: &MysqlTime, f: &mut fmt::Formatter<W>) -> fmt::Result
-    ensures { WritesStyledOnOk W.write_str_gives f.old result (span_text (spec_precision (formatter_spec f.old)) time.now) f.new }
+    ensures { WritesStyledOnOk W.write_str_gives f.old result
+        (span_text (spec_precision (formatter_spec f.old)) time.now) f.new }
 {
     put_if(time.neg, "-", f)?;
     put_at_least_two(time.hour, f)?;
@@ -92,7 +96,8 @@ fn put_span<W: fmt::Write>(time: &MysqlTime, f: &mut fmt::Formatter<W>) -> fmt::
 
 #[tactic(auto, unfolding(crate::specs::TimeTexts::date_and_time_text))]
 fn put_date_and_time<W: fmt::Write>(time: &MysqlTime, f: &mut fmt::Formatter<W>) -> fmt::Result
-    ensures { WritesStyledOnOk W.write_str_gives f.old result (date_and_time_text (spec_precision (formatter_spec f.old)) time.now) f.new }
+    ensures { WritesStyledOnOk W.write_str_gives f.old result
+        (date_and_time_text (spec_precision (formatter_spec f.old)) time.now) f.new }
 {
     put_date(time, f)?;
     f.write_str(" ")?;
@@ -103,7 +108,8 @@ fn put_date_and_time<W: fmt::Write>(time: &MysqlTime, f: &mut fmt::Formatter<W>)
 /// Minutes, seconds and, with a precision, the first digits of the microseconds.
 #[tactic(auto, unfolding(crate::specs::TimeTexts::after_hour))]
 fn put_after_hour<W: fmt::Write>(time: &MysqlTime, f: &mut fmt::Formatter<W>) -> fmt::Result
-    ensures { WritesStyledOnOk W.write_str_gives f.old result (after_hour (spec_precision (formatter_spec f.old)) time.now) f.new }
+    ensures { WritesStyledOnOk W.write_str_gives f.old result
+        (after_hour (spec_precision (formatter_spec f.old)) time.now) f.new }
 {
     let precision = f.precision();
     f.write_str(":")?;

@@ -1,12 +1,12 @@
-use Rattle.std.proofs.Common.{◌++◌, List, ℕ, ap, sym, ◌∙◌, append_assoc}
-use Rattle.feed_text.proofs.QuoteLemmas.{plain_run, quote_done, kept_more}
+use Rattle.std.proofs.Common.{◌∙◌}
+use Rattle.feed_text.proofs.QuoteLemmas.{run_more, quote_done, kept_more}
 use Rattle.feed_text.proofs.quoting.append_quoted.Goals as goal
 
 pub loop-first-preserved : goal.loop-first-preserved
 loop-first-preserved g c = record {
   written =
-      rw (c.in_ok-extend_from_slice.ensures.items, c.split_at.ensures.front, c.split_at.ensures.back, c.plain_len.ensures, append_assoc)
-      (ap (λ (t : List ℕ). c.loop-first.out.items ++ t) (sym (plain_run c.loop-first.rest.now)) ∙ c.loop-first.invariant.written);
+      run_more _ _ _ _ c.loop-first.rest.now _ c.in_ok-extend_from_slice.ensures.items c.split_at.ensures.front c.split_at.ensures.back c.plain_len.ensures
+      ∙ c.loop-first.invariant.written;
   kept = kept_more _ _ _ _ c.loop-first.invariant.kept c.in_ok-extend_from_slice.ensures.items;
 }
 

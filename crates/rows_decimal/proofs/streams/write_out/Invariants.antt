@@ -1,6 +1,0 @@
-use Rattle.wire_ints.proofs.StreamLemmas.{HasWritten}
-use Rattle.rows_decimal.proofs.streams.write_out.Given as goal
-
--- what is gone from the rest was written
-abbrev pub invariant-turns : goal.invariant-turns
-invariant-turns g l = HasWritten (g.W.Write.contents l.initial.writer) (g.W.Write.contents l.writer) l.initial.rest l.rest

@@ -1,0 +1,36 @@
+//! Laws of the values, and worked values. Each is a function that does nothing, whose contract is the law.
+
+ghost use Rattle.std.specs.Prelude.{◌≡◌, ◌↔◌, ◌∷◌, [], pos, neg_ℤ, Some, None, true, false, map, codes};
+ghost use Rattle.rows_values.specs.BitLists.{lowest_bit, highest_bit};
+ghost use Rattle.rows_values.specs.PackedTimes.{fraction_len, time2, datetime2};
+ghost use Rattle.rows_values.specs.TimeFields.{span_fields};
+ghost use Rattle.rows_values.specs.TimeTexts.{time_text};
+ghost use Rattle.rows_values.specs.Values.{SameValue, span_value, date_value};
+ghost use Rattle.rows_values.specs.contracts.value.ValuePartialEq.TheImpl.{ghosts as value_equality};
+ghost use Rattle.rows_values.specs.declared.value.Value.TheVariants.{Date, Time};
+
+use crate::value::Value;
+
+/// Values are equal by `==` exactly where they are the same.
+pub fn equal_values_are_the_same()
+    ensures { (a b : Value) → (value_equality.eq a b ≡ true) ↔ SameValue a b }
+{}
+
+/// The time cell `7f ff fe f6` of two decimals: 1.1 seconds before zero.
+pub fn worked_time()
+    ensures packed { time2 (fraction_len 2) (127 ∷ 255 ∷ 254 ∷ 246 ∷ []) ≡ neg_ℤ (pos 16877216) }
+    ensures value { span_value (neg_ℤ (pos 16877216)) ≡ Time true 0 0 0 1 100000 }
+    ensures text_of_six_digits { time_text (Some 6) (span_fields (neg_ℤ (pos 16877216))) ≡ codes "-00:00:01.100000" }
+    ensures text { time_text None (span_fields (neg_ℤ (pos 16877216))) ≡ codes "-00:00:01" }
+{}
+
+/// The date and time cell `99 83 b0 90 f9` without decimals.
+pub fn worked_date_and_time()
+    ensures { date_value (datetime2 (fraction_len 0) (153 ∷ 131 ∷ 176 ∷ 144 ∷ 249 ∷ [])) ≡ Date 2009 9 24 9 3 57 0 }
+{}
+
+/// The same three bits in a byte, from the lowest on in `05` and from the highest on in `a0`.
+pub fn worked_bits()
+    ensures lowest { map (lowest_bit (5 ∷ [])) (0 ∷ 1 ∷ 2 ∷ []) ≡ true ∷ false ∷ true ∷ [] }
+    ensures highest { map (highest_bit (160 ∷ [])) (0 ∷ 1 ∷ 2 ∷ []) ≡ true ∷ false ∷ true ∷ [] }
+{}
