@@ -14,6 +14,8 @@ ghost use Rattle.binlog_feed.specs.Requests.{dump_request};
 ghost use Rattle.binlog_feed.specs.WorkedStreams.{open_answer, whole_answer, closing_packet, misnumbered_answer, misnumbered_front, empty_payload, long_closing_payload, short_event_payload, error_packet, program_limit, worked_request};
 ghost use Rattle.binlog_feed.specs.declared.verdict.Verdict.TheVariants.{Closed, TooLarge, OutOfNumber, NotAnEvent, ServerError, End, Mark, NoTableMap, Outside, Row, Inside, Unshown};
 
+pub use feed_text::laws::equal_quotes_are_of_equal_bytes;
+
 /// A body is read exactly where it is its fields joined, with nothing left, and as what they spell.
 pub fn bodies_are_their_fields()
     ensures table_map { (m : TableMap) (body : List ℕ) → (table_map body ≡ Some m) ↔ IsTableMap m body }
