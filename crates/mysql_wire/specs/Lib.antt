@@ -26,6 +26,7 @@ pub use Rattle.wire_consts.specs.ColumnTypes
 pub use Rattle.wire_consts.specs.Constants
 pub use Rattle.wire_consts.specs.Flags
 pub use Rattle.wire_ints.specs.Raw
+pub use Rattle.wire_ints.specs.Bits
 pub use Rattle.wire_forms.specs.Texts
 pub use Rattle.wire_forms.specs.Eithers
 pub use Rattle.wire_forms.specs.Consts

@@ -10,3 +10,8 @@ pub mod DisplayLemmas
 pub mod GroupFrontLemmas
 pub mod FlipLemmas
 pub mod TextLemmas
+pub mod UnpackedLemmas
+pub mod PlaceLemmas
+pub mod TurnLemmas
+pub mod WriteLemmas
+pub mod PackedFrontLemmas

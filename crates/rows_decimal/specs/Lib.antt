@@ -3,3 +3,5 @@ pub mod Decimals
 pub mod Texts
 pub mod Steps
 pub mod GroupsLeft
+pub mod Unpacked
+pub mod TextSteps

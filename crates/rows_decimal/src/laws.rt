@@ -1,12 +1,14 @@
 //! Laws of decimals, each the contract of a function that does nothing, or of a round through the
 //! packed form; and worked values.
 
-ghost use Rattle.std.specs.Prelude.{◌≡◌, ◌<◌, ◌+◌, ◌⊎◌, ℕ, List, [], ◌∷◌, Bool, true, false, Some, None, IfOk, IfErr, codes};
+ghost use Rattle.std.specs.Prelude.{◌≡◌, ◌≤◌, ◌<◌, ◌+◌, ◌-◌, ◌⊎◌, ℕ, List, [], ◌∷◌, Bool, true, false, Some, None, IfOk, IfErr, codes};
 ghost use Rattle.std.specs.Ordering.{nat_cmp};
 ghost use Rattle.std.specs.Cmp.Lexicographic.{slice_cmp};
 ghost use Rattle.rows_values.specs.declared.fault.RowsError.TheVariants.{Memory, Read};
 ghost use Rattle.rows_decimal.specs.Digits.{AreDigits};
 ghost use Rattle.rows_decimal.specs.Decimals.{Value, value_of, packed, kept, digits_number, number_cmp, IsPacked, NonePacked, Unpacks, without_zero_groups, DropsZeroGroups};
+ghost use Rattle.wire_buf.specs.Spelling.{AreBytes};
+ghost use Rattle.rows_decimal.specs.Unpacked.{unpacked, kept_of, packed_text};
 ghost use Rattle.rows_decimal.specs.Texts.{text_value, decimal_text, shown_value};
 
 use crate::fields::Decimal;
@@ -25,6 +27,39 @@ pub fn numbers_in_order()
 pub fn packed_forms_are_uniquely_read()
     ensures value { (before after : ℕ) (v w : Value) (bytes : List ℕ) → 0 < before + after → IsPacked before after v bytes → IsPacked before after w bytes → v ≡ w }
     ensures made { (keep : Bool) (before after : ℕ) (d e : Value) (bytes : List ℕ) → Unpacks keep before after d bytes → Unpacks keep before after e bytes → d ≡ e }
+{}
+
+/// What is computed of bytes is the value whose packed form they are. Without any digits a value may
+/// have either sign; what is made of it is zero all the same.
+pub fn packed_forms_are_unpacked()
+    ensures is { (precision scale : ℕ) (v : Value) (bytes : List ℕ) → AreBytes bytes → unpacked precision scale bytes ≡ Some v
+        → (scale ≤ precision) × IsPacked (precision - scale) scale v bytes }
+    ensures here { (precision scale : ℕ) (v : Value) (bytes : List ℕ) → 0 < precision → scale ≤ precision → IsPacked (precision - scale) scale v bytes
+        → unpacked precision scale bytes ≡ Some v }
+    ensures made { (keep : Bool) (precision scale : ℕ) (d : Value) (bytes : List ℕ) → AreBytes bytes → kept_of keep (unpacked precision scale bytes) ≡ Some d
+        → (scale ≤ precision) × Unpacks keep (precision - scale) scale d bytes }
+    ensures made_here { (keep : Bool) (precision scale : ℕ) (d : Value) (bytes : List ℕ) → scale ≤ precision → Unpacks keep (precision - scale) scale d bytes
+        → kept_of keep (unpacked precision scale bytes) ≡ Some d }
+{}
+
+/// The definition of what bytes pack, computed: 1234567890.1234 and its negative, their texts, negative
+/// zeros and theirs, and bytes that pack none: of too large a number, too few and too many, and with
+/// more digits after the point than in all.
+pub fn worked_unpacking()
+    ensures positive { unpacked 14 4 (129 ∷ 13 ∷ 251 ∷ 56 ∷ 210 ∷ 4 ∷ 210 ∷ [])
+        ≡ Some (record { negative = false; before = 1 ∷ 2 ∷ 3 ∷ 4 ∷ 5 ∷ 6 ∷ 7 ∷ 8 ∷ 9 ∷ 0 ∷ []; after = 1 ∷ 2 ∷ 3 ∷ 4 ∷ [] }) }
+    ensures negative { unpacked 14 4 (126 ∷ 242 ∷ 4 ∷ 199 ∷ 45 ∷ 251 ∷ 45 ∷ [])
+        ≡ Some (record { negative = true; before = 1 ∷ 2 ∷ 3 ∷ 4 ∷ 5 ∷ 6 ∷ 7 ∷ 8 ∷ 9 ∷ 0 ∷ []; after = 1 ∷ 2 ∷ 3 ∷ 4 ∷ [] }) }
+    ensures positive_text { packed_text 14 4 (129 ∷ 13 ∷ 251 ∷ 56 ∷ 210 ∷ 4 ∷ 210 ∷ []) ≡ Some (codes "1234567890.1234") }
+    ensures negative_text { packed_text 14 4 (126 ∷ 242 ∷ 4 ∷ 199 ∷ 45 ∷ 251 ∷ 45 ∷ []) ≡ Some (codes "-1234567890.1234") }
+    ensures half_text { packed_text 3 2 (128 ∷ 50 ∷ []) ≡ Some (codes "0.50") }
+    ensures negative_zero_text { packed_text 4 2 (127 ∷ 255 ∷ []) ≡ Some (codes "-0.00") }
+    ensures whole_zero_text { packed_text 5 0 (127 ∷ 255 ∷ 255 ∷ []) ≡ Some (codes "0") }
+    ensures no_digits_text { packed_text 0 0 [] ≡ Some (codes "0") }
+    ensures hundred_refused { unpacked 2 0 (228 ∷ []) ≡ None }
+    ensures short_refused { unpacked 4 0 (128 ∷ []) ≡ None }
+    ensures long_refused { unpacked 2 0 (128 ∷ 0 ∷ []) ≡ None }
+    ensures scale_refused { unpacked 2 3 (128 ∷ 0 ∷ []) ≡ None }
 {}
 
 /// What is dropped in front is zeros alone, up to the first group that isn't.

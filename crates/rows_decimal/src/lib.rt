@@ -14,10 +14,13 @@ pub mod laws;
 mod order;
 mod packing;
 mod parse;
+mod places;
 #[cfg(test)]
 mod tests;
+mod text;
 mod unpacking;
 
 pub use digits::{DIG_BASE, DIG_PER_DEC, DIG_TO_BYTES, Digit, POWERS_10, decimal_bin_size};
 pub use fields::Decimal;
 pub use parse::ParseDecimalError;
+pub use text::put_decimal_text;

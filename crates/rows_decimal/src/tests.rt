@@ -1,11 +1,14 @@
 //! Worked decimals.
 
+ghost use Rattle.std.specs.Prelude.{◌≤◌};
+
 use crate::laws::{
     numbers_in_order, only_zero_groups_are_dropped, packed_forms_are_uniquely_read, read_back,
     texts_are_taken_back, worked_decimals,
 };
 use crate::{
     DIG_BASE, DIG_PER_DEC, DIG_TO_BYTES, Decimal, POWERS_10, ParseDecimalError, decimal_bin_size,
+    put_decimal_text,
 };
 use rows_values::RowsError;
 use std::alloc::Global;
@@ -166,6 +169,9 @@ fn reads(
     let decimal = Decimal::read_bin(alloc, &mut input, precision, scale, false)?;
     let mut again = bytes;
     let whole = Decimal::read_bin(alloc, &mut again, precision, scale, true)?;
+    if Decimal::from_bin(alloc, bytes, precision, scale, true)? != whole {
+        return Ok(false);
+    }
     let mut out: Vec<u8> = Vec::new(alloc);
     whole.write_bin(alloc, &mut out)?;
     Ok(input.is_empty() && decimal.to_string(alloc)?.as_str() == shown && out.as_slice() == bytes)
@@ -205,6 +211,10 @@ fn zeros(rt: HostRuntime) -> Result<(), Fail> {
     assert!(rt; none.to_string(alloc)?.as_str() == "0");
     let packed = Decimal::read_packed(alloc, &mut b"\x02\x01\x80\x05".as_slice(), false)?;
     assert!(rt; packed.to_string(alloc)?.as_str() == "0.5");
+    let front = Decimal::from_packed(alloc, b"\x02\x01\x80\x05\xff", false)?;
+    assert!(rt; front.to_string(alloc)?.as_str() == "0.5");
+    let early = Decimal::from_packed(alloc, b"\x02\x01\x80", false);
+    assert!(rt; early.err() == Some(RowsError::EndOfBody));
     Ok(())
 }
 
@@ -271,10 +281,51 @@ fn decimal_refusals(rt: HostRuntime) {
     let mut any = b"\x80\x00".as_slice();
     assert!(rt; Decimal::read_bin(alloc, &mut any, 2, 3, false).err() == Some(RowsError::Decimal));
     assert!(rt; any == b"\x80\x00".as_slice());
+    let whole = Decimal::from_bin(alloc, b"\xe4", 2, 0, false);
+    assert!(rt; whole.err() == Some(RowsError::Decimal));
+    let part = Decimal::from_bin(alloc, b"\x80", 4, 0, false);
+    assert!(rt; part.err() == Some(RowsError::Decimal));
     let mut short = b"\x80".as_slice();
     assert!(rt;
         Decimal::read_bin(alloc, &mut short, 4, 0, false).err() == Some(RowsError::EndOfBody)
     );
     let read = Decimal::read_bin(alloc, &mut Failing, 4, 0, false);
     assert!(rt; read.err() == Some(RowsError::Read));
+}
+
+/// The text that is written of packed bytes, or nothing; always behind what stands there.
+fn text_of(
+    alloc: Global,
+    precision: usize,
+    scale: usize,
+    bytes: &[u8],
+) -> Result<Option<Vec<u8>>, Fail>
+    requires { precision ≤ 65 }
+{
+    let mut text = [b'x'; 80];
+    let end = put_decimal_text(&mut text, 2, precision, scale, bytes);
+    match end {
+        Some(end) => Ok(Some(Vec::from_slice(alloc, &text[2..end])?)),
+        None => Ok(None),
+    }
+}
+
+#[test]
+fn texts_of_packed_bytes(rt: HostRuntime) -> Result<(), Fail> {
+    let alloc = rt.alloc();
+    let plus = text_of(alloc, 14, 4, b"\x81\x0d\xfb\x38\xd2\x04\xd2")?;
+    assert!(rt; plus.unwrap_or(Vec::new(alloc)).as_slice() == b"1234567890.1234".as_slice());
+    let minus = text_of(alloc, 14, 4, b"\x7e\xf2\x04\xc7\x2d\xfb\x2d")?;
+    assert!(rt; minus.unwrap_or(Vec::new(alloc)).as_slice() == b"-1234567890.1234".as_slice());
+    let half = text_of(alloc, 3, 2, b"\x80\x32")?;
+    assert!(rt; half.unwrap_or(Vec::new(alloc)).as_slice() == b"0.50".as_slice());
+    let zero = text_of(alloc, 4, 2, b"\x7f\xff")?;
+    assert!(rt; zero.unwrap_or(Vec::new(alloc)).as_slice() == b"-0.00".as_slice());
+    let none = text_of(alloc, 5, 0, b"\x7f\xff\xff")?;
+    assert!(rt; none.unwrap_or(Vec::new(alloc)).as_slice() == b"0".as_slice());
+    let digits = text_of(alloc, 0, 0, b"")?;
+    assert!(rt; digits.unwrap_or(Vec::new(alloc)).as_slice() == b"0".as_slice());
+    assert!(rt; text_of(alloc, 2, 0, b"\xe4")?.is_none());
+    assert!(rt; text_of(alloc, 2, 3, b"\x80\x00")?.is_none());
+    Ok(())
 }

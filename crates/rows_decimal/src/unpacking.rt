@@ -1,12 +1,13 @@
 //! The packed form of a decimal, read.
 
-ghost use Rattle.std.specs.Prelude.{◌≡◌, ◌≤◌, ◌<◌, ◌-◌, ◌*◌, ◌^◌, ◌++◌, ◌/◌, ◌⊎◌, OnOk, IfOk, IfErr, true, false, length, if◌then◌else◌};
+ghost use Rattle.std.specs.Prelude.{◌≡◌, ◌≤◌, ◌<◌, ◌-◌, ◌*◌, ◌^◌, ◌++◌, ◌/◌, ◌⊎◌, Some, None, OnOk, IfOk, IfErr, true, false, length, if◌then◌else◌};
 ghost use Rattle.rows_values.specs.declared.fault.RowsError.TheVariants.{Decimal as BadDecimal, Memory};
 ghost use Rattle.rows_decimal.specs.Digits.{AreDigits, group_size as group_size_of, side_size as side_size_of, group_bytes, nines_bytes, before_bytes, after_bytes, top_flipped, signed};
 ghost use Rattle.rows_decimal.specs.Steps.{Gains, NoDigits, digits_in, has_minus_bit as has_minus_bit_in};
 ghost use Rattle.byteorder.specs.Endian.{big_number};
 ghost use Rattle.wire_buf.specs.Spelling.{AreBytes};
 ghost use Rattle.rows_decimal.specs.Decimals.{value_of, packed_size, some_digit, without_zero_groups, Unpacks, NonePacked, ReadsDecimal, FailsDecimal, ReadsPacked, FailsPacked};
+ghost use Rattle.rows_decimal.specs.Unpacked.{unpacked, kept_of, packed_value, packed_fault};
 
 use crate::digits::{DIG_PER_DEC, GROUP_BYTES, decimal_bin_size, group_size, leading, side_size};
 use crate::fields::Decimal;
@@ -44,6 +45,60 @@ impl Decimal {
         let mut bytes = Vec::new(alloc);
         read_more(input, decimal_bin_size(precision, scale) as u64, &mut bytes)?;
         unpack(alloc, &mut bytes, precision - scale, scale, keep_precision)
+    }
+
+    /// The decimal that the bytes pack, all of them: those of `precision` digits, `scale` of them after
+    /// the point. Leading zero groups are dropped as by `read_bin`.
+    ///
+    /// `Decimal` where they pack none: where `scale` is past `precision`, where they are not as many as
+    /// the digits take, or where a group of k digits is 10^k or more. Want of memory is `Memory`, and
+    /// there is no other refusal.
+    pub fn from_bin(
+        alloc: Global,
+        bytes: &[u8],
+        precision: usize,
+        scale: usize,
+        keep_precision: bool,
+    ) -> Result<Decimal, RowsError>
+        ensures ok { IfOk result (λ d. kept_of keep_precision (unpacked precision scale bytes.now) ≡ Some (value_of d)) }
+        ensures err { IfErr result (λ e. e ≡ Memory ⊎ ((e ≡ BadDecimal) × (unpacked precision scale bytes.now ≡ None))) }
+    {
+        if precision < scale {
+            return Err(RowsError::Decimal);
+        }
+        if bytes.len() != decimal_bin_size(precision, scale) {
+            return Err(RowsError::Decimal);
+        }
+        let mut copy = Vec::from_slice(alloc, bytes)?;
+        unpack(alloc, &mut copy, precision - scale, scale, keep_precision)
+    }
+
+    /// The decimal at the front of bytes that have its precision and its scale in one byte each and
+    /// then its packed form, as JSON documents have it, whatever follows.
+    ///
+    /// `EndOfBody` where the bytes end too early, and `Decimal` where the scale is past the precision or
+    /// a group of k digits is 10^k or more. Want of memory is `Memory`, and there is no other refusal.
+    pub fn from_packed(
+        alloc: Global,
+        bytes: &[u8],
+        keep_precision: bool,
+    ) -> Result<Decimal, RowsError>
+        ensures ok { IfOk result (λ d. kept_of keep_precision (packed_value bytes.now) ≡ Some (value_of d)) }
+        ensures err { IfErr result (λ e. e ≡ Memory ⊎ ((e ≡ packed_fault bytes.now) × (packed_value bytes.now ≡ None))) }
+    {
+        if bytes.len() < 2 {
+            return Err(RowsError::EndOfBody);
+        }
+        let (precision, scale) = (usize::from(bytes[0]), usize::from(bytes[1]));
+        if precision < scale {
+            return Err(RowsError::Decimal);
+        }
+        let size = decimal_bin_size(precision, scale);
+        let rest = &bytes[2..];
+        if rest.len() < size {
+            return Err(RowsError::EndOfBody);
+        }
+        Decimal::from_bin(alloc, &rest[..size], precision, scale, keep_precision)
     }
 
     /// Reads the packed form behind its precision and its scale in one byte each, as JSON documents
@@ -109,7 +164,7 @@ fn flip_back(bytes: &mut [u8]) -> bool
 }
 
 /// Whether packed bytes are those of a negative number.
-fn has_minus_bit(bytes: &[u8]) -> bool
+pub(crate) fn has_minus_bit(bytes: &[u8]) -> bool
     ensures sign { result ≡ has_minus_bit_in bytes.now }
     ensures bytes { AreBytes bytes.now }
 {

@@ -3,3 +3,4 @@ pub mod SevenLemmas
 pub mod OnesLemmas
 pub mod StreamLemmas
 pub mod LenencStreamLemmas
+pub mod FixedLemmas

@@ -26,6 +26,14 @@ signed_little_spelling n z = if fits_signed n z then Some (little_bytes n (resid
 abbrev pub signed_big_spelling : ℕ → ℤ → Option (List ℕ)
 signed_big_spelling n z = if fits_signed n z then Some (big_bytes n (residue n z)) else None
 
+-- the bits of v in n bytes, where it fits
+abbrev pub unsigned_bits : ℕ → ℕ → Option ℕ
+unsigned_bits n v = if nat_lt v (256 ^ n) then Some v else None
+
+-- the bits of the signed z in n bytes, where it fits
+abbrev pub signed_bits : ℕ → ℤ → Option ℕ
+signed_bits n z = if fits_signed n z then Some (residue n z) else None
+
 -- the lower and the upper half of a number of 32 bits, the other half zero
 abbrev pub lower_half : ℕ → ℕ
 lower_half v = v % 65536

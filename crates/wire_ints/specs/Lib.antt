@@ -5,3 +5,4 @@ pub mod Sevens
 pub mod TrailingOnes
 pub mod Streams
 pub mod Raw
+pub mod Bits

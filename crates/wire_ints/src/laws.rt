@@ -1,12 +1,15 @@
 //! Laws over all representations.
 
-ghost use Rattle.std.specs.Prelude.{◌≡◌, ◌⊎◌, ◌∷◌, [], IfOk, IfErr, None};
+ghost use Rattle.std.specs.Prelude.{◌≡◌, ◌⊎◌, ◌∷◌, [], ◌↔◌, ℕ, ℤ, List, IfOk, IfErr, None};
 ghost use Rattle.wire_buf.specs.Numbers.{IsLenenc, lenenc_spelling};
 ghost use Rattle.wire_buf.specs.declared.fault.WireFault.TheVariants.{Memory, Form, Eof, BadNumber};
 ghost use Rattle.wire_ints.specs.Faults.{lenenc_fault, varlen_fault};
 ghost use Rattle.wire_ints.specs.Sevens.{IsVarLen, varlen_spelling};
 ghost use Rattle.wire_ints.specs.TrailingOnes.{varlen_uint_spelling};
+ghost use Rattle.wire_buf.specs.Numbers.{IsSignedLittle, IsBig};
+ghost use Rattle.wire_ints.specs.Ints.{little_spelling, big_spelling, signed_big_spelling};
 
+use crate::fixed::{BeI24, BeU24, LeI24, LeU24};
 use crate::int_repr::{IntRepr, RawInt};
 use std::alloc::Global;
 use wire_buf::{ParseBuf, WireFault};
@@ -36,4 +39,13 @@ pub fn worked_numbers()
     ensures past_the_greatest { varlen_fault (128 ∷ 128 ∷ 128 ∷ 128 ∷ 16 ∷ []) ≡ BadNumber }
     ensures one_byte { varlen_uint_spelling 1 ≡ 2 ∷ [] }
     ensures two_bytes { varlen_uint_spelling 300 ≡ 177 ∷ 4 ∷ [] }
+{}
+
+/// What the names of fixed width mean, at three bytes.
+pub fn worked_widths()
+    ensures lowest_first { (v : ℕ) → ⟦<LeU24 as IntRepr>⟧.spelling v ≡ little_spelling 3 v }
+    ensures highest_first { (v : ℕ) → ⟦<BeU24 as IntRepr>⟧.spelling v ≡ big_spelling 3 v }
+    ensures signed { (z : ℤ) → ⟦<BeI24 as IntRepr>⟧.spelling z ≡ signed_big_spelling 3 z }
+    ensures read { (v : ℕ) (bytes : List ℕ) → ⟦<BeU24 as IntRepr>⟧.spells v bytes ↔ IsBig 3 v bytes }
+    ensures read_signed { (z : ℤ) (bytes : List ℕ) → ⟦<LeI24 as IntRepr>⟧.spells z bytes ↔ IsSignedLittle 3 z bytes }
 {}

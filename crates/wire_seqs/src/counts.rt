@@ -3,11 +3,13 @@
 ghost use Rattle.std.specs.Prelude.{◌≡◌, ◌^◌, ◌-◌, []};
 ghost use Rattle.byteorder.specs.Endian.{little_bytes};
 ghost use Rattle.wire_buf.specs.Numbers.{IsLittle};
+ghost use Rattle.wire_seqs.specs.Counts.{IsCount, greatest};
 
 use crate::seq_repr::SeqRepr;
+use byteorder::ByteOrder;
 use std::alloc::Allocator;
 use wire_buf::{ParseBuf, WireFault};
-use wire_ints::{LeU16, LeU24, LeU32, LeU40, LeU48, LeU56, LeU64};
+use wire_ints::{Fixed, InBytes, Unsigned};
 
 /// No count stands before the elements: the context is their number.
 pub struct Unknown;
@@ -59,177 +61,46 @@ impl SeqRepr for u8 {
     }
 }
 
-/// A count in two bytes.
-impl SeqRepr for LeU16 {
-    const MAX_LEN: usize = 65_535;
-
-    ghost MAX_LEN = { 256 ^ 2 - 1 };
-
-    type Ctx = ();
-
-    ghost counts = { λ ctx. IsLittle 2 };
-
-    ghost count_spelling = { little_bytes 2 };
-
-    fn read_count(_ctx: (), buf: &mut ParseBuf<'_>) -> Result<usize, WireFault> {
-        let Some(count) = buf.checked_eat_u16_le() else {
-            return Err(WireFault::Eof);
-        };
-        Ok(usize::from(count))
-    }
-
-    fn write_count<A: Allocator>(count: usize, buf: &mut Vec<u8, A>) -> Result<(), WireFault> {
-        buf.extend_from_slice(&count.to_le_bytes()[..2])?;
-        Ok(())
+/// The greatest count in so many bytes, or the greatest length.
+const fn greatest_count(size: usize) -> usize
+    ensures { result ≡ greatest size }
+{
+    if size < 8 {
+        (1usize << (8 * size)) - 1
+    } else {
+        usize::MAX
     }
 }
 
-/// A count in three bytes.
-impl SeqRepr for LeU24 {
-    const MAX_LEN: usize = 16_777_215;
+/// A count in `N` bytes of the order `O`. Where it has more than eight, a number past 64 bits is no
+/// count.
+impl<P: Unsigned + InBytes<N>, O: ByteOrder, const N: usize> SeqRepr for Fixed<P, O, N> {
+    const MAX_LEN: usize = greatest_count(N);
 
-    ghost MAX_LEN = { 256 ^ 3 - 1 };
+    ghost MAX_LEN = { greatest N };
 
     type Ctx = ();
 
-    ghost counts = { λ ctx. IsLittle 3 };
+    ghost counts = { λ ctx. IsCount (O.number_of N) N };
 
-    ghost count_spelling = { little_bytes 3 };
+    ghost count_spelling = { O.bytes_of N };
 
     fn read_count(_ctx: (), buf: &mut ParseBuf<'_>) -> Result<usize, WireFault> {
-        let Some(count) = buf.checked_eat_u24_le() else {
+        if buf.len() < N {
             return Err(WireFault::Eof);
-        };
+        }
+        let count = O::read_uint128(buf.0, N);
+        if count >= 1u128 << 64 {
+            return Err(WireFault::Eof);
+        }
+        buf.skip(N);
         Ok(count as usize)
     }
 
     fn write_count<A: Allocator>(count: usize, buf: &mut Vec<u8, A>) -> Result<(), WireFault> {
-        buf.extend_from_slice(&count.to_le_bytes()[..3])?;
-        Ok(())
-    }
-}
-
-/// A count in four bytes.
-impl SeqRepr for LeU32 {
-    const MAX_LEN: usize = 4_294_967_295;
-
-    ghost MAX_LEN = { 256 ^ 4 - 1 };
-
-    type Ctx = ();
-
-    ghost counts = { λ ctx. IsLittle 4 };
-
-    ghost count_spelling = { little_bytes 4 };
-
-    fn read_count(_ctx: (), buf: &mut ParseBuf<'_>) -> Result<usize, WireFault> {
-        let Some(count) = buf.checked_eat_u32_le() else {
-            return Err(WireFault::Eof);
-        };
-        Ok(count as usize)
-    }
-
-    fn write_count<A: Allocator>(count: usize, buf: &mut Vec<u8, A>) -> Result<(), WireFault> {
-        buf.extend_from_slice(&count.to_le_bytes()[..4])?;
-        Ok(())
-    }
-}
-
-/// A count in five bytes.
-impl SeqRepr for LeU40 {
-    const MAX_LEN: usize = 1_099_511_627_775;
-
-    ghost MAX_LEN = { 256 ^ 5 - 1 };
-
-    type Ctx = ();
-
-    ghost counts = { λ ctx. IsLittle 5 };
-
-    ghost count_spelling = { little_bytes 5 };
-
-    fn read_count(_ctx: (), buf: &mut ParseBuf<'_>) -> Result<usize, WireFault> {
-        let Some(count) = buf.checked_eat_u40_le() else {
-            return Err(WireFault::Eof);
-        };
-        Ok(count as usize)
-    }
-
-    fn write_count<A: Allocator>(count: usize, buf: &mut Vec<u8, A>) -> Result<(), WireFault> {
-        buf.extend_from_slice(&count.to_le_bytes()[..5])?;
-        Ok(())
-    }
-}
-
-/// A count in six bytes.
-impl SeqRepr for LeU48 {
-    const MAX_LEN: usize = 281_474_976_710_655;
-
-    ghost MAX_LEN = { 256 ^ 6 - 1 };
-
-    type Ctx = ();
-
-    ghost counts = { λ ctx. IsLittle 6 };
-
-    ghost count_spelling = { little_bytes 6 };
-
-    fn read_count(_ctx: (), buf: &mut ParseBuf<'_>) -> Result<usize, WireFault> {
-        let Some(count) = buf.checked_eat_u48_le() else {
-            return Err(WireFault::Eof);
-        };
-        Ok(count as usize)
-    }
-
-    fn write_count<A: Allocator>(count: usize, buf: &mut Vec<u8, A>) -> Result<(), WireFault> {
-        buf.extend_from_slice(&count.to_le_bytes()[..6])?;
-        Ok(())
-    }
-}
-
-/// A count in seven bytes.
-impl SeqRepr for LeU56 {
-    const MAX_LEN: usize = 72_057_594_037_927_935;
-
-    ghost MAX_LEN = { 256 ^ 7 - 1 };
-
-    type Ctx = ();
-
-    ghost counts = { λ ctx. IsLittle 7 };
-
-    ghost count_spelling = { little_bytes 7 };
-
-    fn read_count(_ctx: (), buf: &mut ParseBuf<'_>) -> Result<usize, WireFault> {
-        let Some(count) = buf.checked_eat_u56_le() else {
-            return Err(WireFault::Eof);
-        };
-        Ok(count as usize)
-    }
-
-    fn write_count<A: Allocator>(count: usize, buf: &mut Vec<u8, A>) -> Result<(), WireFault> {
-        buf.extend_from_slice(&count.to_le_bytes()[..7])?;
-        Ok(())
-    }
-}
-
-/// A count in eight bytes.
-impl SeqRepr for LeU64 {
-    const MAX_LEN: usize = usize::MAX;
-
-    ghost MAX_LEN = { 256 ^ 8 - 1 };
-
-    type Ctx = ();
-
-    ghost counts = { λ ctx. IsLittle 8 };
-
-    ghost count_spelling = { little_bytes 8 };
-
-    fn read_count(_ctx: (), buf: &mut ParseBuf<'_>) -> Result<usize, WireFault> {
-        let Some(count) = buf.checked_eat_u64_le() else {
-            return Err(WireFault::Eof);
-        };
-        Ok(count as usize)
-    }
-
-    fn write_count<A: Allocator>(count: usize, buf: &mut Vec<u8, A>) -> Result<(), WireFault> {
-        buf.extend_from_slice(&count.to_le_bytes())?;
+        let mut bytes = [0u8; N];
+        O::write_uint128(&mut bytes, count as u128, N);
+        buf.extend_from_slice(&bytes)?;
         Ok(())
     }
 }

@@ -2,7 +2,6 @@
 //! behind a count or with a count that is known beforehand.
 #![tactic(auto)]
 
-mod big_counts;
 mod counts;
 mod items;
 mod raw_seq;

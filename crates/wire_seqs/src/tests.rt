@@ -4,11 +4,13 @@ use crate::{RawSeq, Seq, SeqRepr, Unknown};
 use std::alloc::Global;
 use std::borrow::CowSlice;
 use std::test::Fail;
-use wire_big::{BeU16, BeU24, BeU32, BeU40, BeU48, BeU56, BeU64};
 use wire_buf::{MyDeserialize, MySerialize, ParseBuf, WireFault, WireSize};
 use wire_consts::ColumnType;
 use wire_forms::{RawBytes, U8Bytes};
-use wire_ints::{LeU16, LeU24, LeU32, LeU40, LeU48, LeU56, LeU64, RawInt};
+use wire_ints::{
+    BeU16, BeU24, BeU32, BeU40, BeU48, BeU56, BeU64, BeU128, LeU16, LeU24, LeU32, LeU40, LeU48,
+    LeU56, LeU64, LeU128, RawInt,
+};
 
 type Numbers<'a, U> = Seq<'a, RawInt<LeU16>, U>;
 
@@ -211,5 +213,23 @@ fn counts_with_their_highest_byte_first(rt: HostRuntime) -> Result<(), Fail> {
     let bytes = two_numbers::<BeU64>(alloc)?;
     assert_eq!(rt; bytes.len(), 12);
     assert_eq!(rt; count_in::<BeU64>(alloc, &bytes)?, 2);
+    Ok(())
+}
+
+#[test]
+fn counts_of_sixteen_bytes(rt: HostRuntime) -> Result<(), Fail> {
+    let alloc = rt.alloc();
+    let bytes = two_numbers::<LeU128>(alloc)?;
+    assert_eq!(rt; bytes.len(), 20);
+    assert_eq!(rt; count_in::<LeU128>(alloc, &bytes)?, 2);
+    let bytes = two_numbers::<BeU128>(alloc)?;
+    assert_eq!(rt; count_in::<BeU128>(alloc, &bytes)?, 2);
+    assert_eq!(rt;
+        count_in::<LeU128>(
+            alloc,
+            b"\x00\x00\x00\x00\x00\x00\x00\x00\x01\x00\x00\x00\x00\x00\x00\x00"
+        ),
+        Err(WireFault::Eof)
+    );
     Ok(())
 }

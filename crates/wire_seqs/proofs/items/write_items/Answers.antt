@@ -1,6 +1,6 @@
 use Rattle.std.proofs.Common.{add-one, rules}
 use Rattle.wire_seqs.proofs.SequenceLemmas.{appends_more, refuses_more}
-use Rattle.wire_seqs.proofs.ShortestLemmas.{each_more, each_all}
+use Rattle.wire_seqs.proofs.ShortestLemmas.{each_more}
 use Rattle.wire_seqs.proofs.items.write_items.Goals as goal
 
 pub returns-in-Err-clause-err : goal.returns-in-Err-clause-err

@@ -4,7 +4,7 @@ use Rattle.wire_seqs.specs.Sequences.{joined_spelling}
 use Rattle.wire_seqs.proofs.SequenceLemmas.{appends_more, refuses_more, kept_appends, refuses_through}
 use Rattle.wire_buf.specs.Spelling.{IsShortest}
 use Rattle.wire_buf.proofs.SpellingLemmas.{writes_shortest}
-use Rattle.wire_seqs.proofs.ShortestLemmas.{each_more, each_all}
+use Rattle.wire_seqs.proofs.ShortestLemmas.{each_more}
 use Rattle.wire_seqs.proofs.raw_seq.RawSeqMySerialize.serialize.Goals as goal
 
 pub loop-number-preserved : goal.loop-number-preserved

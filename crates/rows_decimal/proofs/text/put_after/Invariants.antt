@@ -1,0 +1,8 @@
+use Rattle.std.proofs.Common.{◌/◌, ◌*◌, take}
+use Rattle.rows_decimal.specs.Unpacked.{nines_digits}
+use Rattle.rows_decimal.specs.TextSteps.{Follows, turned}
+use Rattle.rows_decimal.proofs.text.put_after.Given as goal
+
+-- the digits of the groups so far
+abbrev pub invariant-loop-i : goal.invariant-loop-i
+invariant-loop-i l = Follows (nines_digits l.i (take (4 * (l.count / 9)) (turned l.negative l.top l.bytes))) (9 * l.i) l.at l.fn.text l.text l.end

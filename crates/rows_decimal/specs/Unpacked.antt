@@ -1,0 +1,85 @@
+-- The decimal that bytes pack, computed from them. That it is the one whose packed form they are is a law in laws.
+use Rattle.std.specs.Prelude.{ℕ, zero, suc, ◌*◌, ◌/◌, ◌%◌, ◌-◌, ◌^◌, nat_lt, Bool, false, List, [], ◌++◌, length, take, drop, slice_index, Option, Some, None, if◌then◌else◌, nat_eq}
+use Rattle.byteorder.specs.Endian.{big_number}
+use Rattle.rows_decimal.specs.Digits.{group_size, side_size, top_flipped, signed}
+use Rattle.rows_decimal.specs.Steps.{digits_in, has_minus_bit}
+use Rattle.rows_decimal.specs.Decimals.{Value, packed_size, kept}
+use Rattle.rows_decimal.specs.Texts.{decimal_text}
+use Rattle.rows_values.specs.declared.fault.RowsError.{RowsError}
+use Rattle.rows_values.specs.declared.fault.RowsError.TheVariants.{EndOfBody, Decimal as BadDecimal}
+
+-- digits and the ones behind them, where both are there
+abbrev pub joined : Option (List ℕ) → Option (List ℕ) → Option (List ℕ)
+joined None more = None
+joined (Some ds) None = None
+joined (Some ds) (Some es) = Some (ds ++ es)
+
+-- the last k digits of a number, if it has no more
+abbrev pub places : ℕ → ℕ → Option (List ℕ)
+places k n = if nat_lt n (10 ^ k) then Some (digits_in k n) else None
+
+-- the k digits of a group; none where its number is 10^k or more
+abbrev pub group_digits : ℕ → List ℕ → Option (List ℕ)
+group_digits k bytes = places k (big_number (length bytes) bytes)
+
+-- the digits of the first n groups of nine
+unfoldable pub nines_digits : ℕ → List ℕ → Option (List ℕ)
+nines_digits zero bytes = Some []
+nines_digits (suc n) bytes = joined (nines_digits n bytes) (group_digits 9 (take 4 (drop (4 * n) bytes)))
+
+-- the n digits before the point: those left over from nines, and then nine and nine
+abbrev pub before_digits : ℕ → List ℕ → Option (List ℕ)
+before_digits n bytes = joined (group_digits (n % 9) (take (group_size (n % 9)) bytes)) (nines_digits (n / 9) (drop (group_size (n % 9)) bytes))
+
+-- the n digits after the point: nine and nine, and then those left over
+abbrev pub after_digits : ℕ → List ℕ → Option (List ℕ)
+after_digits n bytes = joined (nines_digits (n / 9) (take (4 * (n / 9)) bytes)) (group_digits (n % 9) (drop (4 * (n / 9)) bytes))
+
+-- a sign and the digits on both sides, where both are there
+abbrev pub valued : Bool → Option (List ℕ) → Option (List ℕ) → Option Value
+valued negative None after = None
+valued negative (Some before) None = None
+valued negative (Some before) (Some after) = Some (record { negative = negative; before = before; after = after })
+
+-- packed bytes with the sign and the top bit undone: the groups alone
+abbrev pub plain_bytes : List ℕ → List ℕ
+plain_bytes bytes = top_flipped (signed (has_minus_bit bytes) bytes)
+
+-- so many digits before and after the point, from the groups alone
+abbrev pub sides_value : Bool → ℕ → ℕ → List ℕ → Option Value
+sides_value negative before after plain = valued negative (before_digits before (take (side_size before) plain)) (after_digits after (drop (side_size before) plain))
+
+-- the decimal of `precision` digits, `scale` of them after the point, that these bytes pack: none where scale is past precision, where they are not as many bytes as the digits take, or where a group's number has too many digits
+unfoldable pub unpacked : ℕ → ℕ → List ℕ → Option Value
+unpacked precision scale bytes =
+    if nat_lt precision scale then None
+    else if nat_eq (length bytes) (packed_size (precision - scale) scale) then sides_value (has_minus_bit bytes) (precision - scale) scale (plain_bytes bytes)
+    else None
+
+-- what is made of it: all digits are kept, or not those of leading zero groups
+abbrev pub kept_of : Bool → Option Value → Option Value
+kept_of keep None = None
+kept_of keep (Some v) = Some (kept keep v)
+
+-- its text: that of the value without leading zero groups, so that a zero without digits after the point has no sign
+abbrev pub text_of : Option Value → Option (List ℕ)
+text_of None = None
+text_of (Some v) = Some (decimal_text (kept false v))
+
+-- the text of the decimal that bytes pack
+abbrev pub packed_text : ℕ → ℕ → List ℕ → Option (List ℕ)
+packed_text precision scale bytes = text_of (unpacked precision scale bytes)
+
+-- as JSON documents have it: behind a byte for the precision and one for the scale as many bytes as the digits take, whatever follows them
+unfoldable pub packed_value : List ℕ → Option Value
+packed_value bytes =
+    if nat_lt (length bytes) 2 then None
+    else unpacked (slice_index bytes 0) (slice_index bytes 1) (take (packed_size (slice_index bytes 0 - slice_index bytes 1) (slice_index bytes 1)) (drop 2 bytes))
+
+-- why there is none: the bytes end too early; or scale is past precision, or a group's number has too many digits
+unfoldable pub packed_fault : List ℕ → RowsError
+packed_fault bytes =
+    if nat_lt (length bytes) 2 then EndOfBody
+    else if nat_lt (slice_index bytes 0) (slice_index bytes 1) then BadDecimal
+    else if nat_lt (length (drop 2 bytes)) (packed_size (slice_index bytes 0 - slice_index bytes 1) (slice_index bytes 1)) then EndOfBody
+    else BadDecimal
