@@ -15,10 +15,3 @@ pub use feed::request::{RequestError, request};
 pub use feed_text::{put_value, quote};
 pub use mysql_wire::{MAX_TURNS, Watched};
 pub use verdict::{Verdict, name_of, status};
-
-#[cfg(test)]
-mod follower_tests;
-#[cfg(test)]
-mod samples;
-#[cfg(test)]
-mod tests;

@@ -1,7 +1,7 @@
-//! Worked streams of packets, and the request.
+//! Worked streams of packets.
 
-use super::*;
 use crate::samples::{BEGIN, MAP, ROWS, TEXT, XID, no_checksum};
+use binlog_feed::{Follower, RequestError, Verdict, Watched};
 use std::alloc::{AllocError, Global};
 use std::process::Abort;
 use std::test::*;
@@ -163,28 +163,45 @@ fn stream_without_closing_packet(rt: HostRuntime) -> Result<(), Fail> {
 }
 
 #[test]
-fn dump_request(rt: HostRuntime) -> Result<(), Fail> {
-    let wanted = [
-        0x1c, 0x00, 0x00, 0x00, 0x12, 0x04, 0x00, 0x00, 0x00, 0x01, 0x00, 0x01, 0x00, 0x00, 0x00,
-        0x6d, 0x61, 0x73, 0x74, 0x65, 0x72, 0x2d, 0x62, 0x69, 0x6e, 0x2e, 0x30, 0x30, 0x30, 0x30,
-        0x30, 0x32,
-    ];
-    let name = b"master-bin.000002";
-    let packet = request(rt.alloc(), 4, 1, name)?;
-    assert_eq!(rt; packet.as_slice(), wanted.as_slice());
-    let (_follower, question) = Follower::start(rt.alloc(), 4, 1, name, LIMIT, no_checksum)?;
-    assert_eq!(rt; question.as_slice(), wanted.as_slice());
+fn answer_at_each_piece(rt: HostRuntime) -> Result<(), Fail> {
+    let answer = whole_answer(rt.alloc())?;
+    let committed = 158;
+    let (mut follower, _request) = Follower::start(rt.alloc(), 4, 1, b"", LIMIT, no_checksum)?;
+    let mut written = Vec::new(rt.alloc());
+    for (index, byte) in answer.iter().enumerate() {
+        let found = follower.feed(&[*byte], &mut Watched::new(&mut written));
+        let taken = index + 1;
+        let is_over = taken == answer.len();
+        assert_eq!(rt; found, if is_over { Some(Verdict::End) } else { None });
+        let text = if taken < committed { "" } else { TEXT };
+        assert_eq!(rt; written.as_slice(), text.as_bytes());
+    }
     Ok(())
 }
 
 #[test]
-fn dump_request_of_a_long_name(rt: HostRuntime) -> Result<(), Fail> {
-    let name = [0x61; 512];
-    let packet = request(rt.alloc(), 4, 1, &name[..511])?;
-    assert_eq!(rt; packet.len(), 526);
-    let refusal = request(rt.alloc(), 4, 1, &name).err();
-    assert_eq!(rt; refusal, Some(RequestError::NameTooLong));
-    assert_eq!(rt; RequestError::NameTooLong.name(), "NameTooLong");
-    assert_eq!(rt; RequestError::Memory.name(), "Memory");
+fn event_of_a_whole_chunk(rt: HostRuntime) -> Result<(), Fail> {
+    let mut stream = Vec::from_slice(rt.alloc(), &[0xff, 0xff, 0xff, 0x01, 0x00])?;
+    stream.extend_from_slice(&[0, 0, 0, 0, 0x29, 1, 0, 0, 0, 0xfe, 0xff, 0xff])?;
+    stream.extend_from_slice(&[0, 0, 0, 0, 0, 0x80, 0])?;
+    stream.resize(4 + 16_777_215, 0)?;
+    stream.extend_from_slice(&[0x00, 0x00, 0x00, 0x02])?;
+    let events = [
+        (3u8, &BEGIN[..]),
+        (4, &MAP[..]),
+        (5, &ROWS[..]),
+        (6, &XID[..]),
+    ];
+    for (number, event) in events {
+        stream.extend_from_slice(&[event.len() as u8 + 1, 0, 0, number, 0])?;
+        stream.extend_from_slice(event)?;
+    }
+    let all = [usize::MAX];
+    let (written, verdict) = followed(rt.alloc(), &stream, LIMIT, &all)?;
+    assert_eq!(rt; written.as_slice(), TEXT.as_bytes());
+    assert_eq!(rt; verdict, Verdict::Closed);
+    let (written, verdict) = followed(rt.alloc(), &stream, 16_777_214, &all)?;
+    assert_eq!(rt; written.len(), 0);
+    assert_eq!(rt; verdict, Verdict::TooLarge);
     Ok(())
 }

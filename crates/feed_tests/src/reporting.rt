@@ -1,62 +1,12 @@
-//! Worked binary logs, and readers and writers that fail.
+//! Worked binary logs.
 
-use super::*;
-use crate::samples::{BEGIN, MAP, MARK, ROWS, TEXT, XID, file_of, no_checksum};
+use crate::samples::{BEGIN, MAP, MARK, Pieces, ROWS, TEXT, XID, changed, file_of, no_checksum};
+use binlog_feed::{Verdict, Watched, report};
 use std::alloc::{AllocError, Global};
-use std::io::{self, ErrorKind, Read, Write};
 use std::process::Abort;
 use std::test::*;
 
-/// A reader that gives some bytes, at most so many at once, and then ends or fails.
-#[derive(Drop)]
-struct Pieces<'a> {
-    bytes: &'a [u8],
-    at_once: usize,
-    fails: bool,
-}
-
-impl Read for Pieces<'_> {
-    fn read(&mut self, buf: &mut [u8]) -> io::Result<usize> {
-        if self.bytes.is_empty() && self.fails {
-            return Err(io::Error::from(ErrorKind::Other));
-        }
-        let len = self.at_once.min(buf.len());
-        self.bytes.read(&mut buf[..len])
-    }
-}
-
-/// A writer that takes so many bytes, and then fails.
-#[derive(Drop)]
-struct Full {
-    taken: Vec<u8>,
-    room: usize,
-}
-
-impl Write for Full {
-    fn write(&mut self, buf: &[u8]) -> io::Result<usize> {
-        if self.room == 0 {
-            return Err(io::Error::from(ErrorKind::Other));
-        }
-        let len = self.room.min(buf.len());
-        self.taken.write_all(&buf[..len])?;
-        self.room -= len;
-        Ok(len)
-    }
-
-    fn flush(&mut self) -> io::Result<()> {
-        Ok(())
-    }
-}
-
-/// An event with one byte set to another value.
-fn changed<const N: usize>(event: &[u8; N], at: usize, byte: u8) -> [u8; N] {
-    let mut other = *event;
-    if at < N {
-        other[at] = byte;
-    }
-    other
-}
-
+/// The report of a file from a reader that gives at most so many bytes at once.
 fn reported(alloc: Global, file: &[u8], at_once: usize) -> (Vec<u8>, Verdict) {
     let mut reader = Watched::new(Pieces {
         bytes: file,
@@ -296,60 +246,4 @@ fn negative_numbers_and_other_tables(rt: HostRuntime) -> Result<(), Fail> {
         "begin -\ninsert '\\27' 't' 0=-1\ninsert '\\27' 't' 0=5\ncommit 142\nbegin -\ninsert 'd' 't' 0=5\ncommit 142\n";
     expect(&rt, rt.alloc(), &file, text, Verdict::End);
     Ok(())
-}
-
-#[test]
-fn report_with_a_failing_reader(rt: HostRuntime) -> Result<(), Fail> {
-    let file = file_of(rt.alloc(), &[&BEGIN, &MAP, &ROWS, &XID])?;
-    for k in 0..file.len() + 1 {
-        let (front, _) = file.split_at(k);
-        let mut reader = Watched::new(Pieces {
-            bytes: front,
-            at_once: 7,
-            fails: true,
-        });
-        let mut writer = Watched::new(Vec::new(rt.alloc()));
-        let verdict = report(rt.alloc(), &mut reader, &no_checksum, &mut writer);
-        assert_eq!(rt; verdict, Verdict::Read);
-        assert!(rt; reader.failed());
-        assert!(rt; !writer.failed());
-        let text = if k < file.len() { "" } else { TEXT };
-        assert_eq!(rt; writer.into_inner().as_slice(), text.as_bytes());
-    }
-    Ok(())
-}
-
-#[test]
-fn report_with_a_failing_writer(rt: HostRuntime) -> Result<(), Fail> {
-    let file = file_of(rt.alloc(), &[&BEGIN, &MAP, &ROWS, &XID])?;
-    for room in 0..TEXT.len() + 1 {
-        let mut reader = Watched::new(file.as_slice());
-        let mut writer = Watched::new(Full {
-            taken: Vec::new(rt.alloc()),
-            room,
-        });
-        let verdict = report(rt.alloc(), &mut reader, &no_checksum, &mut writer);
-        let is_whole = room == TEXT.len();
-        assert_eq!(rt;
-            verdict,
-            if is_whole {
-                Verdict::End
-            } else {
-                Verdict::Write
-            }
-        );
-        assert_eq!(rt; writer.failed(), !is_whole);
-        assert!(rt; !reader.failed());
-        let taken = writer.into_inner().taken;
-        assert_eq!(rt; taken.as_slice(), &TEXT.as_bytes()[..room]);
-    }
-    Ok(())
-}
-
-#[test]
-fn names_and_statuses(rt: HostRuntime) {
-    assert_eq!(rt; name_of(&Verdict::End), "End");
-    assert_eq!(rt; name_of(&Verdict::UnknownKind), "UnknownKind");
-    assert_eq!(rt; status(&Verdict::End), 0);
-    assert_eq!(rt; status(&Verdict::Closed), 1);
 }

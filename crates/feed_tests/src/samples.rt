@@ -1,6 +1,7 @@
-//! A small binary log and its report, for tests.
+//! A small binary log and its report, and a reader that gives it in pieces.
 
 use std::alloc::{AllocError, Global};
+use std::io::{self, ErrorKind, Read};
 
 /// `fe 62 69 6e`.
 pub const MARK: [u8; 4] = [0xfe, 0x62, 0x69, 0x6e];
@@ -32,6 +33,7 @@ pub const XID: [u8; 27] = [
     0x00, 0x00, 0x00, 0x0b, 0x00, 0x00, 0x00, 0x00, 0x00, 0x00, 0x00,
 ];
 
+/// The report of the mark and these events.
 pub const TEXT: &str = "begin -\ninsert 'd' 't' 0=5\ncommit 142\n";
 
 /// A checksum function that answers 0.
@@ -46,4 +48,31 @@ pub fn file_of(alloc: Global, events: &[&[u8]]) -> Result<Vec<u8>, AllocError> {
         file.extend_from_slice(event)?;
     }
     Ok(file)
+}
+
+/// A reader that gives some bytes, at most so many at once, and then ends or fails.
+#[derive(Drop)]
+pub struct Pieces<'a> {
+    pub bytes: &'a [u8],
+    pub at_once: usize,
+    pub fails: bool,
+}
+
+impl Read for Pieces<'_> {
+    fn read(&mut self, buf: &mut [u8]) -> io::Result<usize> {
+        if self.bytes.is_empty() && self.fails {
+            return Err(io::Error::from(ErrorKind::Other));
+        }
+        let len = self.at_once.min(buf.len());
+        self.bytes.read(&mut buf[..len])
+    }
+}
+
+/// An event with one byte set to another value.
+pub fn changed<const N: usize>(event: &[u8; N], at: usize, byte: u8) -> [u8; N] {
+    let mut other = *event;
+    if at < N {
+        other[at] = byte;
+    }
+    other
 }
