@@ -6,8 +6,8 @@ ghost use Rattle.feed_text.specs.Quoting.{quoted};
 ghost use Rattle.binlog_feed.specs.Text.{cell_text, value_text, begin_line, commit_line};
 
 use feed_text::quote;
+use itoa::Buffer;
 use std::alloc::AllocError;
-use std::io::Write;
 
 /// Appends bytes between single quotes.
 pub fn put_quoted(bytes: &[u8], out: &mut Vec<u8>) -> Result<(), AllocError>
@@ -20,14 +20,16 @@ pub fn put_quoted(bytes: &[u8], out: &mut Vec<u8>) -> Result<(), AllocError>
 fn put_decimal(number: u64, out: &mut Vec<u8>) -> Result<(), AllocError>
     ensures { OnOk result (out.new.items ≡ out.old.items ++ decimal number) }
 {
-    write!(out, "{number}").map_err(|_| AllocError)
+    let mut buffer = Buffer::new();
+    out.extend_from_slice(buffer.format(number).as_bytes())
 }
 
 /// Appends a signed number in decimal.
 fn put_signed(number: i32, out: &mut Vec<u8>) -> Result<(), AllocError>
     ensures { OnOk result (out.new.items ≡ out.old.items ++ signed_decimal number) }
 {
-    write!(out, "{number}").map_err(|_| AllocError)
+    let mut buffer = Buffer::new();
+    out.extend_from_slice(buffer.format(number).as_bytes())
 }
 
 /// Appends a value, of which the four bytes are given as an unsigned number, or NULL.

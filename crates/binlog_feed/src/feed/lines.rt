@@ -81,24 +81,26 @@ fn put_rows(
     Ok(true)
 }
 
-/// What each line of a row that was inserted into a table begins with.
+/// Writes what each line of a row that was inserted into a table begins with, in the place of what `start`
+/// held.
 #[tactic(auto, unfolding(crate::specs::Text::insert_start))]
-fn insert_line_start(alloc: Global, table: &Table) -> Result<Vec<u8>, AllocError>
-    ensures { IfOk result (λ start. start.items ≡ insert_start table.now.database_name.items table.now.table_name.items) }
+fn put_line_start(table: &Table, start: &mut Vec<u8>) -> Result<(), AllocError>
+    ensures { OnOk result (start.new.items ≡ insert_start table.now.database_name.items table.now.table_name.items) }
 {
-    let mut start = Vec::new(alloc);
+    start.clear();
     start.extend_from_slice(b"insert ")?;
-    put_quoted(&table.database_name, &mut start)?;
+    put_quoted(&table.database_name, start)?;
     start.push(b' ')?;
-    put_quoted(&table.table_name, &mut start)?;
-    Ok(start)
+    put_quoted(&table.table_name, start)
 }
 
-/// Appends the lines of a rows event of a table; false where its rows can't be read.
+/// Appends the lines of a rows event of a table; false where its rows can't be read. What each line begins
+/// with is written into `start`.
 pub fn put_rows_event(
     alloc: Global,
     table: &Table,
     rows: &RowsEvent<'_>,
+    start: &mut Vec<u8>,
     out: &mut Vec<u8>,
 ) -> Result<bool, AllocError>
     ensures { IfOk result (λ found. PutsRows (insert_start table.now.database_name.items table.now.table_name.items)
@@ -112,6 +114,6 @@ pub fn put_rows_event(
         return Ok(false);
     }
     let places = columns_in_image(alloc, rows.columns_after_image, rows.num_columns)?;
-    let start = insert_line_start(alloc, table)?;
-    put_rows(&start, &places, rows.rows_data, out)
+    put_line_start(table, start)?;
+    put_rows(start, &places, rows.rows_data, out)
 }
