@@ -15,6 +15,9 @@ const PACKET_LIMIT: usize = 1_073_741_824;
 /// The place after the mark, where the first event of a binary log begins.
 const FIRST_PLACE: u32 = 4;
 
+/// How many bytes are read from a file, and written to standard output, at once.
+const BUFFER_LEN: usize = 262_144;
+
 /// How many bytes of standard input are taken at once, at most.
 const PIECE_LEN: usize = 65_536;
 
@@ -60,7 +63,7 @@ fn flushed<W: Write>(writer: &mut W, verdict: Verdict) -> Verdict {
 
 /// Writes the report of a binary log to standard output.
 fn report_to_stdout<P: Print, R: Read + Drop>(rt: &P, alloc: Global, reader: R) -> Verdict {
-    let Ok(out) = BufWriter::new(alloc, io::writer(rt)) else {
+    let Ok(out) = BufWriter::with_capacity(alloc, BUFFER_LEN, io::writer(rt)) else {
         return Verdict::Memory;
     };
     let mut reader = Watched::new(reader);
@@ -76,7 +79,7 @@ fn report_file<P: Print + Eprint + Files>(rt: &P, alloc: Global, path: &str) -> 
         Err(error) if error.kind() == ErrorKind::OutOfMemory => return fail(rt, "Memory"),
         Err(_) => return fail(rt, "Open"),
     };
-    let Ok(reader) = BufReader::new(alloc, file) else {
+    let Ok(reader) = BufReader::with_capacity(alloc, BUFFER_LEN, file) else {
         return fail(rt, "Memory");
     };
     end_with(rt, report_to_stdout(rt, alloc, reader))
@@ -114,7 +117,7 @@ fn follow<P: Print, R: Read + Drop>(rt: &P, alloc: Global, mut reader: R) -> Ver
     ) else {
         return Verdict::Memory;
     };
-    let Ok(mut out) = BufWriter::new(alloc, io::writer(rt)) else {
+    let Ok(mut out) = BufWriter::with_capacity(alloc, BUFFER_LEN, io::writer(rt)) else {
         return Verdict::Memory;
     };
     let mut piece = [0u8; PIECE_LEN];
