@@ -1,10 +1,11 @@
 -- Rows, one step after the other.
-use Rattle.std.proofs.Common.{◌≡◌, ℕ, zero, suc, ◌+◌, ◌<◌, ◌≤◌, Bool, true, false, List, [], ◌∷◌, ◌++◌, length, get_or, drop, append_assoc, Option, Some, None, refl, sym, ap, ◌∙◌, arith}
+use Rattle.std.proofs.Common.{◌≡◌, ℕ, zero, suc, ◌+◌, ◌<◌, ◌≤◌, Bool, true, false, cond, List, [], ◌∷◌, ◌++◌, length, get_or, drop, append_assoc, Option, Some, None, refl, sym, ap, ◌∙◌, arith, add-zero, add-one, zero-add, filter}
 use Rattle.binlog_feed.specs.Fields.{◌>>=◌}
-use Rattle.std.specs.List.{flat_map}
+use Rattle.std.specs.List.{flat_map, range_with_len}
 use Rattle.binlog_feed.specs.Text.{cell_text}
-use Rattle.binlog_feed.specs.Images.{Cell, cell_front, cells_front, image_front, images_in}
+use Rattle.binlog_feed.specs.Images.{bit, places, Cell, cell_front, cells_front, image_front, images_in}
 use Rattle.std.proofs.lemmas.List.{drop_more, append-nil}
+use Rattle.std.proofs.lemmas.List.Elements.{filter-append}
 use Rattle.std.proofs.lemmas.Grind.{flat_map-append}
 use Rattle.std.proofs.lemmas.Bool.{lt-ltb, le-ltb, eqb-true}
 use Rattle.std.proofs.lemmas.Bool.Decides.{nat_tests}
@@ -117,3 +118,20 @@ is_some_left (x ∷ xs) b e f = omega arith
 pub is_none_left : (xs : List ℕ) (b : Bool) → b ≡ eqb (length xs) 0 → b ≡ true → length xs ≡ 0
 is_none_left [] b e f = refl
 is_none_left (x ∷ xs) b e f = let n = eqb-true (length (x ∷ xs)) 0 (sym e ∙ f) in omega (arith, n)
+
+-- ---- the columns in an image
+
+range_more : (a n : ℕ) → range_with_len a (suc n) ≡ range_with_len a n ++ (a + n) ∷ []
+range_more a zero = ap (λ (k : ℕ). k ∷ []) (sym (add-zero a))
+range_more a (suc n) = ap (λ (l : List ℕ). a ∷ l) (range_more (a + 1) n ∙ ap (λ (k : ℕ). range_with_len (a + 1) n ++ k ∷ []) (omega arith))
+
+places-more : (bits : List ℕ) (n : ℕ) → places bits (n + 1) ≡ places bits n ++ filter (bit bits) (n ∷ [])
+unfolding places
+places-more bits n = ap (λ (k : ℕ). filter (bit bits) (range_with_len 0 k)) (add-one n) ∙ ap (filter (bit bits)) (range_more 0 n ∙ ap (λ (k : ℕ). range_with_len 0 n ++ k ∷ []) (zero-add n)) ∙ filter-append (bit bits) (range_with_len 0 n) (n ∷ [])
+
+-- one more column, which is in the image or not
+pub places-with : (bits : List ℕ) (n : ℕ) → bit bits n ≡ true → places bits (n + 1) ≡ places bits n ++ n ∷ []
+places-with bits n h = places-more bits n ∙ ap (λ (b : Bool). places bits n ++ cond b (n ∷ []) []) h
+
+pub places-without : (bits : List ℕ) (n : ℕ) → bit bits n ≡ false → places bits (n + 1) ≡ places bits n
+places-without bits n h = places-more bits n ∙ ap (λ (b : Bool). places bits n ++ cond b (n ∷ []) []) h ∙ append-nil (places bits n)

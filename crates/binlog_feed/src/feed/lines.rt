@@ -13,7 +13,7 @@ use crate::rows::image::{cell, columns_in_image, is_readable};
 use crate::rows::rows_event::RowsEvent;
 use crate::text::{put_cell, put_quoted};
 use crate::wire::fields::split_front;
-use std::alloc::{AllocError, Global};
+use std::alloc::AllocError;
 
 /// Appends the cells at these places of the table, and answers what follows them; none where bytes of
 /// them are missing.
@@ -95,12 +95,12 @@ fn put_line_start(table: &Table, start: &mut Vec<u8>) -> Result<(), AllocError>
 }
 
 /// Appends the lines of a rows event of a table; false where its rows can't be read. What each line begins
-/// with is written into `start`.
+/// with is written into `start`, and the places of the columns in the images into `places`.
 pub fn put_rows_event(
-    alloc: Global,
     table: &Table,
     rows: &RowsEvent<'_>,
     start: &mut Vec<u8>,
+    places: &mut Vec<u64>,
     out: &mut Vec<u8>,
 ) -> Result<bool, AllocError>
     ensures { IfOk result (λ found. PutsRows (insert_start table.now.database_name.items table.now.table_name.items)
@@ -113,7 +113,7 @@ pub fn put_rows_event(
     ) {
         return Ok(false);
     }
-    let places = columns_in_image(alloc, rows.columns_after_image, rows.num_columns)?;
+    columns_in_image(rows.columns_after_image, rows.num_columns, places)?;
     put_line_start(table, start)?;
-    put_rows(start, &places, rows.rows_data, out)
+    put_rows(start, places, rows.rows_data, out)
 }

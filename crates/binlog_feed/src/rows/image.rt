@@ -1,13 +1,13 @@
 //! Row images: which columns are in one, its null bits, its cells. Columns are LONG, numbers of four bytes.
 
-ghost use Rattle.std.specs.Prelude.{◌≡◌, ◌<◌, ◌^◌, IfOk, length};
+ghost use Rattle.std.specs.Prelude.{◌≡◌, ◌<◌, ◌^◌, OnOk, length};
 ghost use Rattle.std.specs.List.{list_all};
 ghost use Rattle.std.specs.Option.{option_map};
 ghost use Rattle.binlog_feed.specs.Images.{bit, places, is_long, are_readable, cell_front};
 
 use crate::wire::fields::split_front;
 use byteorder::{ByteOrder, LittleEndian};
-use std::alloc::{AllocError, Global};
+use std::alloc::AllocError;
 
 /// MYSQL_TYPE_LONG, a number of four bytes.
 const MYSQL_TYPE_LONG: u8 = 3;
@@ -23,19 +23,23 @@ fn bit_at(bytes: &[u8], index: u64) -> bool
     (bytes[byte as usize] >> (index % 8)) & 1 == 1
 }
 
-/// The places in the table of the columns that are in an image: those of the first `num_columns`
-/// whose bit is set.
+/// Puts the places in the table of the columns that are in an image in the place of what `found` held:
+/// those of the first `num_columns` whose bit is set.
 #[tactic(auto, unfolding(crate::specs::Images::places))]
 pub fn columns_in_image(
-    alloc: Global,
     image_bits: &[u8],
     num_columns: u64,
-) -> Result<Vec<u64>, AllocError>
-    ensures { IfOk result (λ v. v.items ≡ places image_bits.now num_columns) }
+    found: &mut Vec<u64>,
+) -> Result<(), AllocError>
+    ensures { OnOk result (found.new.items ≡ places image_bits.now num_columns) }
 {
-    (0..num_columns)
-        .filter(|place| bit_at(image_bits, *place))
-        .collect(alloc)
+    found.clear();
+    for place in 0..num_columns {
+        if bit_at(image_bits, place) {
+            found.push(place)?;
+        }
+    }
+    Ok(())
 }
 
 /// Whether all of these columns are LONG.
