@@ -28,12 +28,16 @@ fn replace(old: &mut Vec<u8>, bytes: &[u8]) -> Result<(), AllocError>
 }
 
 impl Table {
-    ghost use Rattle.std.specs.Prelude.{◌≡◌, OnOk};
+    ghost use Rattle.std.specs.Prelude.{◌≡◌, [], OnOk};
     ghost use Rattle.binlog_feed.specs.Views.{map_view};
     ghost use Rattle.binlog_feed.specs.Tables.{table_view};
 
     /// A table of no columns, without names.
-    pub fn empty(alloc: Global) -> Table {
+    pub fn empty(alloc: Global) -> Table
+        ensures database { result.database_name.items ≡ [] }
+        ensures table { result.table_name.items ≡ [] }
+        ensures columns { result.columns_type.items ≡ [] }
+    {
         Table {
             table_id: 0,
             database_name: Vec::new(alloc),
