@@ -9,8 +9,6 @@ pub mod laws;
 mod padding;
 mod pieces;
 mod quoting;
-#[cfg(test)]
-mod tests;
 mod values;
 
 pub use quoting::quote;

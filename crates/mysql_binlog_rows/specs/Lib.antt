@@ -16,3 +16,4 @@ pub use Rattle.rows_values.specs.TimeTexts
 pub use Rattle.rows_decimal.specs.Digits
 pub use Rattle.rows_decimal.specs.Decimals
 pub use Rattle.rows_decimal.specs.Texts
+pub use Rattle.rows_decimal.specs.Unpacked

@@ -21,7 +21,7 @@ pub use rows_consts::{
 };
 pub use rows_decimal::{
     DIG_BASE, DIG_PER_DEC, DIG_TO_BYTES, Decimal, Digit, POWERS_10, ParseDecimalError,
-    decimal_bin_size,
+    decimal_bin_size, put_decimal_text,
 };
 pub use rows_flags::{
     EventFlags, GtidFlags, RowsEventFlags, SemiSyncFlags, UnknownEventFlags, UnknownGtidFlags,

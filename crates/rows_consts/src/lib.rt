@@ -16,8 +16,6 @@ mod lengths;
 mod load_duplicate_handling;
 mod optional_metadata_field_type;
 mod status_var_key;
-#[cfg(test)]
-mod tests;
 mod transaction_payload_compression_type;
 mod transaction_payload_fields;
 

@@ -15,8 +15,6 @@ mod order;
 mod packing;
 mod parse;
 mod places;
-#[cfg(test)]
-mod tests;
 mod text;
 mod unpacking;
 

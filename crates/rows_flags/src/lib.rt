@@ -8,8 +8,6 @@ mod event_flags;
 mod gtid_flags;
 mod rows_event_flags;
 mod semi_sync_flags;
-#[cfg(test)]
-mod tests;
 mod user_var_flags;
 
 pub use event_flags::{EventFlags, UnknownEventFlags};

@@ -11,8 +11,6 @@ mod fault;
 pub mod laws;
 mod packed;
 mod row;
-#[cfg(test)]
-mod tests;
 mod time;
 mod time_text;
 mod value;

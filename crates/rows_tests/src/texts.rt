@@ -1,6 +1,8 @@
-use super::*;
+//! Quoted bytes and the texts of values.
+
+use feed_text::{put_value, quote};
 use linked_list_allocator::LocalHeap;
-use rows_values::{
+use mysql_binlog_rows::{
     RowsError, Value, datetime_from_packed, my_datetime_packed_from_binary,
     my_time_packed_from_binary, time_from_packed,
 };

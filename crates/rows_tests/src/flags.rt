@@ -1,5 +1,10 @@
-use super::*;
+//! Sets of flags.
+
 use bitflags::Flags;
+use mysql_binlog_rows::{
+    EventFlags, GtidFlags, RowsEventFlags, SemiSyncFlags, UnknownEventFlags, UnknownGtidFlags,
+    UserVarFlags,
+};
 
 // A set of flags, through the bound alone.
 fn known_of<F: Flags>(bits: F::Bits) -> F {

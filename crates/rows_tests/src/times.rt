@@ -1,17 +1,12 @@
-use super::*;
-use std::io::{self, Read};
-use std::rc::RcSlice;
-use wire_consts::{ColumnFlags, ColumnType};
+//! Packed times and dates, their cells and their texts.
 
-// A reader that fails.
-#[derive(Drop)]
-struct Broken;
-
-impl Read for Broken {
-    fn read(&mut self, _buf: &mut [u8]) -> io::Result<usize> {
-        Err(io::Error::from(io::ErrorKind::Other))
-    }
-}
+use crate::devices::FailingReader;
+use mysql_binlog_rows::{
+    DATETIMEF_INT_OFS, MysqlTime, MysqlTimestampType, RowsError, TIMEF_INT_OFS, TIMEF_OFS, Value,
+    datetime_from_packed, my_datetime_packed_from_binary, my_packed_time_get_frac_part,
+    my_packed_time_get_int_part, my_packed_time_make, my_packed_time_make_int,
+    my_time_packed_from_binary, my_timestamp_from_binary, time_from_packed,
+};
 
 // A span below zero, whose fraction has the sign of the whole.
 #[test]
@@ -77,7 +72,7 @@ fn packed_datetime(rt: HostRuntime) {
     let mut input: &[u8] = &[0x99, 0x83, 0xb0, 0x90, 0xf9];
     let packed = my_datetime_packed_from_binary(&mut input, 0);
     assert_eq!(rt;
-        packed.map(datetime_from_packed),
+        packed.map(|packed| datetime_from_packed(packed)),
         Ok(Value::Date(2009, 9, 24, 9, 3, 57, 0))
     );
     assert_eq!(rt;
@@ -91,11 +86,37 @@ fn packed_datetime(rt: HostRuntime) {
 }
 
 // The time cell of two decimals as a value.
+// What a span of time of so many decimals is worth: negative ones of each width of the fraction.
+#[test]
+fn negative_times_of_each_width(rt: HostRuntime) {
+    let cells = [
+        (b"\x7f\xff\xfe\xfc\x18".as_slice(), 3, 100_000u32),
+        (b"\x7f\xff\xfe\xfb\x2e".as_slice(), 4, 123_400),
+        (b"\x7f\xff\xfe\xfe\x1d\xc6".as_slice(), 5, 123_450),
+        (b"\x7f\xff\xfe\xfe\x1d\xc0".as_slice(), 6, 123_456),
+    ];
+    for (bytes, decimals, micros) in cells {
+        let mut input = bytes;
+        let packed = my_time_packed_from_binary(&mut input, decimals);
+        assert_eq!(rt;
+            packed.map(|packed| time_from_packed(packed)),
+            Ok(Value::Time(true, 0, 0, 0, 1, micros))
+        );
+        assert!(rt; input.is_empty());
+    }
+    let mut least: &[u8] = b"\x4b\x91\x04\xd8\xfa";
+    assert_eq!(rt;
+        my_time_packed_from_binary(&mut least, 3).map(|packed| time_from_packed(packed)),
+        Ok(Value::Time(true, 34, 22, 59, 59, 999_000))
+    );
+}
+
+// The time cell of two decimals as a value.
 #[test]
 fn cell_values_of_times(rt: HostRuntime) {
     let mut input: &[u8] = &[0x7f, 0xff, 0xfe, 0xf6];
     assert_eq!(rt;
-        my_time_packed_from_binary(&mut input, 2).map(time_from_packed),
+        my_time_packed_from_binary(&mut input, 2).map(|packed| time_from_packed(packed)),
         Ok(Value::Time(true, 0, 0, 0, 1, 100_000))
     );
     let mut input: &[u8] = &[0x00, 0x00, 0x00, 0x01, 0xff, 0xff, 0xfb];
@@ -116,7 +137,7 @@ fn time_refusals(rt: HostRuntime) {
         Err(RowsError::EndOfBody)
     );
     assert_eq!(rt;
-        my_timestamp_from_binary(&mut Broken, 0),
+        my_timestamp_from_binary(&mut FailingReader, 0),
         Err(RowsError::Read)
     );
 }
@@ -143,88 +164,4 @@ fn timestamp_types(rt: HostRuntime) {
     assert_eq!(rt; MysqlTimestampType::MYSQL_TIMESTAMP_DATETIME as i32, 1);
     assert_eq!(rt; MysqlTimestampType::MYSQL_TIMESTAMP_TIME as i32, 2);
     assert_eq!(rt; MysqlTimestampType::MYSQL_TIMESTAMP_DATETIME_TZ as i32, 3);
-}
-
-#[test]
-fn bits_both_orders(rt: HostRuntime) {
-    let wanted = [true, false, true];
-    let lowest = Bits::lowest(&[0x05], 3);
-    let highest = Bits::highest(&[0xa0], 3);
-    for (index, bit) in wanted.iter().enumerate() {
-        assert_eq!(rt; lowest.get(index), Some(*bit));
-        assert_eq!(rt; highest.get(index), Some(*bit));
-    }
-    assert_eq!(rt; lowest.get(3), None);
-    assert_eq!(rt; highest.len(), 3);
-    assert!(rt; !highest.is_empty());
-    assert_eq!(rt; highest.count_ones(), 2);
-    let mut bits = lowest.iter();
-    for bit in wanted {
-        assert_eq!(rt; bits.next(), Some(bit));
-    }
-    assert_eq!(rt; bits.next(), None);
-}
-
-#[test]
-fn columns_and_rows(rt: HostRuntime) -> Result<(), std::test::Fail> {
-    let alloc = rt.alloc();
-    let column = Column::new(alloc, ColumnType::MYSQL_TYPE_LONG)
-        .with_schema(b"s")?
-        .with_table(b"t")?
-        .with_org_table(b"o")?
-        .with_name(b"n\xff")?
-        .with_flags(ColumnFlags::UNSIGNED_FLAG)
-        .with_character_set(45);
-    assert_eq!(rt; column.column_type(), ColumnType::MYSQL_TYPE_LONG);
-    assert_eq!(rt; column.schema_ref(), b"s".as_slice());
-    assert_eq!(rt; column.table_ref(), b"t".as_slice());
-    assert_eq!(rt; column.org_table_ref(), b"o".as_slice());
-    assert_eq!(rt; column.name_ref(), b"n\xff".as_slice());
-    assert_eq!(rt; column.schema_str(alloc)?.as_str(), "s");
-    assert_eq!(rt; column.table_str(alloc)?.as_str(), "t");
-    assert_eq!(rt; column.org_table_str(alloc)?.as_str(), "o");
-    assert_eq!(rt; column.name_str(alloc)?.as_str(), "n\u{fffd}");
-    assert_eq!(rt; column.flags(), ColumnFlags::UNSIGNED_FLAG);
-    assert_eq!(rt; column.character_set(), 45);
-    let same = column.clone(alloc)?;
-    assert!(rt; same == column);
-    assert_eq!(rt; same.org_table_ref(), b"o".as_slice());
-    let mut columns = Vec::new(alloc);
-    columns.push(column)?;
-    let value = Value::Bytes(Vec::from_slice(alloc, b"x")?);
-    let copy = value.clone(alloc)?;
-    assert!(rt; copy == value);
-    let mut values = Vec::new(alloc);
-    values.push(Some(value))?;
-    values.push(None)?;
-    let row = new_row_raw(values, RcSlice::from_vec(columns)?);
-    assert_eq!(rt; row.len(), 2);
-    assert_eq!(rt; row.columns_ref().len(), 1);
-    assert!(rt; row.as_ref(0) == Some(&copy));
-    assert!(rt; row.as_ref(1).is_none());
-    assert!(rt; row.as_ref(2).is_none());
-    let same = row.clone(alloc)?;
-    assert!(rt; same == row);
-    assert_eq!(rt; same.len(), 2);
-    assert!(rt; same.as_ref(0) == Some(&copy));
-    assert!(rt; same.columns_ref() == row.columns_ref());
-    Ok(())
-}
-
-#[test]
-fn faults_of_the_wire(rt: HostRuntime) {
-    let faults = [
-        (wire_buf::WireFault::Eof, RowsError::EndOfBody),
-        (wire_buf::WireFault::BadNumber, RowsError::UnknownNumber),
-        (wire_buf::WireFault::BadConst, RowsError::UnknownNumber),
-        (wire_buf::WireFault::Memory, RowsError::Memory),
-        (wire_buf::WireFault::Read, RowsError::Read),
-    ];
-    for (fault, wanted) in faults {
-        assert_eq!(rt; RowsError::from(fault), wanted);
-    }
-    assert_eq!(rt;
-        RowsError::from(JsonbError::SizeOverflow),
-        RowsError::Jsonb(Some(JsonbError::SizeOverflow))
-    );
 }

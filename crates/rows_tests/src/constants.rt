@@ -1,4 +1,16 @@
-use super::*;
+//! Constants and the numbers that they stand for.
+
+use mysql_binlog_rows::{
+    BINLOG_CHECKSUM_ALG_DESC_LEN, BINLOG_CHECKSUM_LEN, BinlogChecksumAlg, BinlogRowValueOptions,
+    BinlogVersion, CHECKSUM_VERSION_PRODUCT, ENCODED_SID_LENGTH, EventType, GTID_HEADER_LEN, Gno,
+    IncidentType, IntvarEventType, InvalidGno, LOGICAL_TIMESTAMP_TYPECODE, LoadDuplicateHandling,
+    OptionalMetadataFieldType, QUERY_HEADER_LEN, ROTATE_HEADER_LEN, ROWS_HEADER_LEN_V1,
+    ROWS_HEADER_LEN_V2, SERVER_VER_LEN, StatusVarKey, TABLE_MAP_HEADER_LEN,
+    TransactionPayloadCompressionType, TransactionPayloadFields, UnknownBinlogRowValueOptions,
+    UnknownChecksumAlg, UnknownDuplicateHandling, UnknownEventType, UnknownIncidentType,
+    UnknownIntvarEventType, UnknownStatusVarKey, UnknownTransactionPayloadCompressionType,
+    UnknownTransactionPayloadFields,
+};
 
 // Each number from 0 to 255 that is an event type turns back into itself, and the others are refused with it.
 #[test]

@@ -1,0 +1,36 @@
+//! Each law can be called; it does nothing.
+
+use mysql_binlog_rows::laws as rows;
+
+#[test]
+fn laws_of_constants(_rt: HostRuntime) {
+    rows::orders_are_of_numbers();
+    rows::numbers_are_distinct();
+    rows::worked_numbers();
+}
+
+#[test]
+fn laws_of_values(_rt: HostRuntime) {
+    rows::equal_values_are_the_same();
+    rows::worked_time();
+    rows::worked_date_and_time();
+    rows::worked_bits();
+}
+
+#[test]
+fn laws_of_decimals(_rt: HostRuntime) {
+    rows::numbers_in_order();
+    rows::packed_forms_are_uniquely_read();
+    rows::packed_forms_are_unpacked();
+    rows::only_zero_groups_are_dropped();
+    rows::texts_are_taken_back();
+    rows::worked_decimals();
+    rows::worked_unpacking();
+}
+
+#[test]
+fn laws_of_texts(_rt: HostRuntime) {
+    feed_text::laws::equal_quotes_are_of_equal_bytes();
+    feed_text::laws::worked_quote();
+    feed_text::laws::worked_times();
+}

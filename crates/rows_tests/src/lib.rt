@@ -1,0 +1,26 @@
+//! Tests of the crates `mysql_binlog_rows` and `feed_text`: a file for each subject, and what the tests
+//! have in common in `devices`.
+#![tactic(auto)]
+
+#[cfg(test)]
+mod bits;
+#[cfg(test)]
+mod columns_and_rows;
+#[cfg(test)]
+mod constants;
+#[cfg(test)]
+mod decimals;
+#[cfg(test)]
+mod devices;
+#[cfg(test)]
+mod faults;
+#[cfg(test)]
+mod flags;
+#[cfg(test)]
+mod laws;
+#[cfg(test)]
+mod packed_decimals;
+#[cfg(test)]
+mod texts;
+#[cfg(test)]
+mod times;
