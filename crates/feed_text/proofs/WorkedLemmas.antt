@@ -4,7 +4,7 @@ use Rattle.std.specs.Fmt.{digits}
 use Rattle.std.specs.Int.{int_wrap}
 use Rattle.rows_values.specs.PackedTimes.{fraction_len, datetime2}
 use Rattle.rows_values.specs.Values.{date_value}
-use Rattle.rows_values.specs.declared.value.Value.TheVariants.{Date}
+use Rattle.rows_values.specs.declared.rows.value.Value.TheVariants.{Date}
 use Rattle.feed_text.specs.ValueText.{value_text}
 use Rattle.rows_values.specs.TimeTexts.{padded}
 

@@ -4,8 +4,8 @@ use Rattle.std.specs.Fmt.{decimal, signed_decimal}
 use Rattle.std.specs.Int.{w32, w64, to_be_bytes}
 use Rattle.hex.specs.Hex.{encode_lower}
 use Rattle.rows_values.specs.TimeTexts.{padded}
-use Rattle.rows_values.specs.declared.value.Value.{Value}
-use Rattle.rows_values.specs.declared.value.Value.TheVariants.{NULL, Bytes, Int, UInt, Float, Double, Date, Time}
+use Rattle.rows_values.specs.declared.rows.value.Value.{Value}
+use Rattle.rows_values.specs.declared.rows.value.Value.TheVariants.{NULL, Bytes, Int, UInt, Float, Double, Date, Time}
 use Rattle.feed_text.specs.Quoting.{quoted}
 use Rattle.feed_text.specs.Pieces.{joined}
 

@@ -1,5 +1,5 @@
 ghost use Rattle.std.specs.Prelude.{◌≡◌, ◌≤◌, ◌++◌, OnOk, IfErr, Bool, length, take};
-ghost use Rattle.rows_values.specs.declared.value.Value.TheVariants.{Date, Time};
+ghost use Rattle.rows_values.specs.declared.rows.value.Value.TheVariants.{Date, Time};
 ghost use Rattle.feed_text.specs.Pieces.{IsRefused, joined};
 ghost use Rattle.feed_text.specs.ValueText.{value_text, sign_text, clock_texts};
 

@@ -29,8 +29,8 @@ pub use rows_flags::{
 };
 pub use rows_values::{
     Bits, BitsIter, Column, DATETIMEF_INT_OFS, JsonbError, MysqlTime, MysqlTimestampType, Row,
-    RowsError, TIMEF_INT_OFS, TIMEF_OFS, Value, datetime_from_packed,
+    RowsError, TIMEF_INT_OFS, TIMEF_OFS, Value, datetime_from_packed, datetime_of, fraction_size,
     my_datetime_packed_from_binary, my_packed_time_get_frac_part, my_packed_time_get_int_part,
     my_packed_time_make, my_packed_time_make_int, my_time_packed_from_binary,
-    my_timestamp_from_binary, new_row_raw, time_from_packed,
+    my_timestamp_from_binary, new_row_raw, time_from_packed, time_of, timestamp_of,
 };

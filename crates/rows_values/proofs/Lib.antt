@@ -1,3 +1,4 @@
 pub mod RowLemmas
 pub mod PackedLemmas
 pub mod TimeTextLemmas
+pub mod EqualLemmas

@@ -6,7 +6,7 @@ use Rattle.std.specs.Fmt.{decimal}
 use Rattle.std.proofs.lemmas.Bool.{ltb-true, ltb-false, lt-ltb}
 use Rattle.std.proofs.lemmas.Fmt.{decimal_digit, decimal_step, decimal_nonempty}
 use Rattle.std.proofs.lemmas.List.{take_min, take_all, take-map, replicate_more, length-append}
-use Rattle.rows_values.specs.TimeTexts.{padded, two_digits, fraction_text}
+use Rattle.rows_values.specs.TimeTexts.{padded, two_digits, micros_text}
 
 longer : (n : ℕ) → 10 ≤ n → n < 2 ^ 64 → length (decimal n) ≡ length (decimal (n / 10)) + 1
 longer n m h = ap length (decimal_step n m h) ∙ length-append (decimal (n / 10)) ((48 + n % 10) ∷ [])
@@ -77,8 +77,8 @@ six_digits n =
 
 -- a point and all digits that were taken are the fraction's text
 pub fraction_whole : (o : Option ℕ) (p n k : ℕ) (shown : List ℕ) → o ≡ Some p → (p == 0) ≡ false → shown ≡ take (min p 6) powers → length shown ≤ k
-    → 46 ∷ flat_map (λ power. decimal (n / power % 10)) (take k shown) ≡ fraction_text o n
-unfolding fraction_text
+    → 46 ∷ flat_map (λ power. decimal (n / power % 10)) (take k shown) ≡ micros_text o n
+unfolding micros_text
 fraction_whole o p n k shown is some are all =
     let whole = take_all k shown all ∙ are ∙ take_min p powers in
     let texts = each_digit n (take p powers) ∙ sym (take-map (λ power. 48 + n / power % 10) p powers) ∙ ap (take p) (six_digits n) in

@@ -2,7 +2,7 @@
 use Rattle.std.specs.Prelude.{ℕ, List, []}
 use Rattle.wire_consts.specs.declared.column_type.ColumnType.{ColumnType}
 use Rattle.wire_consts.specs.declared.column_flags.ColumnFlags.{ColumnFlags}
-use Rattle.rows_values.specs.declared.column.Column.{Column}
+use Rattle.rows_values.specs.declared.rows.column.Column.{Column}
 
 pub record ColumnParts : Type 0 where
   pub column_type : ColumnType

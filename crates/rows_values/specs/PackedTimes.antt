@@ -4,12 +4,12 @@ use Rattle.std.specs.Int.{w64, int_wrap}
 use Rattle.byteorder.specs.Endian.{big_number, twos_complement}
 
 -- i above the 24 bits of a fraction, which is f microseconds; past 64 bits the value wraps
-abbrev pub packed : ℤ → ℤ → ℤ
-packed i f = int_wrap w64 ((i *ℤ pos 16777216) +ℤ f)
+abbrev pub packed_time : ℤ → ℤ → ℤ
+packed_time i f = int_wrap w64 ((i *ℤ pos 16777216) +ℤ f)
 
 -- the same without a fraction
-abbrev pub packed_int : ℤ → ℤ
-packed_int i = int_wrap w64 (i *ℤ pos 16777216)
+abbrev pub packed_time_int : ℤ → ℤ
+packed_time_int i = int_wrap w64 (i *ℤ pos 16777216)
 
 -- what stands above the fraction, rounded down
 abbrev pub int_part : ℤ → ℤ
@@ -44,7 +44,7 @@ time2 n bytes = packed_signed (256 ^ n) (100 ^ (3 - n)) (pos (big_number (3 + n)
 
 -- A DATETIME2 with n bytes of fraction: five bytes above it, less 2 ^ 39.
 abbrev pub datetime2 : ℕ → List ℕ → ℤ
-datetime2 n bytes = packed (pos (big_number 5 bytes) -ℤ pos (2 ^ 39)) (fraction n (drop 5 bytes))
+datetime2 n bytes = packed_time (pos (big_number 5 bytes) -ℤ pos (2 ^ 39)) (fraction n (drop 5 bytes))
 
 -- A TIMESTAMP2 with n bytes of fraction: seconds in four bytes, and microseconds.
 abbrev pub timestamp2 : ℕ → List ℕ → ℤ × ℤ

@@ -1,9 +1,9 @@
 -- The values and the columns of a row.
 use Rattle.std.specs.Prelude.{◌≡◌, ℕ, List, Option, Some, None, slice_get}
 use Rattle.std.specs.Rc.{rc_slice_items}
-use Rattle.rows_values.specs.declared.row.Row.{Row}
-use Rattle.rows_values.specs.declared.column.Column.{Column}
-use Rattle.rows_values.specs.declared.value.Value.{Value}
+use Rattle.rows_values.specs.declared.rows.row.Row.{Row}
+use Rattle.rows_values.specs.declared.rows.column.Column.{Column}
+use Rattle.rows_values.specs.declared.rows.value.Value.{Value}
 use Rattle.rows_values.specs.Values.{SameValue}
 
 abbrev pub values_of : Row → List (Option Value)
@@ -22,5 +22,5 @@ value_at values i = some_value (slice_get values i)
 
 -- both have no value, or the same one
 abbrev pub SameCell : Option Value → Option Value → Type 0
-SameCell (Some v) (Some w) = SameValue w v
+SameCell (Some v) (Some w) = SameValue v w
 SameCell v w = v ≡ w

@@ -1,8 +1,8 @@
 -- The fields of packed times: a span of time, and a date with a time.
 use Rattle.std.specs.Prelude.{ℕ, ◌/◌, ◌%◌, Bool, ℤ, pos, unsigned_abs, int_lt}
-use Rattle.rows_values.specs.declared.time.MysqlTime.{MysqlTime}
-use Rattle.rows_values.specs.declared.time.MysqlTimestampType.{MysqlTimestampType}
-use Rattle.rows_values.specs.declared.time.MysqlTimestampType.TheVariants.{MYSQL_TIMESTAMP_TIME}
+use Rattle.rows_values.specs.declared.times.mysql_time.MysqlTime.{MysqlTime}
+use Rattle.rows_values.specs.declared.times.mysql_time.MysqlTimestampType.{MysqlTimestampType}
+use Rattle.rows_values.specs.declared.times.mysql_time.MysqlTimestampType.TheVariants.{MYSQL_TIMESTAMP_TIME}
 
 -- the microseconds, and what stands above them, of the magnitude
 abbrev pub micros : ℤ → ℕ

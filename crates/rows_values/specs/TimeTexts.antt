@@ -1,9 +1,9 @@
 -- The text of dates and times of day and of spans of time, as MySQL shows them.
 use Rattle.std.specs.Prelude.{ℕ, ◌-◌, ◌/◌, ◌%◌, Bool, not, ◌&&◌, ◌==◌, List, [], ◌∷◌, ◌++◌, Option, Some, None, take, length, replicate, nat_lt, if◌then◌else◌, codes, ℤ, pos, int_lt, unsigned_abs}
 use Rattle.std.specs.Fmt.{decimal}
-use Rattle.rows_values.specs.declared.time.MysqlTime.{MysqlTime}
-use Rattle.rows_values.specs.declared.time.MysqlTimestampType.{MysqlTimestampType}
-use Rattle.rows_values.specs.declared.time.MysqlTimestampType.TheVariants.{MYSQL_TIMESTAMP_NONE, MYSQL_TIMESTAMP_ERROR, MYSQL_TIMESTAMP_DATE, MYSQL_TIMESTAMP_DATETIME, MYSQL_TIMESTAMP_TIME, MYSQL_TIMESTAMP_DATETIME_TZ}
+use Rattle.rows_values.specs.declared.times.mysql_time.MysqlTime.{MysqlTime}
+use Rattle.rows_values.specs.declared.times.mysql_time.MysqlTimestampType.{MysqlTimestampType}
+use Rattle.rows_values.specs.declared.times.mysql_time.MysqlTimestampType.TheVariants.{MYSQL_TIMESTAMP_NONE, MYSQL_TIMESTAMP_ERROR, MYSQL_TIMESTAMP_DATE, MYSQL_TIMESTAMP_DATETIME, MYSQL_TIMESTAMP_TIME, MYSQL_TIMESTAMP_DATETIME_TZ}
 
 -- a number in decimal, with zeros before it up to a least width
 unfoldable pub padded : ℕ → ℕ → List ℕ
@@ -14,9 +14,9 @@ unfoldable pub two_digits : ℕ → List ℕ
 two_digits n = if nat_lt n 100 then padded 2 n else codes "00"
 
 -- with a precision a point and that many of the six digits of the microseconds
-unfoldable pub fraction_text : Option ℕ → ℕ → List ℕ
-fraction_text None n = []
-fraction_text (Some p) n = if p == 0 then [] else 46 ∷ take p (padded 6 (n % 1000000))
+unfoldable pub micros_text : Option ℕ → ℕ → List ℕ
+micros_text None n = []
+micros_text (Some p) n = if p == 0 then [] else 46 ∷ take p (padded 6 (n % 1000000))
 
 -- century and year, month and day
 unfoldable pub date_text : MysqlTime → List ℕ
@@ -24,7 +24,7 @@ date_text t = two_digits (t.year / 100) ++ two_digits (t.year % 100) ++ 45 ∷ t
 
 -- minutes, seconds and their fraction
 unfoldable pub after_hour : Option ℕ → MysqlTime → List ℕ
-after_hour precision t = 58 ∷ two_digits t.minute ++ 58 ∷ two_digits t.second ++ fraction_text precision t.second_part
+after_hour precision t = 58 ∷ two_digits t.minute ++ 58 ∷ two_digits t.second ++ micros_text precision t.second_part
 
 -- a date and a time of day
 unfoldable pub date_and_time_text : Option ℕ → MysqlTime → List ℕ

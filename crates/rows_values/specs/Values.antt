@@ -1,9 +1,9 @@
 -- The values of cells: which are the same, and those that packed times stand for.
 use Rattle.std.specs.Prelude.{◌≡◌, ◌/◌, ◌%◌, ℤ}
-use Rattle.rows_values.specs.declared.value.Value.{Value}
-use Rattle.rows_values.specs.declared.value.Value.TheVariants.{Bytes, Date, Time}
-use Rattle.rows_values.specs.declared.time.MysqlTime.{MysqlTime}
-use Rattle.rows_values.specs.declared.time.MysqlTimestampType.TheVariants.{MYSQL_TIMESTAMP_DATETIME}
+use Rattle.rows_values.specs.declared.rows.value.Value.{Value}
+use Rattle.rows_values.specs.declared.rows.value.Value.TheVariants.{Bytes, Date, Time}
+use Rattle.rows_values.specs.declared.times.mysql_time.MysqlTime.{MysqlTime}
+use Rattle.rows_values.specs.declared.times.mysql_time.MysqlTimestampType.TheVariants.{MYSQL_TIMESTAMP_DATETIME}
 use Rattle.rows_values.specs.TimeFields.{span_fields, date_fields}
 
 -- the same value, wherever its bytes lie

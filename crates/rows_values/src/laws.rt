@@ -6,14 +6,34 @@ ghost use Rattle.rows_values.specs.PackedTimes.{fraction_len, time2, datetime2};
 ghost use Rattle.rows_values.specs.TimeFields.{span_fields};
 ghost use Rattle.rows_values.specs.TimeTexts.{time_text};
 ghost use Rattle.rows_values.specs.Values.{SameValue, span_value, date_value};
-ghost use Rattle.rows_values.specs.contracts.value.ValuePartialEq.TheImpl.{ghosts as value_equality};
-ghost use Rattle.rows_values.specs.declared.value.Value.TheVariants.{Date, Time};
+ghost use Rattle.rows_values.specs.Columns.{parts_of};
+ghost use Rattle.rows_values.specs.Rows.{values_of, columns_of, SameCell};
+ghost use Rattle.std.specs.List.{AllZip};
+ghost use Rattle.rows_values.specs.contracts.rows.value.ValuePartialEq.TheImpl.{ghosts as value_equality};
+ghost use Rattle.rows_values.specs.contracts.rows.column.ColumnPartialEq.TheImpl.{ghosts as column_equality};
+ghost use Rattle.rows_values.specs.contracts.rows.row.RowPartialEq.TheImpl.{ghosts as row_equality};
+ghost use Rattle.rows_values.specs.contracts.times.mysql_time.MysqlTimePartialEq.TheImpl.{ghosts as time_equality};
+ghost use Rattle.rows_values.specs.declared.rows.value.Value.TheVariants.{Date, Time};
 
-use crate::value::Value;
+use crate::rows::{Column, Row, Value};
+use crate::times::MysqlTime;
 
 /// Values are equal by `==` exactly where they are the same.
 pub fn equal_values_are_the_same()
     ensures { (a b : Value) → (value_equality.eq a b ≡ true) ↔ SameValue a b }
+{}
+
+/// Columns are equal by `==` exactly where all their parts are, and times where all their fields are.
+pub fn equal_columns_and_times_are_the_same()
+    ensures columns { (a b : Column) → (column_equality.eq a b ≡ true) ↔ (parts_of a ≡ parts_of b) }
+    ensures times { (a b : MysqlTime) → (time_equality.eq a b ≡ true) ↔ (a ≡ b) }
+{}
+
+/// Rows are equal by `==` exactly where their values are the same, one by one, and their columns have
+/// the same parts.
+pub fn equal_rows_are_the_same()
+    ensures { (a b : Row) → (row_equality.eq a b ≡ true)
+        ↔ (AllZip SameCell (values_of a) (values_of b) × (map parts_of (columns_of a) ≡ map parts_of (columns_of b))) }
 {}
 
 /// The time cell `7f ff fe f6` of two decimals: 1.1 seconds before zero.

@@ -6,23 +6,17 @@
 #![tactic(auto)]
 
 mod bits;
-mod column;
 mod fault;
 pub mod laws;
-mod packed;
-mod row;
-mod time;
-mod time_text;
-mod value;
+mod rows;
+mod times;
 
 pub use bits::{Bits, BitsIter};
-pub use column::Column;
 pub use fault::{JsonbError, RowsError};
-pub use packed::{
-    DATETIMEF_INT_OFS, TIMEF_INT_OFS, TIMEF_OFS, my_datetime_packed_from_binary,
-    my_packed_time_get_frac_part, my_packed_time_get_int_part, my_packed_time_make,
-    my_packed_time_make_int, my_time_packed_from_binary, my_timestamp_from_binary,
+pub use rows::{Column, Row, Value, datetime_from_packed, new_row_raw, time_from_packed};
+pub use times::{
+    DATETIMEF_INT_OFS, MysqlTime, MysqlTimestampType, TIMEF_INT_OFS, TIMEF_OFS, datetime_of,
+    fraction_size, my_datetime_packed_from_binary, my_packed_time_get_frac_part,
+    my_packed_time_get_int_part, my_packed_time_make, my_packed_time_make_int,
+    my_time_packed_from_binary, my_timestamp_from_binary, time_of, timestamp_of,
 };
-pub use row::{Row, new_row_raw};
-pub use time::{MysqlTime, MysqlTimestampType};
-pub use value::{Value, datetime_from_packed, time_from_packed};

@@ -1,0 +1,72 @@
+ghost use Rattle.std.specs.Prelude.{◌≡◌, option_copied, length, slice_get, IfOk, Option, Some, None};
+ghost use Rattle.std.specs.List.{AllZip};
+ghost use Rattle.std.specs.Rc.{rc_slice_items};
+ghost use Rattle.rows_values.specs.Rows.{values_of, value_at, columns_of, SameCell};
+
+use crate::rows::{Column, Value};
+use std::alloc::{AllocError, Global};
+use std::rc::RcSlice;
+
+/// A row: its columns, and for each of them a value, or None where there is no value.
+#[derive(Debug, PartialEq, Drop)]
+pub struct Row {
+    values: Vec<Option<Value>>,
+    columns: RcSlice<Column, Global>,
+}
+
+/// A row of these values and columns.
+pub fn new_row_raw(values: Vec<Option<Value>>, columns: RcSlice<Column, Global>) -> Row
+    ensures values { values_of result ≡ values.items }
+    ensures columns { columns_of result ≡ rc_slice_items columns }
+{
+    Row { values, columns }
+}
+
+impl Row {
+    /// How many places for values the row has, with those where there is none.
+    pub fn len(&self) -> usize
+        ensures { result ≡ length (values_of self.now) }
+    {
+        self.values.len()
+    }
+
+    /// The columns of the row.
+    pub fn columns_ref(&self) -> &[Column]
+        ensures { result.now ≡ columns_of self.now }
+    {
+        self.columns.as_slice()
+    }
+
+    /// The value at this index; None past the last, and where there is no value.
+    pub fn as_ref(&self, index: usize) -> Option<&Value>
+        ensures { option_copied result ≡ value_at (values_of self.now) index }
+    {
+        self.values.get(index)?.as_ref()
+    }
+
+    /// A row of the same values, in memory of their own, and of the same columns, which both rows
+    /// then have in common. Want of memory is refused.
+    pub fn clone(&self, alloc: Global) -> Result<Row, AllocError>
+        ensures values { IfOk result (λ copy. AllZip SameCell (values_of self.now) (values_of copy)) }
+        ensures columns { IfOk result (λ copy. columns_of copy ≡ columns_of self.now) }
+    {
+        let mut values = Vec::new(alloc);
+        for value in &self.values {
+            values.push(copy_of(value, alloc)?)?;
+        }
+        Ok(Row {
+            values,
+            columns: self.columns.clone()?,
+        })
+    }
+}
+
+/// The same value in memory of its own, or again none.
+fn copy_of(value: &Option<Value>, alloc: Global) -> Result<Option<Value>, AllocError>
+    ensures { IfOk result (λ copy. SameCell value.now copy) }
+{
+    match value {
+        Some(value) => Ok(Some(value.clone(alloc)?)),
+        None => Ok(None),
+    }
+}
