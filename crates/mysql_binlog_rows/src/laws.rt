@@ -4,8 +4,10 @@
 pub use rows_consts::laws::{numbers_are_distinct, orders_are_of_numbers, worked_numbers};
 pub use rows_decimal::laws::{
     numbers_in_order, only_zero_groups_are_dropped, packed_forms_are_uniquely_read,
-    packed_forms_are_unpacked, read_back, texts_are_taken_back, worked_decimals, worked_unpacking,
+    named_numbers, packed_forms_are_read_back, packed_forms_are_unpacked, texts_are_taken_back,
+    worked_decimals, worked_unpacking,
 };
 pub use rows_values::laws::{
-    equal_values_are_the_same, worked_bits, worked_date_and_time, worked_time,
+    equal_columns_and_times_are_the_same, equal_rows_are_the_same, equal_values_are_the_same,
+    worked_bits, worked_date_and_time, worked_time,
 };

@@ -6,7 +6,7 @@ use Rattle.std.specs.Ordering.{nat_cmp, ordering_then}
 use Rattle.std.specs.declared.cmp.Ordering.TheVariants.{Less, Equal, Greater}
 use Rattle.std.specs.Cmp.Lexicographic.{slice_cmp}
 use Rattle.rows_decimal.specs.Digits.{top_flipped, signed}
-use Rattle.rows_decimal.specs.Decimals.{value_of, packed_of}
+use Rattle.rows_decimal.specs.Decimals.{decimal_parts, packed_form_of}
 use Rattle.rows_decimal.specs.Steps.{sides_bytes}
 use Rattle.rows_decimal.specs.declared.fields.Decimal.{Decimal}
 use Rattle.rows_decimal.proofs.OrderLemmas.{self_equal}
@@ -74,7 +74,7 @@ top_same false (b ∷ y) (c ∷ z) h g =
 -- ---- packed forms
 
 pub one_sign : (n : Bool) (a b : Decimal) (x y : List ℕ) (o : Ordering) → a.negative ≡ n → b.negative ≡ n → x ≡ sides_bytes a.before.items a.after.items → y ≡ sides_bytes b.before.items b.after.items
-    → o ≡ slice_cmp nat_cmp (signed n x) (signed n y) → o ≡ slice_cmp nat_cmp (packed_of a) (packed_of b)
+    → o ≡ slice_cmp nat_cmp (signed n x) (signed n y) → o ≡ slice_cmp nat_cmp (packed_form_of a) (packed_form_of b)
 one_sign n a b x y o first second left right is =
     let v = sides_bytes a.before.items a.after.items in
     let w = sides_bytes b.before.items b.after.items in
@@ -83,19 +83,19 @@ one_sign n a b x y o first second left right is =
     ∙ ap (λ (m : Bool). slice_cmp nat_cmp (signed m (top_flipped v)) (signed n (top_flipped w))) (sym first)
     ∙ ap (λ (m : Bool). slice_cmp nat_cmp (signed a.negative (top_flipped v)) (signed m (top_flipped w))) (sym second)
 
-pub minus_less : (a b : Decimal) → a.negative ≡ true → b.negative ≡ false → Less ≡ slice_cmp nat_cmp (packed_of a) (packed_of b)
+pub minus_less : (a b : Decimal) → a.negative ≡ true → b.negative ≡ false → Less ≡ slice_cmp nat_cmp (packed_form_of a) (packed_form_of b)
 minus_less a b first second =
     let v = sides_bytes a.before.items a.after.items in
     let w = sides_bytes b.before.items b.after.items in
-    sym (mixed_less v w (sides_some (value_of a) a.some) (sides_some (value_of b) b.some) (sides_low a.before.items a.after.items a.before_are a.after_are) (sides_low b.before.items b.after.items b.before_are b.after_are))
+    sym (mixed_less v w (sides_some (decimal_parts a) a.some) (sides_some (decimal_parts b) b.some) (sides_low a.before.items a.after.items a.before_are a.after_are) (sides_low b.before.items b.after.items b.before_are b.after_are))
     ∙ ap (λ (m : Bool). slice_cmp nat_cmp (signed m (top_flipped v)) (top_flipped w)) (sym first)
     ∙ ap (λ (m : Bool). slice_cmp nat_cmp (signed a.negative (top_flipped v)) (signed m (top_flipped w))) (sym second)
 
-pub plus_greater : (a b : Decimal) → a.negative ≡ false → b.negative ≡ true → Greater ≡ slice_cmp nat_cmp (packed_of a) (packed_of b)
+pub plus_greater : (a b : Decimal) → a.negative ≡ false → b.negative ≡ true → Greater ≡ slice_cmp nat_cmp (packed_form_of a) (packed_form_of b)
 plus_greater a b first second =
     let v = sides_bytes a.before.items a.after.items in
     let w = sides_bytes b.before.items b.after.items in
-    sym (mixed_greater v w (sides_some (value_of a) a.some) (sides_some (value_of b) b.some) (sides_low a.before.items a.after.items a.before_are a.after_are) (sides_low b.before.items b.after.items b.before_are b.after_are))
+    sym (mixed_greater v w (sides_some (decimal_parts a) a.some) (sides_some (decimal_parts b) b.some) (sides_low a.before.items a.after.items a.before_are a.after_are) (sides_low b.before.items b.after.items b.before_are b.after_are))
     ∙ ap (λ (m : Bool). slice_cmp nat_cmp (signed m (top_flipped v)) (signed true (top_flipped w))) (sym first)
     ∙ ap (λ (m : Bool). slice_cmp nat_cmp (signed a.negative (top_flipped v)) (signed m (top_flipped w))) (sym second)
 

@@ -70,6 +70,7 @@ pub splits_before : (before after group rest : List ℕ) (n : ℕ) → AreDigits
     → group ≡ take n before → rest ≡ drop n before → SplitsGroup before after group rest after
 splits_before before after group rest n h g some which front back = record {
   few = omega (arith, size, nine);
+  whole = omega (arith, size, fits, ap length back, length-drop n before);
   group_are = subst AreDigits (sym front) (take_digits n before h);
   before_are = subst AreDigits (sym back) (drop_digits n before h);
   after_are = g;
@@ -105,6 +106,7 @@ pub splits_after : (before after group rest : List ℕ) (n : ℕ) → AreDigits 
     → group ≡ take n after → rest ≡ drop n after → SplitsGroup before after group before rest
 splits_after before after group rest n h g zeros which front back = record {
   few = omega (arith, size, nine);
+  whole = omega (arith, size, fits, ap length back, length-drop n after);
   group_are = subst AreDigits (sym front) (take_digits n after g);
   before_are = h;
   after_are = subst AreDigits (sym back) (drop_digits n after g);

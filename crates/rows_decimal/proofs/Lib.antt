@@ -15,3 +15,4 @@ pub mod PlaceLemmas
 pub mod TurnLemmas
 pub mod WriteLemmas
 pub mod PackedFrontLemmas
+pub mod Computed

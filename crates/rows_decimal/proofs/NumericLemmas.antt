@@ -12,7 +12,7 @@ use Rattle.byteorder.specs.Endian.{big_from}
 use Rattle.byteorder.specs.Numbers.{big_from-cons, big_from-lt}
 use Rattle.wire_buf.specs.Spelling.{AreBytes}
 use Rattle.rows_decimal.specs.Digits.{AreDigits, group_size, side_size, group_bytes, nines_bytes, before_bytes, after_bytes, top_flipped, signed}
-use Rattle.rows_decimal.specs.Decimals.{Value, packed, digits_number, number_cmp, IsPacked}
+use Rattle.rows_decimal.specs.Decimals.{DecimalParts, packed_form, digits_number, number_cmp, IsPacked}
 use Rattle.rows_decimal.proofs.GroupLemmas.{take_digits, drop_digits, append_digits, number_bound, fits_group}
 use Rattle.rows_decimal.proofs.TakingLemmas.{length-group, length-nines, number_of_bytes, nine_long, take_parts}
 use Rattle.rows_decimal.proofs.UnpackLemmas.{before_of, after_of, group_are_bytes, sides_low, sides_are_bytes, top_bytes, length-before, length-after}
@@ -219,11 +219,11 @@ after_cmp n ds es a b h g =
 
 -- ---- the order of packed forms
 
-sides : Value → List ℕ
+sides : DecimalParts → List ℕ
 sides v = before_bytes v.before ++ after_bytes v.after
 
 -- as many digits before and after the point, which are digits
-pub record AreAlike (v w : Value) : Type 0 where
+pub record AreAlike (v w : DecimalParts) : Type 0 where
   pub before_size : length v.before ≡ length w.before
   pub after_size : length v.after ≡ length w.after
   pub v_before : AreDigits v.before
@@ -231,14 +231,14 @@ pub record AreAlike (v w : Value) : Type 0 where
   pub w_before : AreDigits w.before
   pub w_after : AreDigits w.after
 
-digits_alike : (v w : Value) → AreAlike v w → slice_cmp nat_cmp (v.before ++ v.after) (w.before ++ w.after) ≡ nat_cmp (digits_number v) (digits_number w)
+digits_alike : (v w : DecimalParts) → AreAlike v w → slice_cmp nat_cmp (v.before ++ v.after) (w.before ++ w.after) ≡ nat_cmp (digits_number v) (digits_number w)
 digits_alike v w a =
     let b_size = a.before_size in
     let a_size = a.after_size in
     let long : length (v.before ++ v.after) ≡ length (w.before ++ w.after) = omega (arith, length-append v.before v.after, length-append w.before w.after, b_size, a_size) in
     digits_cmp (v.before ++ v.after) (w.before ++ w.after) long (append_digits v.before v.after a.v_before a.v_after) (append_digits w.before w.after a.w_before a.w_after)
 
-sides_cmp : (v w : Value) → AreAlike v w → slice_cmp nat_cmp (sides v) (sides w) ≡ nat_cmp (digits_number v) (digits_number w)
+sides_cmp : (v w : DecimalParts) → AreAlike v w → slice_cmp nat_cmp (sides v) (sides w) ≡ nat_cmp (digits_number v) (digits_number w)
 unfolding sides
 sides_cmp v w a =
     let fronts : length (before_bytes v.before) ≡ length (before_bytes w.before) = length-before v.before ∙ ap side_size a.before_size ∙ sym (length-before w.before) in
@@ -250,7 +250,7 @@ sides_cmp v w a =
     ∙ sym (cmp_append v.before w.before v.after w.after b_size)
     ∙ digits_alike v w a
 
-sides_long : (v w : Value) → AreAlike v w → length (sides v) ≡ length (sides w)
+sides_long : (v w : DecimalParts) → AreAlike v w → length (sides v) ≡ length (sides w)
 unfolding sides
 sides_long v w a =
     let before = length-before v.before ∙ ap side_size a.before_size ∙ sym (length-before w.before) in
@@ -317,13 +317,13 @@ side_some n h = elim (leb_tells 1 (n % 9)) [
   | inr t ↦ omega (arith, t.1, h)
 ]
 
-pub sides_some : (v : Value) → 0 < length v.before + length v.after → 0 < length (before_bytes v.before ++ after_bytes v.after)
+pub sides_some : (v : DecimalParts) → 0 < length v.before + length v.after → 0 < length (before_bytes v.before ++ after_bytes v.after)
 sides_some v some = elim (leb_tells 1 (length v.before)) [
   | inl t ↦ omega (arith, side_some (length v.before) t.1, length-before v.before, length-append (before_bytes v.before) (after_bytes v.after))
   | inr t ↦ omega (arith, side_some (length v.after) (omega (arith, t.1, some)), length-after v.after, length-append (before_bytes v.before) (after_bytes v.after))
 ]
 
-turned_around : (v w : Value) → AreAlike v w → AreAlike w v
+turned_around : (v w : DecimalParts) → AreAlike v w → AreAlike w v
 turned_around v w a = record {
   before_size = sym a.before_size;
   after_size = sym a.after_size;
@@ -333,14 +333,14 @@ turned_around v w a = record {
   w_after = a.v_after;
 }
 
-packed_in_order : (v w : Value) → AreAlike v w → 0 < length v.before + length v.after → slice_cmp nat_cmp (packed v) (packed w) ≡ number_cmp v.negative (digits_number v) w.negative (digits_number w)
+packed_in_order : (v w : DecimalParts) → AreAlike v w → 0 < length v.before + length v.after → slice_cmp nat_cmp (packed_form v) (packed_form w) ≡ number_cmp v.negative (digits_number v) w.negative (digits_number w)
 unfolding sides
 packed_in_order v w a some =
     signed_cmp v.negative w.negative (sides v) (sides w) (digits_number v) (digits_number w) (sides_long v w a) (sides_some v some) (sides_are_bytes v.before v.after) (sides_are_bytes w.before w.after)
     (sides_low v.before v.after a.v_before a.v_after) (sides_low w.before w.after a.w_before a.w_after) (sides_cmp v w a) (sides_cmp w v (turned_around v w a))
 
 -- the same of packed forms of so many digits
-pub packs_in_order : (before after : ℕ) (v w : Value) (a b : List ℕ) → 0 < before + after → IsPacked before after v a → IsPacked before after w b
+pub packs_in_order : (before after : ℕ) (v w : DecimalParts) (a b : List ℕ) → 0 < before + after → IsPacked before after v a → IsPacked before after w b
     → slice_cmp nat_cmp a b ≡ number_cmp v.negative (digits_number v) w.negative (digits_number w)
 packs_in_order before after v w a b some p q =
     let alike : AreAlike v w = record {
@@ -352,4 +352,4 @@ packs_in_order before after v w a b some p q =
       w_after = q.after_are;
     } in
     let v_some : 0 < length v.before + length v.after = subst (λ k. 0 < k + length v.after) (sym p.before_size) (subst (λ k. 0 < before + k) (sym p.after_size) some) in
-    ap (λ (l : List ℕ). slice_cmp nat_cmp l b) (sym p.bytes_are) ∙ ap (λ (l : List ℕ). slice_cmp nat_cmp (packed v) l) (sym q.bytes_are) ∙ packed_in_order v w alike v_some
+    ap (λ (l : List ℕ). slice_cmp nat_cmp l b) (sym p.bytes_are) ∙ ap (λ (l : List ℕ). slice_cmp nat_cmp (packed_form v) l) (sym q.bytes_are) ∙ packed_in_order v w alike v_some

@@ -7,7 +7,7 @@ use Rattle.std.proofs.lemmas.Result.{IfOk-weaker, IfErr-weaker}
 use Rattle.rows_values.specs.declared.fault.RowsError.{RowsError}
 use Rattle.rows_values.specs.declared.fault.RowsError.TheVariants.{EndOfBody, Decimal as BadDecimal, Memory}
 use Rattle.rows_decimal.specs.declared.fields.Decimal.{Decimal}
-use Rattle.rows_decimal.specs.Decimals.{packed_size, value_of}
+use Rattle.rows_decimal.specs.Decimals.{packed_size, decimal_parts}
 use Rattle.rows_decimal.specs.Unpacked.{unpacked, kept_of, packed_value, packed_fault}
 use Rattle.rows_decimal.proofs.UnpackedLemmas.{unpacked_past, unpacked_other}
 
@@ -61,9 +61,9 @@ front_is bytes part p s size some a b is e =
     ∙ ap (λ k. unpacked p k (take (packed_size (p - k) k) (drop 2 bytes))) (sym b) ∙ ap (λ k. unpacked p s (take k (drop 2 bytes))) (sym is) ∙ ap (unpacked p s) (sym e)
 
 pub front_ok : (keep : Bool) (bytes part : List ℕ) (p s size : ℕ) (r : Result Decimal RowsError) → 2 ≤ length bytes → p ≡ slice_index bytes 0 → s ≡ slice_index bytes 1 → size ≡ packed_size (p - s) s → part ≡ take size (drop 2 bytes)
-    → IfOk r (λ d. kept_of keep (unpacked p s part) ≡ Some (value_of d)) → IfOk r (λ d. kept_of keep (packed_value bytes) ≡ Some (value_of d))
+    → IfOk r (λ d. kept_of keep (unpacked p s part) ≡ Some (decimal_parts d)) → IfOk r (λ d. kept_of keep (packed_value bytes) ≡ Some (decimal_parts d))
 front_ok keep bytes part p s size r some a b is e h =
-    IfOk-weaker r (λ d. kept_of keep (unpacked p s part) ≡ Some (value_of d)) (λ d. kept_of keep (packed_value bytes) ≡ Some (value_of d)) (λ d q. ap (kept_of keep) (front_is bytes part p s size some a b is e) ∙ q) h
+    IfOk-weaker r (λ d. kept_of keep (unpacked p s part) ≡ Some (decimal_parts d)) (λ d. kept_of keep (packed_value bytes) ≡ Some (decimal_parts d)) (λ d q. ap (kept_of keep) (front_is bytes part p s size some a b is e) ∙ q) h
 
 pub front_err : (bytes part : List ℕ) (p s size : ℕ) (r : Result Decimal RowsError) → 2 ≤ length bytes → p ≡ slice_index bytes 0 → s ≡ slice_index bytes 1 → s ≤ p → size ≡ packed_size (p - s) s → size ≤ length (drop 2 bytes)
     → part ≡ take size (drop 2 bytes) → IfErr r (λ e. e ≡ Memory ⊎ ((e ≡ BadDecimal) × (unpacked p s part ≡ None))) → IfErr r (λ e. e ≡ Memory ⊎ ((e ≡ packed_fault bytes) × (packed_value bytes ≡ None)))

@@ -8,7 +8,7 @@ use Rattle.rows_values.specs.declared.fault.RowsError.{RowsError}
 use Rattle.rows_values.specs.declared.fault.RowsError.TheVariants.{Decimal as BadDecimal, Memory}
 use Rattle.rows_values.specs.Faults.{rows_error}
 use Rattle.rows_decimal.specs.declared.fields.Decimal.{Decimal}
-use Rattle.rows_decimal.specs.Decimals.{value_of, packed_size, Unpacks, NonePacked, ReadsDecimal, FailsDecimal, IsDecimalCause, ordered, ReadsPacked, FailsPacked, early, behind}
+use Rattle.rows_decimal.specs.Decimals.{decimal_parts, packed_size, Unpacks, NonePacked, ReadsDecimal, FailsDecimal, IsDecimalCause, ordered, ReadsPacked, FailsPacked, early, behind}
 
 -- the exit of a `?` whose fault becomes this one
 pub exit_same : {T E : Type 0} (r : Result T E) (e : E) (P : E → Type 0) → IsErr r × IsErrAnd r (λ y. y ≡ e) → P e → IfErr r P
@@ -19,11 +19,11 @@ consumes_none None = tt
 consumes_none (Some xs) = refl
 
 pub read_ok : (keep : Bool) (precision scale : ℕ) (before bytes : List ℕ) (old new : Option (List ℕ)) (r : Result Decimal RowsError) → scale ≤ precision → before ≡ []
-    → Gathers (packed_size (precision - scale) scale) old new before bytes → IfOk r (λ d. Unpacks keep (precision - scale) scale (value_of d) bytes) → IfOk r (λ d. ReadsDecimal keep precision scale (value_of d) old new)
+    → Gathers (packed_size (precision - scale) scale) old new before bytes → IfOk r (λ d. Unpacks keep (precision - scale) scale (decimal_parts d) bytes) → IfOk r (λ d. ReadsDecimal keep precision scale (decimal_parts d) old new)
 read_ok keep precision scale before bytes old new r at_most none g h =
     let all : bytes ≡ g.taken = g.appended ∙ ap (λ l. l ++ g.taken) none in
-    IfOk-weaker r (λ d. Unpacks keep (precision - scale) scale (value_of d) bytes) (λ d. ReadsDecimal keep precision scale (value_of d) old new)
-    (λ d u. record { ordered = at_most; taken = g.taken; consumed = g.consumed; unpacked = subst (Unpacks keep (precision - scale) scale (value_of d)) all u }) h
+    IfOk-weaker r (λ d. Unpacks keep (precision - scale) scale (decimal_parts d) bytes) (λ d. ReadsDecimal keep precision scale (decimal_parts d) old new)
+    (λ d u. record { ordered = at_most; taken = g.taken; consumed = g.consumed; unpacked = subst (Unpacks keep (precision - scale) scale (decimal_parts d)) all u }) h
 
 pub read_err : (precision scale : ℕ) (before bytes : List ℕ) (old new : Option (List ℕ)) (r : Result Decimal RowsError) → scale ≤ precision → before ≡ []
     → Gathers (packed_size (precision - scale) scale) old new before bytes → IfErr r (λ e. e ≡ Memory ⊎ ((e ≡ BadDecimal) × NonePacked (precision - scale) scale bytes)) → IfErr r (λ e. FailsDecimal precision scale e old new)
@@ -76,10 +76,10 @@ two_taken sizes p s old middle two first second taken =
     subst (Consumes old middle) (pair_of sizes two ∙ ap (λ k. k ∷ get_or sizes 1 0 ∷ []) (sym first) ∙ ap (λ k. p ∷ k ∷ []) (sym second)) taken
 
 pub packed_ok : (keep : Bool) (precision scale p s : ℕ) (old middle new : Option (List ℕ)) (r : Result Decimal RowsError) → p ≡ precision → s ≡ scale → Consumes old middle (p ∷ s ∷ [])
-    → IfOk r (λ d. ReadsDecimal keep precision scale (value_of d) middle new) → IfOk r (λ d. ReadsPacked keep (value_of d) old new)
+    → IfOk r (λ d. ReadsDecimal keep precision scale (decimal_parts d) middle new) → IfOk r (λ d. ReadsPacked keep (decimal_parts d) old new)
 packed_ok keep precision scale p s old middle new r a b taken h =
     let two : Consumes old middle (precision ∷ scale ∷ []) = subst (Consumes old middle) (ap (λ k. k ∷ s ∷ []) a ∙ ap (λ k. precision ∷ k ∷ []) b) taken in
-    IfOk-weaker r (λ d. ReadsDecimal keep precision scale (value_of d) middle new) (λ d. ReadsPacked keep (value_of d) old new)
+    IfOk-weaker r (λ d. ReadsDecimal keep precision scale (decimal_parts d) middle new) (λ d. ReadsPacked keep (decimal_parts d) old new)
     (λ d reads. record { precision = precision; scale = scale; middle = middle; consumed = two; reads = reads }) h
 
 pub packed_err : (precision scale p s : ℕ) (old middle new : Option (List ℕ)) (r : Result Decimal RowsError) → p ≡ precision → s ≡ scale → Consumes old middle (p ∷ s ∷ [])

@@ -15,8 +15,8 @@ use Rattle.byteorder.specs.Numbers.{big_from-cons, big_from-lt, big_number-reads
 use Rattle.wire_buf.specs.Spelling.{AreBytes}
 use Rattle.rows_values.specs.declared.fault.RowsError.{RowsError}
 use Rattle.rows_values.specs.declared.fault.RowsError.TheVariants.{Decimal as BadDecimal, Memory}
-use Rattle.rows_decimal.specs.Digits.{AreDigits, group_size, group_bytes, nines_bytes}
-use Rattle.rows_decimal.specs.Steps.{Gains, NoDigits, digits_in}
+use Rattle.rows_decimal.specs.Digits.{AreDigits, group_size, group_bytes, nines_bytes, digits_in}
+use Rattle.rows_decimal.specs.Steps.{Gains, NoDigits}
 use Rattle.rows_decimal.proofs.GroupLemmas.{take_digits, drop_digits, append_digits, number_bound, fits_group, nines_more, nines_append}
 
 -- ---- the last digits of a number

@@ -5,7 +5,7 @@ use Rattle.std.specs.Prelude.{◌&&◌, not}
 use Rattle.std.specs.List.{prefix_len, list_all, before_first, after_first, position_or_len}
 use Rattle.std.specs.Char.{is_ascii_digit}
 use Rattle.rows_decimal.specs.Digits.{AreDigits}
-use Rattle.rows_decimal.specs.Decimals.{Value, only_zeros}
+use Rattle.rows_decimal.specs.Decimals.{DecimalParts, only_zeros}
 use Rattle.rows_decimal.specs.Texts.{glyphs, significant, whole_text, fraction_text, sign_text, decimal_text, one_zero, has_minus, behind_sign, digits_of, are_zeros, is_spelled, spelled, text_value, shown_digits, shown_value}
 use Rattle.rows_decimal.proofs.GroupLemmas.{drop_digits}
 
@@ -116,17 +116,17 @@ some_glyph w a (inl e) = rw e (positive (1 + length (glyphs a)) (omega arith))
 some_glyph w a (inr q) = rw q.2 (positive (suc (length (glyphs q.1)) + length (glyphs a)) (omega arith))
 
 spelled_back : (n : Bool) (w a : List ℕ) → First w → AreDigits w → AreDigits a
-    → spelled n (glyphs w) (glyphs a) ≡ Some (let v : Value = record { negative = n && not (only_zeros w && only_zeros a); before = w; after = a } in v)
+    → spelled n (glyphs w) (glyphs a) ≡ Some (let v : DecimalParts = record { negative = n && not (only_zeros w && only_zeros a); before = w; after = a } in v)
 unfolding spelled is_spelled
 spelled_back n w a f h g =
     rw (some_glyph w a f, all_ascii w h, all_ascii a g)
-    (ap (λ (b : Bool). Some (let v : Value = record { negative = n && not (b && are_zeros (glyphs a)); before = digits_of (glyphs w); after = digits_of (glyphs a) } in v)) (zeros_back w)
-    ∙ ap (λ (b : Bool). Some (let v : Value = record { negative = n && not (only_zeros w && b); before = digits_of (glyphs w); after = digits_of (glyphs a) } in v)) (zeros_back a)
-    ∙ ap (λ (l : List ℕ). Some (let v : Value = record { negative = n && not (only_zeros w && only_zeros a); before = l; after = digits_of (glyphs a) } in v)) (digits_back w)
-    ∙ ap (λ (l : List ℕ). Some (let v : Value = record { negative = n && not (only_zeros w && only_zeros a); before = w; after = l } in v)) (digits_back a))
+    (ap (λ (b : Bool). Some (let v : DecimalParts = record { negative = n && not (b && are_zeros (glyphs a)); before = digits_of (glyphs w); after = digits_of (glyphs a) } in v)) (zeros_back w)
+    ∙ ap (λ (b : Bool). Some (let v : DecimalParts = record { negative = n && not (only_zeros w && b); before = digits_of (glyphs w); after = digits_of (glyphs a) } in v)) (zeros_back a)
+    ∙ ap (λ (l : List ℕ). Some (let v : DecimalParts = record { negative = n && not (only_zeros w && only_zeros a); before = l; after = digits_of (glyphs a) } in v)) (digits_back w)
+    ∙ ap (λ (l : List ℕ). Some (let v : DecimalParts = record { negative = n && not (only_zeros w && only_zeros a); before = w; after = l } in v)) (digits_back a))
 
 taken_back : (n : Bool) (w a : List ℕ) → First w → AreDigits w → AreDigits a
-    → text_value (sign_text n ++ (glyphs w ++ fraction_text a)) ≡ Some (let v : Value = record { negative = n && not (only_zeros w && only_zeros a); before = w; after = a } in v)
+    → text_value (sign_text n ++ (glyphs w ++ fraction_text a)) ≡ Some (let v : DecimalParts = record { negative = n && not (only_zeros w && only_zeros a); before = w; after = a } in v)
 unfolding text_value
 taken_back n w a f h g =
     let p : ℕ → Bool = λ c. eqb c 46 in
@@ -137,7 +137,7 @@ taken_back n w a f h g =
     ∙ ap (λ b. spelled n (glyphs w) b) (after_is w a)
     ∙ spelled_back n w a f h g
 
-pub text_back : (v : Value) → AreDigits v.before → AreDigits v.after → text_value (decimal_text v) ≡ Some (shown_value v)
+pub text_back : (v : DecimalParts) → AreDigits v.before → AreDigits v.after → text_value (decimal_text v) ≡ Some (shown_value v)
 text_back v h g =
     ap (λ l. text_value (sign_text v.negative ++ (l ++ fraction_text v.after))) (whole_is v.before)
     ∙ taken_back v.negative (shown_digits v.before) v.after (shown_first v.before) (shown_are v.before h) g

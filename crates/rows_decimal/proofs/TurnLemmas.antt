@@ -1,12 +1,13 @@
 -- Numbers of groups from packed bytes, with the sign and the top bit undone on the number.
 use Rattle.std.proofs.Common.{◌≡◌, ◌≤◌, ◌<◌, ◌+◌, ◌*◌, ◌-◌, Bool, true, false, eqb, ℕ, zero, suc, List, [], ◌∷◌, length, take, drop, map, inl, inr, arith, refl, sym, ap, subst, ◌∙◌}
 use Rattle.std.specs.Prelude.{slice_range, slice_index_or, ◌&&◌}
-use Rattle.std.proofs.lemmas.List.{take-map, drop-map}
+use Rattle.std.proofs.lemmas.List.{take-map, drop-map, length-take-le}
 use Rattle.std.proofs.lemmas.Bool.Decides.{eqb_tells}
 use Rattle.byteorder.specs.Endian.{big_number}
 use Rattle.wire_buf.specs.Spelling.{AreBytes}
 use Rattle.rows_decimal.specs.Digits.{top_flipped, signed}
 use Rattle.rows_decimal.specs.TextSteps.{turned}
+use Rattle.rows_decimal.proofs.UnpackLemmas.{top_bytes}
 use Rattle.rows_decimal.proofs.UnpackedLemmas.{signed_are, length-top, length-signed}
 
 -- the number in all of the bytes
@@ -146,3 +147,35 @@ number_rest negative top first w bytes rest n is flag e =
 pub rest_turned : (negative top : Bool) (s g : ℕ) (bytes rest : List ℕ) → s ≡ g → rest ≡ drop s bytes → top ≡ eqb g 0 → drop g (turned negative true bytes) ≡ turned negative top rest
 rest_turned negative top s g bytes rest size is flag =
     drop-turned g negative true bytes ∙ ap (λ b. turned negative b (drop g bytes)) (sym flag) ∙ ap (λ k. turned negative top (drop k bytes)) (sym size) ∙ ap (turned negative top) (sym is)
+
+-- ---- groups of turned bytes
+
+pub turned_are : (negative top : Bool) (xs : List ℕ) → AreBytes xs → AreBytes (turned negative top xs)
+turned_are negative true xs h = top_bytes (signed negative xs) (signed_are negative xs h)
+turned_are negative false xs h = signed_are negative xs h
+
+-- a group of four bytes
+pub nine_turned : (negative top first : Bool) (i : ℕ) (xs : List ℕ) → first ≡ (top && eqb i 0)
+    → turned negative first (slice_range xs (4 * i) (4 * i + 4)) ≡ slice_range (turned negative top xs) (4 * i) (4 * i + 4)
+nine_turned negative top first i xs flag =
+    let four : 4 * i + 4 - 4 * i ≡ 4 = omega arith in
+    let this : first ≡ (top && eqb (4 * i) 0) = flag ∙ ap (λ b. top && b) (sym (four_none i)) in
+    sym (ap (take (4 * i + 4 - 4 * i)) (drop-turned (4 * i) negative top xs) ∙ take-turned (4 * i + 4 - 4 * i) negative (top && eqb (4 * i) 0) (drop (4 * i) xs)
+    ∙ ap (λ b. turned negative b (take (4 * i + 4 - 4 * i) (drop (4 * i) xs))) (sym this))
+
+-- the bytes in front
+pub front_turned : (negative top : Bool) (s : ℕ) (bytes front : List ℕ) → front ≡ take s bytes → turned negative top front ≡ take s (turned negative top bytes)
+front_turned negative top s bytes front is = ap (turned negative top) is ∙ sym (take-turned s negative top bytes)
+
+-- the bytes behind the groups of nine
+pub back_turned : (negative top first : Bool) (w : ℕ) (bytes back : List ℕ) → back ≡ drop (4 * w) bytes → first ≡ (top && eqb w 0) → turned negative first back ≡ drop (4 * w) (turned negative top bytes)
+back_turned negative top first w bytes back is flag =
+    let this : first ≡ (top && eqb (4 * w) 0) = flag ∙ ap (λ b. top && b) (sym (four_none w)) in
+    ap (turned negative first) is ∙ ap (λ b. turned negative b (drop (4 * w) bytes)) this ∙ sym (drop-turned (4 * w) negative top bytes)
+
+-- the bytes behind the first ones, where `top` says that there are no first ones
+pub behind_turned : (negative top : Bool) (s : ℕ) (bytes front back : List ℕ) → front ≡ take s bytes → back ≡ drop s bytes → s ≤ length bytes → top ≡ eqb (length front) 0 → turned negative top back ≡ drop s (turned negative true bytes)
+behind_turned negative top s bytes front back is behind room flag =
+    let long : length front ≡ s = ap length is ∙ length-take-le s bytes room in
+    let this : top ≡ eqb s 0 = flag ∙ ap (λ k. eqb k 0) long in
+    ap (turned negative top) behind ∙ ap (λ b. turned negative b (drop s bytes)) this ∙ sym (drop-turned s negative true bytes)

@@ -9,9 +9,9 @@ use Rattle.std.specs.Int.Digits.{number_from_digits}
 use Rattle.byteorder.specs.Endian.{big_from}
 use Rattle.wire_buf.specs.Spelling.{AreBytes}
 use Rattle.std.specs.Prelude.{if◌then◌else◌}
-use Rattle.rows_decimal.specs.Digits.{AreDigits, group_size, side_size, group_bytes, nines_bytes, before_bytes, after_bytes, top_flipped, signed}
-use Rattle.rows_decimal.specs.Steps.{Gains, NoDigits, has_minus_bit}
-use Rattle.rows_decimal.specs.Decimals.{Value, Unpacks, IsPacked, NonePacked, some_digit, without_zero_groups}
+use Rattle.rows_decimal.specs.Digits.{AreDigits, group_size, side_size, group_bytes, nines_bytes, before_bytes, after_bytes, top_flipped, signed, has_minus_bit}
+use Rattle.rows_decimal.specs.Steps.{Gains, NoDigits}
+use Rattle.rows_decimal.specs.Decimals.{DecimalParts, Unpacks, IsPacked, NonePacked, some_digit, without_zero_groups}
 use Rattle.rows_decimal.proofs.GroupLemmas.{take_digits, drop_digits, append_digits, number_bound, fits_group, nines_append}
 use Rattle.rows_decimal.proofs.ZeroLemmas.{groups_dropped}
 use Rattle.rows_decimal.proofs.TakingLemmas.{length-group, length-nines, are_bytes, group_none}
@@ -244,7 +244,7 @@ length-before ds =
     let m : length (nines_bytes (n / 9) (drop (n % 9) ds)) ≡ 4 * (n / 9) = length-nines (n / 9) (drop (n % 9) ds) (omega (arith, length-drop (n % 9) ds)) in
     omega (arith, length-append (group_bytes (take (n % 9) ds)) (nines_bytes (n / 9) (drop (n % 9) ds)), g, m)
 
-pub unpacks : (keep neg : Bool) (before after s : ℕ) (bytes x whole fraction short : List ℕ) (d : Value) → AreBytes bytes → x ≡ top_flipped (signed neg bytes)
+pub unpacks : (keep neg : Bool) (before after s : ℕ) (bytes x whole fraction short : List ℕ) (d : DecimalParts) → AreBytes bytes → x ≡ top_flipped (signed neg bytes)
     → Gains before_bytes before (take s x) [] whole → Gains after_bytes after (drop s x) [] fraction
     → short ≡ (if keep then whole else without_zero_groups whole) → d ≡ some_digit (record { negative = neg; before = short; after = fraction }) → Unpacks keep before after d bytes
 unpacks keep neg before after s bytes x whole fraction short d are plain a b cut made = record {
@@ -257,12 +257,12 @@ unpacks keep neg before after s bytes x whole fraction short d are plain a b cut
     bytes_are = ap (λ l. signed neg (top_flipped (l ++ after_bytes b.digits))) a.bytes_are ∙ ap (λ l. signed neg (top_flipped (take s x ++ l))) b.bytes_are
         ∙ ap (λ l. signed neg (top_flipped l)) (take-append-drop s x) ∙ plain_packs neg bytes x are plain;
   };
-  made = made ∙ ap (λ (l : List ℕ). let v : Value = record { negative = neg; before = l; after = fraction } in some_digit v) (cut ∙ ap (λ (l : List ℕ). if keep then l else without_zero_groups l) a.appended)
-      ∙ ap (λ (l : List ℕ). let v : Value = record { negative = neg; before = if keep then a.digits else without_zero_groups a.digits; after = l } in some_digit v) b.appended;
+  made = made ∙ ap (λ (l : List ℕ). let v : DecimalParts = record { negative = neg; before = l; after = fraction } in some_digit v) (cut ∙ ap (λ (l : List ℕ). if keep then l else without_zero_groups l) a.appended)
+      ∙ ap (λ (l : List ℕ). let v : DecimalParts = record { negative = neg; before = if keep then a.digits else without_zero_groups a.digits; after = l } in some_digit v) b.appended;
 }
 
 -- what was packed is what is turned back
-pub plain_of : (neg : Bool) (bytes x : List ℕ) (before after : ℕ) (v : Value) → neg ≡ has_minus_bit bytes → x ≡ top_flipped (signed neg bytes) → IsPacked before after v bytes
+pub plain_of : (neg : Bool) (bytes x : List ℕ) (before after : ℕ) (v : DecimalParts) → neg ≡ has_minus_bit bytes → x ≡ top_flipped (signed neg bytes) → IsPacked before after v bytes
     → x ≡ before_bytes v.before ++ after_bytes v.after
 plain_of neg bytes x before after v sign plain p =
     let y = before_bytes v.before ++ after_bytes v.after in

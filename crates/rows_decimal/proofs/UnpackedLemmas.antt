@@ -11,9 +11,9 @@ use Rattle.std.proofs.lemmas.List.{length-take-le, length-drop, append-nil, take
 use Rattle.std.proofs.Math.Seq.{take-length}
 use Rattle.byteorder.specs.Endian.{big_number}
 use Rattle.wire_buf.specs.Spelling.{AreBytes}
-use Rattle.rows_decimal.specs.Digits.{AreDigits, group_size, side_size, group_bytes, nines_bytes, before_bytes, after_bytes, top_flipped, signed}
-use Rattle.rows_decimal.specs.Steps.{Gains, NoDigits, digits_in, has_minus_bit}
-use Rattle.rows_decimal.specs.Decimals.{Value, packed_size, IsPacked, NonePacked, Unpacks, kept, value_of}
+use Rattle.rows_decimal.specs.Digits.{AreDigits, group_size, side_size, group_bytes, nines_bytes, before_bytes, after_bytes, top_flipped, signed, digits_in, has_minus_bit}
+use Rattle.rows_decimal.specs.Steps.{Gains, NoDigits}
+use Rattle.rows_decimal.specs.Decimals.{DecimalParts, packed_size, IsPacked, NonePacked, Unpacks, kept, decimal_parts, packed_form}
 use Rattle.rows_decimal.specs.Unpacked.{joined, places, group_digits, nines_digits, before_digits, after_digits, valued, plain_bytes, sides_value, unpacked, kept_of}
 use Rattle.rows_decimal.proofs.TakingLemmas.{group_gains, group_none, nines_gain_none, nines_gain_more, nines_lack, fault_because}
 use Rattle.rows_decimal.proofs.UnpackLemmas.{before_gains, before_lacks_first, before_lacks_rest, after_gains, after_lacks_first, after_lacks_rest, plain_packs, lacks_before, lacks_after, top_bytes, sides_are_bytes}
@@ -157,8 +157,8 @@ after_lacks n bytes long e =
 
 -- ---- the whole
 
-valued_some : (negative : Bool) (a b : Option (List ℕ)) (v : Value) → valued negative a b ≡ Some v
-    → (x : List ℕ) × (y : List ℕ) × (a ≡ Some x) × (b ≡ Some y) × ((let w : Value = record { negative = negative; before = x; after = y } in w) ≡ v)
+valued_some : (negative : Bool) (a b : Option (List ℕ)) (v : DecimalParts) → valued negative a b ≡ Some v
+    → (x : List ℕ) × (y : List ℕ) × (a ≡ Some x) × (b ≡ Some y) × ((let w : DecimalParts = record { negative = negative; before = x; after = y } in w) ≡ v)
 valued_some negative None b v e = absurd (none-some v e)
 valued_some negative (Some x) None v e = absurd (none-some v e)
 valued_some negative (Some x) (Some y) v e = (x, y, refl, refl, same_Some _ v e)
@@ -191,7 +191,7 @@ signed_are false xs h = h
 pub plain_are : (bytes : List ℕ) → AreBytes bytes → AreBytes (plain_bytes bytes)
 plain_are bytes h = top_bytes (signed (has_minus_bit bytes) bytes) (signed_are (has_minus_bit bytes) bytes h)
 
-sides_found : (before after : ℕ) (v : Value) (bytes : List ℕ) → length bytes ≡ packed_size before after → AreBytes bytes
+sides_found : (before after : ℕ) (v : DecimalParts) (bytes : List ℕ) → length bytes ≡ packed_size before after → AreBytes bytes
     → sides_value (has_minus_bit bytes) before after (plain_bytes bytes) ≡ Some v → IsPacked before after v bytes
 sides_found before after v bytes long are e =
     let neg = has_minus_bit bytes in
@@ -201,7 +201,7 @@ sides_found before after v bytes long are e =
     let p = valued_some neg (before_digits before (take s x)) (after_digits after (drop s x)) v e in
     let a = before_found before (take s x) p.0 (length-take-le s x (omega (arith, size, long))) (take_bytes s x (plain_are bytes are)) p.2 in
     let b = after_found after (drop s x) p.1 (omega (arith, size, long, length-drop s x)) (drop_bytes s x (plain_are bytes are)) p.3 in
-    let w : Value = record { negative = neg; before = p.0; after = p.1 } in
+    let w : DecimalParts = record { negative = neg; before = p.0; after = p.1 } in
     let front : p.0 ≡ a.digits = a.appended in
     let back : p.1 ≡ b.digits = b.appended in
     let is : IsPacked before after w bytes = record {
@@ -213,7 +213,7 @@ sides_found before after v bytes long are e =
           ∙ ap (λ l. signed neg (top_flipped (l ++ after_bytes b.digits))) a.bytes_are ∙ ap (λ l. signed neg (top_flipped (take s x ++ l))) b.bytes_are
           ∙ ap (λ l. signed neg (top_flipped l)) (take-append-drop s x) ∙ plain_packs neg bytes x are refl;
     } in
-    subst (λ (u : Value). IsPacked before after u bytes) p.4 is
+    subst (λ (u : DecimalParts). IsPacked before after u bytes) p.4 is
 
 sides_lack : (before after : ℕ) (bytes : List ℕ) → length bytes ≡ packed_size before after → sides_value (has_minus_bit bytes) before after (plain_bytes bytes) ≡ None → NonePacked before after bytes
 sides_lack before after bytes long e =
@@ -255,8 +255,8 @@ unpacked_other precision scale bytes other = elim (leb_tells (suc precision) sca
 
 -- ---- the law
 
-pub unpacked_is : (precision scale : ℕ) (v : Value) (bytes : List ℕ) → AreBytes bytes → unpacked precision scale bytes ≡ Some v → (scale ≤ precision) × IsPacked (precision - scale) scale v bytes
-unpacked_is precision scale v bytes are e = elim (leb_tells (suc precision) scale) [
+pub unpacked-sound : (precision scale : ℕ) (v : DecimalParts) (bytes : List ℕ) → AreBytes bytes → unpacked precision scale bytes ≡ Some v → (scale ≤ precision) × IsPacked (precision - scale) scale v bytes
+unpacked-sound precision scale v bytes are e = elim (leb_tells (suc precision) scale) [
   | inl t ↦ absurd (none-some v (sym (unpacked_past precision scale bytes (omega (arith, t.1))) ∙ e))
   | inr t ↦ elim (eqb_tells (length bytes) (packed_size (precision - scale) scale)) [
     | inl q ↦
@@ -266,7 +266,7 @@ unpacked_is precision scale v bytes are e = elim (leb_tells (suc precision) scal
   ]
 ]
 
-length-is : (before after : ℕ) (v : Value) (bytes : List ℕ) → IsPacked before after v bytes → length bytes ≡ packed_size before after
+length-is : (before after : ℕ) (v : DecimalParts) (bytes : List ℕ) → IsPacked before after v bytes → length bytes ≡ packed_size before after
 length-is before after v bytes p = ap length (sym p.bytes_are) ∙ length-packed v ∙ ap (λ k. packed_size k (length v.after)) p.before_size ∙ ap (packed_size before) p.after_size
 
 pub unpacked_none : (precision scale : ℕ) (bytes : List ℕ) → scale ≤ precision → unpacked precision scale bytes ≡ None → NonePacked (precision - scale) scale bytes
@@ -274,45 +274,51 @@ unpacked_none precision scale bytes le e v p =
     let long = length-is (precision - scale) scale v bytes p in
     sides_lack (precision - scale) scale bytes long (sym (unpacked_sized precision scale bytes le long) ∙ e) v p
 
-pub packed_bytes : (before after : ℕ) (v : Value) (bytes : List ℕ) → IsPacked before after v bytes → AreBytes bytes
+pub packed_bytes : (before after : ℕ) (v : DecimalParts) (bytes : List ℕ) → IsPacked before after v bytes → AreBytes bytes
 packed_bytes before after v bytes p =
     subst AreBytes p.bytes_are (signed_are v.negative (top_flipped (before_bytes v.before ++ after_bytes v.after)) (top_bytes (before_bytes v.before ++ after_bytes v.after) (sides_are_bytes v.before v.after)))
 
-pub is_unpacked : (precision scale : ℕ) (v : Value) (bytes : List ℕ) → 0 < precision → scale ≤ precision → IsPacked (precision - scale) scale v bytes → unpacked precision scale bytes ≡ Some v
-is_unpacked precision scale v bytes some le p = other (unpacked precision scale bytes) refl
+pub unpacked-complete : (precision scale : ℕ) (v : DecimalParts) (bytes : List ℕ) → 0 < precision → scale ≤ precision → IsPacked (precision - scale) scale v bytes → unpacked precision scale bytes ≡ Some v
+unpacked-complete precision scale v bytes some le p = other (unpacked precision scale bytes) refl
   where
     digits : 0 < precision - scale + scale
     digits = omega (arith, some, le)
 
-    other : (o : Option Value) → unpacked precision scale bytes ≡ o → unpacked precision scale bytes ≡ Some v
+    other : (o : Option DecimalParts) → unpacked precision scale bytes ≡ o → unpacked precision scale bytes ≡ Some v
     other None e = absurd (unpacked_none precision scale bytes le e v p)
     other (Some w) e =
-        let q = (unpacked_is precision scale w bytes (packed_bytes (precision - scale) scale v bytes p) e).1 in
-        e ∙ ap (λ (u : Value). Some u) (packed_once (precision - scale) scale w v bytes digits q p)
+        let q = (unpacked-sound precision scale w bytes (packed_bytes (precision - scale) scale v bytes p) e).1 in
+        e ∙ ap (λ (u : DecimalParts). Some u) (packed_once (precision - scale) scale w v bytes digits q p)
+
+-- what is written of digits unpacks to them
+pub read_back : (v : DecimalParts) → AreDigits v.before → AreDigits v.after → 0 < length v.before + length v.after → unpacked (length v.before + length v.after) (length v.after) (packed_form v) ≡ Some v
+read_back v before after some =
+    unpacked-complete (length v.before + length v.after) (length v.after) v (packed_form v) some (omega arith)
+    (record { before_size = omega arith; after_size = refl; before_are = before; after_are = after; bytes_are = refl })
 
 -- what is made of the digits, of no digits too
-pub kept_is : (keep : Bool) (precision scale : ℕ) (d : Value) (bytes : List ℕ) → scale ≤ precision → Unpacks keep (precision - scale) scale d bytes → kept_of keep (unpacked precision scale bytes) ≡ Some d
-kept_is keep precision scale d bytes le u = other (unpacked precision scale bytes) refl
+pub kept-complete : (keep : Bool) (precision scale : ℕ) (d : DecimalParts) (bytes : List ℕ) → scale ≤ precision → Unpacks keep (precision - scale) scale d bytes → kept_of keep (unpacked precision scale bytes) ≡ Some d
+kept-complete keep precision scale d bytes le u = other (unpacked precision scale bytes) refl
   where
     are : AreBytes bytes
     are = packed_bytes (precision - scale) scale u.value bytes u.packed_is
 
-    other : (o : Option Value) → unpacked precision scale bytes ≡ o → kept_of keep (unpacked precision scale bytes) ≡ Some d
+    other : (o : Option DecimalParts) → unpacked precision scale bytes ≡ o → kept_of keep (unpacked precision scale bytes) ≡ Some d
     other None e = absurd (unpacked_none precision scale bytes le e u.value u.packed_is)
     other (Some w) e =
-        let q = (unpacked_is precision scale w bytes are e).1 in
+        let q = (unpacked-sound precision scale w bytes are e).1 in
         let mine : Unpacks keep (precision - scale) scale (kept keep w) bytes = record { value = w; packed_is = q; made = refl } in
-        ap (kept_of keep) e ∙ ap (λ (u : Value). Some u) (unpacked_once keep (precision - scale) scale (kept keep w) d bytes mine u)
+        ap (kept_of keep) e ∙ ap (λ (u : DecimalParts). Some u) (unpacked_once keep (precision - scale) scale (kept keep w) d bytes mine u)
 
-kept_some : (keep : Bool) (o : Option Value) (d : Value) → kept_of keep o ≡ Some d → (w : Value) × (o ≡ Some w) × (kept keep w ≡ d)
+kept_some : (keep : Bool) (o : Option DecimalParts) (d : DecimalParts) → kept_of keep o ≡ Some d → (w : DecimalParts) × (o ≡ Some w) × (kept keep w ≡ d)
 kept_some keep None d e = absurd (none-some d e)
 kept_some keep (Some w) d e = (w, refl, same_Some (kept keep w) d e)
 
-pub kept_unpacks : (keep : Bool) (precision scale : ℕ) (d : Value) (bytes : List ℕ) → AreBytes bytes → kept_of keep (unpacked precision scale bytes) ≡ Some d
+pub kept-sound : (keep : Bool) (precision scale : ℕ) (d : DecimalParts) (bytes : List ℕ) → AreBytes bytes → kept_of keep (unpacked precision scale bytes) ≡ Some d
     → (scale ≤ precision) × Unpacks keep (precision - scale) scale d bytes
-kept_unpacks keep precision scale d bytes are e =
+kept-sound keep precision scale d bytes are e =
     let q = kept_some keep (unpacked precision scale bytes) d e in
-    let p = unpacked_is precision scale q.0 bytes are q.1 in
+    let p = unpacked-sound precision scale q.0 bytes are q.1 in
     (p.0, record { value = q.0; packed_is = p.1; made = sym q.2 })
 
 -- ---- a slice
@@ -320,15 +326,15 @@ kept_unpacks keep precision scale d bytes are e =
 pub unpacked_lacks : (precision scale : ℕ) (bytes : List ℕ) → AreBytes bytes → NonePacked (precision - scale) scale bytes → unpacked precision scale bytes ≡ None
 unpacked_lacks precision scale bytes are none = go (unpacked precision scale bytes) refl
   where
-    go : (o : Option Value) → unpacked precision scale bytes ≡ o → unpacked precision scale bytes ≡ None
+    go : (o : Option DecimalParts) → unpacked precision scale bytes ≡ o → unpacked precision scale bytes ≡ None
     go None e = e
-    go (Some w) e = absurd (none w (unpacked_is precision scale w bytes are e).1)
+    go (Some w) e = absurd (none w (unpacked-sound precision scale w bytes are e).1)
 
 pub slice_ok : (keep : Bool) (precision scale : ℕ) (bytes copy : List ℕ) (r : Result Decimal RowsError) → scale ≤ precision → copy ≡ bytes
-    → IfOk r (λ d. Unpacks keep (precision - scale) scale (value_of d) copy) → IfOk r (λ d. kept_of keep (unpacked precision scale bytes) ≡ Some (value_of d))
+    → IfOk r (λ d. Unpacks keep (precision - scale) scale (decimal_parts d) copy) → IfOk r (λ d. kept_of keep (unpacked precision scale bytes) ≡ Some (decimal_parts d))
 slice_ok keep precision scale bytes copy r le same h =
-    IfOk-weaker r (λ d. Unpacks keep (precision - scale) scale (value_of d) copy) (λ d. kept_of keep (unpacked precision scale bytes) ≡ Some (value_of d))
-    (λ d u. kept_is keep precision scale (value_of d) bytes le (subst (Unpacks keep (precision - scale) scale (value_of d)) same u)) h
+    IfOk-weaker r (λ d. Unpacks keep (precision - scale) scale (decimal_parts d) copy) (λ d. kept_of keep (unpacked precision scale bytes) ≡ Some (decimal_parts d))
+    (λ d u. kept-complete keep precision scale (decimal_parts d) bytes le (subst (Unpacks keep (precision - scale) scale (decimal_parts d)) same u)) h
 
 pub slice_err : (precision scale : ℕ) (bytes copy : List ℕ) (r : Result Decimal RowsError) → AreBytes bytes → copy ≡ bytes
     → IfErr r (λ e. e ≡ Memory ⊎ ((e ≡ BadDecimal) × NonePacked (precision - scale) scale copy)) → IfErr r (λ e. e ≡ Memory ⊎ ((e ≡ BadDecimal) × (unpacked precision scale bytes ≡ None)))

@@ -1,14 +1,13 @@
 -- The text of packed bytes, a group at a time.
 use Rattle.std.proofs.Common.{◌≡◌, ◌≤◌, ◌<◌, ◌+◌, ◌*◌, ◌-◌, ◌^◌, ◌++◌, Bool, true, false, true≢false, eqb, ℕ, zero, suc, List, [], ◌∷◌, length, take, drop, Option, Some, None, ◌⊎◌, inl, inr, append_assoc, arith, refl, sym, ap, subst, ◌∙◌}
-use Rattle.std.specs.Prelude.{nat_lt, slice_index_or, if◌then◌else◌, ◌&&◌, ◌||◌}
+use Rattle.std.specs.Prelude.{nat_lt, if◌then◌else◌, ◌&&◌, ◌||◌}
 use Rattle.std.proofs.lemmas.Bool.Decides.{leb_tells, eqb_tells}
 use Rattle.std.proofs.lemmas.Bool.{and_parts}
 use Rattle.std.proofs.lemmas.List.{length-append, length-take-le, append-nil, map-append}
 use Rattle.std.proofs.Math.Seq.{take-append_seam}
-use Rattle.rows_decimal.specs.Digits.{side_size}
-use Rattle.rows_decimal.specs.Steps.{digits_in, has_minus_bit}
+use Rattle.rows_decimal.specs.Digits.{side_size, digits_in, has_minus_bit}
 use Rattle.rows_decimal.specs.Texts.{glyphs, significant, sign_text, whole_text, fraction_text, decimal_text}
-use Rattle.rows_decimal.specs.Decimals.{Value, only_zeros, without_zero_groups, first_group, kept, packed_size}
+use Rattle.rows_decimal.specs.Decimals.{DecimalParts, only_zeros, without_zero_groups, first_group, kept, packed_size}
 use Rattle.rows_decimal.specs.Unpacked.{joined, places, group_digits, nines_digits, before_digits, after_digits, valued, plain_bytes, sides_value, unpacked, text_of}
 use Rattle.rows_decimal.specs.TextSteps.{digits_text, is_shown, lead, lead_piece, zero_piece, turned, Leads, Follows, FollowsOrNone, Fraction, FractionOrNone, PutsOrNone}
 use Rattle.rows_decimal.proofs.TakingLemmas.{length-digits_in}
@@ -18,19 +17,6 @@ use Rattle.rows_decimal.proofs.TurnLemmas.{num, take-turned, drop-turned}
 use Rattle.rows_decimal.proofs.ZeroLemmas.{groups_split}
 
 -- ---- places
-
-pub powers_at : (k : ℕ) → k ≤ 9 → slice_index_or (1 ∷ 10 ∷ 100 ∷ 1000 ∷ 10000 ∷ 100000 ∷ 1000000 ∷ 10000000 ∷ 100000000 ∷ 1000000000 ∷ []) k 0 ≡ 10 ^ k
-powers_at zero h = refl
-powers_at (suc zero) h = refl
-powers_at (suc (suc zero)) h = refl
-powers_at (suc (suc (suc zero))) h = refl
-powers_at (suc (suc (suc (suc zero)))) h = refl
-powers_at (suc (suc (suc (suc (suc zero))))) h = refl
-powers_at (suc (suc (suc (suc (suc (suc zero)))))) h = refl
-powers_at (suc (suc (suc (suc (suc (suc (suc zero))))))) h = refl
-powers_at (suc (suc (suc (suc (suc (suc (suc (suc zero)))))))) h = refl
-powers_at (suc (suc (suc (suc (suc (suc (suc (suc (suc zero))))))))) h = refl
-powers_at (suc (suc (suc (suc (suc (suc (suc (suc (suc (suc k)))))))))) h = absurd (omega (arith, h))
 
 places_fit : (k n : ℕ) → n < 10 ^ k → places k n ≡ Some (digits_in k n)
 places_fit k n h = elim (leb_tells (suc n) (10 ^ k)) [ inl t ↦ rw t.0 refl | inr t ↦ absurd (omega (arith, t.1, h)) ]
@@ -284,7 +270,7 @@ none_kept ds e =
       | inr t ↦ omega (arith, t.1)
     ]
 
-abbrev value : Bool → List ℕ → List ℕ → Value
+abbrev value : Bool → List ℕ → List ℕ → DecimalParts
 value negative ds es = record { negative = negative; before = ds; after = es }
 
 kept_value : (negative : Bool) (ds es : List ℕ) → 0 < length (without_zero_groups ds) + length es → kept false (value negative ds es) ≡ value negative (without_zero_groups ds) es
@@ -370,14 +356,14 @@ unpacked_parts negative top precision scale s bytes front back le long sign is f
     unpacked_sized precision scale bytes le long ∙ ap (λ n. sides_value n b scale (plain_bytes bytes)) (sym sign) ∙ ap (sides_value negative b scale) same
     ∙ ap (λ l. valued negative (before_digits b l) (after_digits scale (drop z plain))) fronts ∙ ap (λ l. valued negative (before_digits b (turned negative true front)) (after_digits scale l)) backs
 
-pub text_none_before : (o : Option Value) (negative : Bool) (a b : Option (List ℕ)) → o ≡ valued negative a b → a ≡ None → text_of o ≡ None
+pub text_none_before : (o : Option DecimalParts) (negative : Bool) (a b : Option (List ℕ)) → o ≡ valued negative a b → a ≡ None → text_of o ≡ None
 text_none_before o negative a b e none = ap text_of (e ∙ ap (λ p. valued negative p b) none)
 
 none_after : (negative : Bool) (a : Option (List ℕ)) → valued negative a None ≡ None
 none_after negative None = refl
 none_after negative (Some x) = refl
 
-pub puts_is : (o : Option Value) (negative shown minus : Bool) (a b : Option (List ℕ)) (before scale precision at zero_from from : ℕ) (old mid next new : List ℕ) (r : Option ℕ) → before + scale ≡ precision → at ≤ length old
+pub puts_is : (o : Option DecimalParts) (negative shown minus : Bool) (a b : Option (List ℕ)) (before scale precision at zero_from from : ℕ) (old mid next new : List ℕ) (r : Option ℕ) → before + scale ≡ precision → at ≤ length old
     → o ≡ valued negative a b → Leads negative a before at old mid zero_from shown → minus ≡ (negative && nat_lt 0 scale) → (shown ≡ true → from ≡ zero_from) → zero_from ≤ from → from ≤ zero_from + 2
     → take from next ≡ take zero_from mid ++ zero_piece shown minus → FractionOrNone b scale from next new r → PutsOrNone (text_of o) (precision + 3) at old new r
 puts_is o negative shown minus a b before scale precision at zero_from from old mid next new (Some end) all room is l sign stays up most text f =

@@ -15,29 +15,29 @@ use Rattle.rows_values.specs.declared.fault.RowsError.{RowsError}
 use Rattle.rows_values.specs.declared.fault.RowsError.TheVariants.{EndOfBody, Decimal as BadDecimal, Memory, Read}
 
 -- the digits, each 0 to 9, the highest first, and the sign; a zero may be negative
-pub record Value : Type 0 where
+pub record DecimalParts : Type 0 where
   pub negative : Bool
   pub before : List ℕ
   pub after : List ℕ
 
 -- what a decimal holds
-abbrev pub value_of : Decimal → Value
-value_of d = record { negative = d.negative; before = d.before.items; after = d.after.items }
+abbrev pub decimal_parts : Decimal → DecimalParts
+decimal_parts d = record { negative = d.negative; before = d.before.items; after = d.after.items }
 
 -- one digit, zero
-abbrev pub zero_value : Value
+abbrev pub zero_value : DecimalParts
 zero_value = record { negative = false; before = 0 ∷ []; after = [] }
 
 -- the packed form
-abbrev pub packed : Value → List ℕ
-packed v = signed v.negative (top_flipped (before_bytes v.before ++ after_bytes v.after))
+abbrev pub packed_form : DecimalParts → List ℕ
+packed_form v = signed v.negative (top_flipped (before_bytes v.before ++ after_bytes v.after))
 
 -- the packed form of what a decimal holds
-abbrev pub packed_of : Decimal → List ℕ
-packed_of d = packed (value_of d)
+abbrev pub packed_form_of : Decimal → List ℕ
+packed_form_of d = packed_form (decimal_parts d)
 
 -- the number of all digits, without the sign and the point
-abbrev pub digits_number : Value → ℕ
+abbrev pub digits_number : DecimalParts → ℕ
 digits_number v = number_from_digits 10 (v.before ++ v.after)
 
 -- the order of two numbers with signs, where a negative zero stands just below zero
@@ -77,33 +77,33 @@ pub record DropsZeroGroups (ds rest : List ℕ) : Type 0 where
   pub others_first : 0 < length rest → only_zeros (take (first_group (length rest)) rest) ≡ false
 
 -- with no digit on either side it is zero
-abbrev pub some_digit : Value → Value
+abbrev pub some_digit : DecimalParts → DecimalParts
 some_digit v = if (length v.before + length v.after) == 0 then zero_value else v
 
 -- what is made of the digits: all are kept, or not those of leading zero groups
-abbrev pub kept : Bool → Value → Value
+abbrev pub kept : Bool → DecimalParts → DecimalParts
 kept keep v = some_digit (record { negative = v.negative; before = if keep then v.before else without_zero_groups v.before; after = v.after })
 
 -- so many digits before and after the point, whose packed form is the bytes
-pub record IsPacked (before after : ℕ) (v : Value) (bytes : List ℕ) : Type 0 where
+pub record IsPacked (before after : ℕ) (v : DecimalParts) (bytes : List ℕ) : Type 0 where
   pub before_size : length v.before ≡ before
   pub after_size : length v.after ≡ after
   pub before_are : AreDigits v.before
   pub after_are : AreDigits v.after
-  pub bytes_are : packed v ≡ bytes
+  pub bytes_are : packed_form v ≡ bytes
 
 -- no digits have these bytes as their packed form
 abbrev pub NonePacked : ℕ → ℕ → List ℕ → Type 0
-NonePacked before after bytes = (v : Value) → IsPacked before after v bytes → ⊥
+NonePacked before after bytes = (v : DecimalParts) → IsPacked before after v bytes → ⊥
 
 -- the decimal d is made of the digits that the bytes pack
-pub record Unpacks (keep : Bool) (before after : ℕ) (d : Value) (bytes : List ℕ) : Type 0 where
-  pub value : Value
+pub record Unpacks (keep : Bool) (before after : ℕ) (d : DecimalParts) (bytes : List ℕ) : Type 0 where
+  pub value : DecimalParts
   pub packed_is : IsPacked before after value bytes
   pub made : d ≡ kept keep value
 
 -- the next bytes were taken, and d is what they pack
-pub record ReadsDecimal (keep : Bool) (precision scale : ℕ) (d : Value) (old new : Option (List ℕ)) : Type 0 where
+pub record ReadsDecimal (keep : Bool) (precision scale : ℕ) (d : DecimalParts) (old new : Option (List ℕ)) : Type 0 where
   pub ordered : scale ≤ precision
   pub taken : List ℕ
   pub consumed : Consumes old new taken
@@ -130,7 +130,7 @@ pub data FailsDecimal (precision scale : ℕ) (fault : RowsError) (old new : Opt
   ordered : scale ≤ precision → FailsDigits (precision - scale) scale fault old new → FailsDecimal precision scale fault old new
 
 -- a precision and a scale in one byte each, and then what they say
-pub record ReadsPacked (keep : Bool) (d : Value) (old new : Option (List ℕ)) : Type 0 where
+pub record ReadsPacked (keep : Bool) (d : DecimalParts) (old new : Option (List ℕ)) : Type 0 where
   pub precision : ℕ
   pub scale : ℕ
   pub middle : Option (List ℕ)

@@ -1,5 +1,5 @@
 -- MySQL's DECIMAL in its packed form: digits are cut into groups of nine from the point outward, and the number of each group stands in its bytes, the highest first.
-use Rattle.std.specs.Prelude.{ℕ, zero, suc, ◌+◌, ◌*◌, ◌/◌, ◌%◌, ◌<◌, Bool, List, [], ◌∷◌, ◌++◌, length, take, drop, map, slice_index, ◌-◌, if◌then◌else◌}
+use Rattle.std.specs.Prelude.{ℕ, zero, suc, ◌+◌, ◌*◌, ◌/◌, ◌%◌, ◌<◌, Bool, false, nat_lt, List, [], ◌∷◌, ◌++◌, length, take, drop, map, slice_index, ◌-◌, if◌then◌else◌}
 use Rattle.std.specs.Int.Digits.{number_from_digits}
 use Rattle.byteorder.specs.Endian.{big_bytes}
 
@@ -40,3 +40,13 @@ top_flipped (b ∷ x) = ((b + 128) % 256) ∷ x
 -- all bits flipped where the number is negative
 abbrev pub signed : Bool → List ℕ → List ℕ
 signed negative x = if negative then map (λ b. 255 - b) x else x
+
+-- the last k digits of a number
+unfoldable pub digits_in : ℕ → ℕ → List ℕ
+digits_in zero n = []
+digits_in (suc k) n = digits_in k (n / 10) ++ (n % 10 ∷ [])
+
+-- whether packed bytes are those of a negative number: the top bit is not set
+abbrev pub has_minus_bit : List ℕ → Bool
+has_minus_bit [] = false
+has_minus_bit (b ∷ x) = nat_lt b 128

@@ -1,5 +1,5 @@
 -- What the steps of reading and comparing packed forms say. The whole form is in Decimals.
-use Rattle.std.specs.Prelude.{◌≡◌, ℕ, zero, suc, ◌/◌, ◌%◌, List, [], ◌∷◌, ◌++◌, ◌≤◌, length, Bool, false, nat_lt, Option, Some, None}
+use Rattle.std.specs.Prelude.{◌≡◌, ℕ, List, [], ◌∷◌, ◌++◌, ◌≤◌, ◌+◌, length, Option, Some, None}
 use Rattle.rows_decimal.specs.Digits.{AreDigits, group_bytes, before_bytes, after_bytes}
 
 -- digits of one side are appended, whose bytes these are
@@ -14,16 +14,6 @@ pub record Gains (pack : List ℕ → List ℕ) (count : ℕ) (bytes old new : L
 abbrev pub NoDigits : (List ℕ → List ℕ) → ℕ → List ℕ → Type 0
 NoDigits pack count bytes = (ds : List ℕ) → length ds ≡ count → AreDigits ds → pack ds ≡ bytes → ⊥
 
--- the last k digits of a number
-unfoldable pub digits_in : ℕ → ℕ → List ℕ
-digits_in zero n = []
-digits_in (suc k) n = digits_in k (n / 10) ++ (n % 10 ∷ [])
-
--- whether packed bytes are those of a negative number: the top bit is not set
-abbrev pub has_minus_bit : List ℕ → Bool
-has_minus_bit [] = false
-has_minus_bit (b ∷ x) = nat_lt b 128
-
 -- the bytes of the groups on both sides of the point
 abbrev pub sides_bytes : List ℕ → List ℕ → List ℕ
 sides_bytes before after = before_bytes before ++ after_bytes after
@@ -31,6 +21,7 @@ sides_bytes before after = before_bytes before ++ after_bytes after
 -- the first group of these digits, none where there is none, and the digits behind it
 pub record SplitsGroup (before after group before_rest after_rest : List ℕ) : Type 0 where
   pub few : length group ≤ 9
+  pub whole : length group + (length before_rest + length after_rest) ≡ length before + length after
   pub group_are : AreDigits group
   pub before_are : AreDigits before_rest
   pub after_are : AreDigits after_rest

@@ -1,7 +1,6 @@
 -- What the steps say of writing the text of a decimal straight from the bytes that pack it. The whole text is in Unpacked.
 use Rattle.std.specs.Prelude.{◌≡◌, ◌≤◌, ◌+◌, ℕ, List, [], ◌∷◌, ◌++◌, take, length, Bool, false, nat_lt, Option, Some, None, if◌then◌else◌}
-use Rattle.rows_decimal.specs.Digits.{top_flipped, signed}
-use Rattle.rows_decimal.specs.Steps.{digits_in}
+use Rattle.rows_decimal.specs.Digits.{top_flipped, signed, digits_in}
 use Rattle.rows_decimal.specs.Texts.{glyphs, significant, fraction_text, sign_text}
 
 -- the last k digits of a number, as their characters

@@ -2,7 +2,7 @@
 use Rattle.std.specs.Prelude.{◌≡◌, ⊤, ℕ, ◌+◌, ◌-◌, List, [], ◌∷◌, ◌++◌, length, drop, map, Bool, false, not, ◌==◌, ◌&&◌, ◌||◌, nat_lt, Option, Some, None, if◌then◌else◌}
 use Rattle.std.specs.List.{prefix_len, list_all, before_first, after_first}
 use Rattle.std.specs.Char.{is_ascii_digit}
-use Rattle.rows_decimal.specs.Decimals.{Value, only_zeros}
+use Rattle.rows_decimal.specs.Decimals.{DecimalParts, only_zeros}
 use Rattle.rows_decimal.specs.declared.parse.ParseDecimalError.{ParseDecimalError}
 use Rattle.rows_decimal.specs.declared.parse.ParseDecimalError.TheVariants.{Text, Memory}
 
@@ -26,7 +26,7 @@ abbrev pub sign_text : Bool → List ℕ
 sign_text negative = if negative then 45 ∷ [] else []
 
 -- what is shown
-abbrev pub decimal_text : Value → List ℕ
+abbrev pub decimal_text : DecimalParts → List ℕ
 decimal_text v = sign_text v.negative ++ (whole_text v.before ++ fraction_text v.after)
 
 -- the digits before the point that are shown
@@ -34,7 +34,7 @@ abbrev pub shown_digits : List ℕ → List ℕ
 shown_digits ds = if length (significant ds) == 0 then 0 ∷ [] else significant ds
 
 -- a value without the zeros in front, and without a sign where it is zero
-abbrev pub shown_value : Value → Value
+abbrev pub shown_value : DecimalParts → DecimalParts
 shown_value v =
     let before = shown_digits v.before in
     record { negative = v.negative && not (only_zeros before && only_zeros v.after); before = before; after = v.after }
@@ -66,14 +66,14 @@ unfoldable pub is_spelled : List ℕ → List ℕ → Bool
 is_spelled before after = nat_lt 0 (length before + length after) && (list_all is_ascii_digit before && list_all is_ascii_digit after)
 
 -- the decimal of the characters before and after the point; where all are zeros, there is no sign
-unfoldable pub spelled : Bool → List ℕ → List ℕ → Option Value
+unfoldable pub spelled : Bool → List ℕ → List ℕ → Option DecimalParts
 spelled minus before after =
     if is_spelled before after
     then Some (record { negative = minus && not (are_zeros before && are_zeros after); before = digits_of before; after = digits_of after })
     else None
 
 -- the decimal that a text stands for: a sign, digits, and a point and digits
-unfoldable pub text_value : List ℕ → Option Value
+unfoldable pub text_value : List ℕ → Option DecimalParts
 text_value text =
     let t = one_zero text in
     let body = behind_sign t in
@@ -84,6 +84,6 @@ abbrev pub are_allowed : List ℕ → Bool
 are_allowed t = list_all (λ c. is_ascii_digit c || ((c == 43) || ((c == 45) || (c == 46)))) t
 
 -- what a refused text says: it stands for no decimal; want of memory says nothing
-abbrev pub IsTextFault : ParseDecimalError → Option Value → Type 0
+abbrev pub IsTextFault : ParseDecimalError → Option DecimalParts → Type 0
 IsTextFault Text v = v ≡ None
 IsTextFault Memory v = ⊤

@@ -1,9 +1,8 @@
 -- The decimal that bytes pack, computed from them. That it is the one whose packed form they are is a law in laws.
 use Rattle.std.specs.Prelude.{ℕ, zero, suc, ◌*◌, ◌/◌, ◌%◌, ◌-◌, ◌^◌, nat_lt, Bool, false, List, [], ◌++◌, length, take, drop, slice_index, Option, Some, None, if◌then◌else◌, nat_eq}
 use Rattle.byteorder.specs.Endian.{big_number}
-use Rattle.rows_decimal.specs.Digits.{group_size, side_size, top_flipped, signed}
-use Rattle.rows_decimal.specs.Steps.{digits_in, has_minus_bit}
-use Rattle.rows_decimal.specs.Decimals.{Value, packed_size, kept}
+use Rattle.rows_decimal.specs.Digits.{group_size, side_size, top_flipped, signed, digits_in, has_minus_bit}
+use Rattle.rows_decimal.specs.Decimals.{DecimalParts, packed_size, kept}
 use Rattle.rows_decimal.specs.Texts.{decimal_text}
 use Rattle.rows_values.specs.declared.fault.RowsError.{RowsError}
 use Rattle.rows_values.specs.declared.fault.RowsError.TheVariants.{EndOfBody, Decimal as BadDecimal}
@@ -36,7 +35,7 @@ abbrev pub after_digits : ℕ → List ℕ → Option (List ℕ)
 after_digits n bytes = joined (nines_digits (n / 9) (take (4 * (n / 9)) bytes)) (group_digits (n % 9) (drop (4 * (n / 9)) bytes))
 
 -- a sign and the digits on both sides, where both are there
-abbrev pub valued : Bool → Option (List ℕ) → Option (List ℕ) → Option Value
+abbrev pub valued : Bool → Option (List ℕ) → Option (List ℕ) → Option DecimalParts
 valued negative None after = None
 valued negative (Some before) None = None
 valued negative (Some before) (Some after) = Some (record { negative = negative; before = before; after = after })
@@ -46,23 +45,23 @@ abbrev pub plain_bytes : List ℕ → List ℕ
 plain_bytes bytes = top_flipped (signed (has_minus_bit bytes) bytes)
 
 -- so many digits before and after the point, from the groups alone
-abbrev pub sides_value : Bool → ℕ → ℕ → List ℕ → Option Value
+abbrev pub sides_value : Bool → ℕ → ℕ → List ℕ → Option DecimalParts
 sides_value negative before after plain = valued negative (before_digits before (take (side_size before) plain)) (after_digits after (drop (side_size before) plain))
 
 -- the decimal of `precision` digits, `scale` of them after the point, that these bytes pack: none where scale is past precision, where they are not as many bytes as the digits take, or where a group's number has too many digits
-unfoldable pub unpacked : ℕ → ℕ → List ℕ → Option Value
+unfoldable pub unpacked : ℕ → ℕ → List ℕ → Option DecimalParts
 unpacked precision scale bytes =
     if nat_lt precision scale then None
     else if nat_eq (length bytes) (packed_size (precision - scale) scale) then sides_value (has_minus_bit bytes) (precision - scale) scale (plain_bytes bytes)
     else None
 
 -- what is made of it: all digits are kept, or not those of leading zero groups
-abbrev pub kept_of : Bool → Option Value → Option Value
+abbrev pub kept_of : Bool → Option DecimalParts → Option DecimalParts
 kept_of keep None = None
 kept_of keep (Some v) = Some (kept keep v)
 
 -- its text: that of the value without leading zero groups, so that a zero without digits after the point has no sign
-abbrev pub text_of : Option Value → Option (List ℕ)
+abbrev pub text_of : Option DecimalParts → Option (List ℕ)
 text_of None = None
 text_of (Some v) = Some (decimal_text (kept false v))
 
@@ -71,7 +70,7 @@ abbrev pub packed_text : ℕ → ℕ → List ℕ → Option (List ℕ)
 packed_text precision scale bytes = text_of (unpacked precision scale bytes)
 
 -- as JSON documents have it: behind a byte for the precision and one for the scale as many bytes as the digits take, whatever follows them
-unfoldable pub packed_value : List ℕ → Option Value
+unfoldable pub packed_value : List ℕ → Option DecimalParts
 packed_value bytes =
     if nat_lt (length bytes) 2 then None
     else unpacked (slice_index bytes 0) (slice_index bytes 1) (take (packed_size (slice_index bytes 0 - slice_index bytes 1) (slice_index bytes 1)) (drop 2 bytes))

@@ -1,7 +1,7 @@
 //! Zero, copies, and the size of a decimal.
 
 ghost use Rattle.std.specs.Prelude.{◌≡◌, IfOk, length};
-ghost use Rattle.rows_decimal.specs.Decimals.{value_of, zero_value, packed_size};
+ghost use Rattle.rows_decimal.specs.Decimals.{decimal_parts, zero_value, packed_form};
 
 use crate::digits::side_size;
 use crate::fields::Decimal;
@@ -10,7 +10,7 @@ use std::alloc::{AllocError, Global};
 impl Decimal {
     /// Zero: one digit, no sign. Want of memory is `AllocError`.
     pub fn zero(alloc: Global) -> Result<Decimal, AllocError>
-        ensures { IfOk result (λ d. value_of d ≡ zero_value) }
+        ensures { IfOk result (λ d. decimal_parts d ≡ zero_value) }
     {
         let before = vec![in alloc; 0]?;
         let after = Vec::new(alloc);
@@ -23,7 +23,7 @@ impl Decimal {
 
     /// The same decimal in memory of its own. Want of memory is `AllocError`.
     pub fn clone(&self, alloc: Global) -> Result<Decimal, AllocError>
-        ensures { IfOk result (λ d. value_of d ≡ value_of self.now) }
+        ensures { IfOk result (λ d. decimal_parts d ≡ decimal_parts self.now) }
     {
         Ok(Decimal {
             negative: self.negative,
@@ -34,7 +34,7 @@ impl Decimal {
 
     /// How many bytes the packed form takes.
     pub fn bin_size(&self) -> usize
-        ensures { result ≡ packed_size (length (value_of self.now).before) (length (value_of self.now).after) }
+        ensures { result ≡ length (packed_form (decimal_parts self.now)) }
     {
         side_size(self.before.len()) + side_size(self.after.len())
     }

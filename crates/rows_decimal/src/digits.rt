@@ -1,6 +1,6 @@
 //! Groups of decimal digits, and the bytes that they take.
 
-ghost use Rattle.std.specs.Prelude.{◌≡◌, ◌≤◌, ◌<◌, ◌+◌, ◌*◌, ◌/◌, ◌-◌, ◌==◌, length};
+ghost use Rattle.std.specs.Prelude.{◌≡◌, ◌≤◌, ◌<◌, ◌+◌, ◌*◌, ◌/◌, ◌-◌, ◌^◌, ◌==◌, length};
 ghost use Rattle.std.specs.List.{prefix_len};
 ghost use Rattle.rows_decimal.specs.Digits.{group_size as group_size_of, side_size as side_size_of};
 ghost use Rattle.rows_decimal.specs.Decimals.{packed_size};
@@ -58,6 +58,15 @@ pub(crate) fn group_size(digits: usize) -> usize
     ensures bound { result ≤ 4 }
 {
     usize::from(DIG_TO_BYTES[digits])
+}
+
+/// The least number of more than so many digits.
+#[inline(always)]
+pub(crate) fn power_of_ten(digits: usize) -> u32
+    requires { digits ≤ 9 }
+    ensures { result ≡ 10 ^ digits }
+{
+    POWERS_10[digits].unsigned_abs()
 }
 
 /// How many of the first bytes are this one.

@@ -3,7 +3,7 @@
 ghost use Rattle.std.specs.Prelude.{◌≡◌, ◌≤◌, ◌==◌, Some, length};
 ghost use Rattle.std.specs.Fmt.{WritesStyledOnOk};
 ghost use Rattle.rows_decimal.specs.Digits.{AreDigits};
-ghost use Rattle.rows_decimal.specs.Decimals.{value_of};
+ghost use Rattle.rows_decimal.specs.Decimals.{decimal_parts};
 ghost use Rattle.rows_decimal.specs.Texts.{decimal_text, sign_text, glyphs, whole_text, fraction_text, significant as significant_of};
 
 use crate::digits::leading;
@@ -14,9 +14,9 @@ use std::{fmt, str};
 const RUN: usize = 65;
 
 impl fmt::Display for Decimal {
-    ghost output = { λ d. Some (decimal_text (value_of d)) };
+    ghost output = { λ d. Some (decimal_text (decimal_parts d)) };
 
-    ghost styled_output = { λ d _. Some (decimal_text (value_of d)) };
+    ghost styled_output = { λ d _. Some (decimal_text (decimal_parts d)) };
 
     /// The sign where it is negative, the digits before the point without zeros in front, or `0`,
     /// and a point and the digits after it, if there are any. Flags and widths are ignored.

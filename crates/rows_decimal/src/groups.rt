@@ -55,7 +55,7 @@ impl<'a> GroupBytes<'a> {
 }
 
 /// The digits of the first group, none where there is none, and those behind it on both sides.
-fn split_group<'a>(before: &'a [u8], after: &'a [u8]) -> (&'a [u8], &'a [u8], &'a [u8])
+pub(crate) fn split_group<'a>(before: &'a [u8], after: &'a [u8]) -> (&'a [u8], &'a [u8], &'a [u8])
     requires before { AreDigits before.now }
     requires after { AreDigits after.now }
     ensures { SplitsGroup before.now after.now result.0.now result.1.now result.2.now }

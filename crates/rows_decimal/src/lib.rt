@@ -9,6 +9,7 @@ mod decimal;
 mod digits;
 mod display;
 mod fields;
+mod group_number;
 mod groups;
 pub mod laws;
 mod order;

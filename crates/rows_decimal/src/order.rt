@@ -6,7 +6,7 @@ ghost use Rattle.std.specs.Ordering.{nat_cmp};
 ghost use Rattle.std.specs.Cmp.{on_equiv, on_total, on_po, on_per, partial_equiv_from_equiv};
 ghost use Rattle.std.specs.Cmp.Lexicographic.{pointwise, slice_cmp, nat_list_eq_equiv, nat_list_cmp_total, texts_ties, texts_po};
 ghost use Rattle.rows_decimal.specs.Digits.{signed};
-ghost use Rattle.rows_decimal.specs.Decimals.{value_of, packed_of};
+ghost use Rattle.rows_decimal.specs.Decimals.{decimal_parts, packed_form_of};
 ghost use Rattle.rows_decimal.specs.Steps.{sides_bytes};
 ghost use Rattle.rows_decimal.specs.GroupsLeft.{bytes_left};
 
@@ -14,9 +14,9 @@ use crate::fields::{Decimal, GroupBytes};
 use std::cmp::Ordering;
 
 impl PartialEq for Decimal {
-    ghost eq = { λ a b. pointwise nat_eq (packed_of a) (packed_of b) };
+    ghost eq = { λ a b. pointwise nat_eq (packed_form_of a) (packed_form_of b) };
 
-    ghost laws = { on_per packed_of (partial_equiv_from_equiv nat_list_eq_equiv) };
+    ghost laws = { on_per packed_form_of (partial_equiv_from_equiv nat_list_eq_equiv) };
 
     fn eq(&self, other: &Decimal) -> bool {
         self.packed_cmp(other).is_eq()
@@ -24,13 +24,13 @@ impl PartialEq for Decimal {
 }
 
 impl Eq for Decimal {
-    ghost laws = { on_equiv packed_of nat_list_eq_equiv };
+    ghost laws = { on_equiv packed_form_of nat_list_eq_equiv };
 }
 
 impl PartialOrd for Decimal {
-    ghost partial_cmp = { λ a b. Some (slice_cmp nat_cmp (packed_of a) (packed_of b)) };
+    ghost partial_cmp = { λ a b. Some (slice_cmp nat_cmp (packed_form_of a) (packed_form_of b)) };
 
-    ghost laws = { on_po packed_of texts_po };
+    ghost laws = { on_po packed_form_of texts_po };
 
     fn partial_cmp(&self, other: &Decimal) -> Option<Ordering> {
         Some(self.packed_cmp(other))
@@ -38,13 +38,13 @@ impl PartialOrd for Decimal {
 }
 
 impl Ord for Decimal {
-    ghost cmp = { λ a b. slice_cmp nat_cmp (packed_of a) (packed_of b) };
+    ghost cmp = { λ a b. slice_cmp nat_cmp (packed_form_of a) (packed_form_of b) };
 
-    ghost total = { on_total packed_of nat_list_cmp_total };
+    ghost total = { on_total packed_form_of nat_list_cmp_total };
 
     ghost matches_partial_cmp = { λ a b. refl };
 
-    ghost matches_eq = { λ a b. texts_ties (packed_of a) (packed_of b) };
+    ghost matches_eq = { λ a b. texts_ties (packed_form_of a) (packed_form_of b) };
 
     fn cmp(&self, other: &Decimal) -> Ordering {
         self.packed_cmp(other)
@@ -54,7 +54,7 @@ impl Ord for Decimal {
 impl Decimal {
     /// The order of the packed forms.
     fn packed_cmp(&self, other: &Decimal) -> Ordering
-        ensures { result ≡ slice_cmp nat_cmp (packed_of self.now) (packed_of other.now) }
+        ensures { result ≡ slice_cmp nat_cmp (packed_form_of self.now) (packed_form_of other.now) }
     {
         if self.negative != other.negative {
             return if self.negative {
@@ -68,7 +68,7 @@ impl Decimal {
 
     /// The bytes of the groups, before any bit is flipped.
     fn group_bytes(&self) -> GroupBytes<'_>
-        ensures { bytes_left result ≡ sides_bytes (value_of self.now).before (value_of self.now).after }
+        ensures { bytes_left result ≡ sides_bytes (decimal_parts self.now).before (decimal_parts self.now).after }
     {
         GroupBytes::new(&self.before, &self.after)
     }

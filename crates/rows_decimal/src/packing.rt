@@ -1,13 +1,15 @@
 //! The packed form of a decimal, written.
 
-ghost use Rattle.std.specs.Prelude.{◌≡◌, ◌≤◌, ◌++◌, ◌/◌, ◌-◌, ◌⊎◌, OnOk, IfOk, IfErr, length, map};
+ghost use Rattle.std.specs.Prelude.{◌≡◌, ◌≤◌, ◌++◌, ◌-◌, ◌⊎◌, OnOk, IfOk, IfErr, length, map};
 ghost use Rattle.std.specs.Int.Digits.{number_from_digits};
 ghost use Rattle.std.specs.Io.KnownBytes.{Appends};
-ghost use Rattle.rows_decimal.specs.Digits.{AreDigits, group_bytes, nines_bytes, before_bytes, after_bytes, top_flipped};
-ghost use Rattle.rows_decimal.specs.Decimals.{value_of, packed, FailsToWrite};
+ghost use Rattle.rows_decimal.specs.Digits.{AreDigits, group_bytes, top_flipped};
+ghost use Rattle.rows_decimal.specs.Steps.{sides_bytes};
+ghost use Rattle.rows_decimal.specs.Decimals.{decimal_parts, packed_form, FailsToWrite};
 
 use crate::digits::{DIG_PER_DEC, GROUP_BYTES, group_size};
 use crate::fields::Decimal;
+use crate::groups::split_group;
 use std::alloc::{AllocError, Global};
 use std::io::Write;
 use wire_buf::WireFault;
@@ -20,8 +22,8 @@ impl Decimal {
     /// of the bytes is then written; want of memory is `Memory`, and nothing is written.
     pub fn write_bin<W: Write>(&self, alloc: Global, output: &mut W) -> Result<(), WireFault>
         ensures ok { OnOk result (Appends (W.contents output.old) (W.contents output.new)
-            (packed (value_of self.now))) }
-        ensures err { IfErr result (λ e. FailsToWrite e (packed (value_of self.now))
+            (packed_form (decimal_parts self.now))) }
+        ensures err { IfErr result (λ e. FailsToWrite e (packed_form (decimal_parts self.now))
             (W.contents output.old) (W.contents output.new)) }
     {
         let bytes = self.pack(alloc)?;
@@ -30,11 +32,10 @@ impl Decimal {
 
     /// The packed form.
     pub(crate) fn pack(&self, alloc: Global) -> Result<Vec<u8>, AllocError>
-        ensures { IfOk result (λ bytes. bytes.items ≡ packed (value_of self.now)) }
+        ensures { IfOk result (λ bytes. bytes.items ≡ packed_form (decimal_parts self.now)) }
     {
         let mut bytes = Vec::with_capacity(alloc, self.bin_size())?;
-        put_before(&self.before, &mut bytes)?;
-        put_after(&self.after, &mut bytes)?;
+        put_groups(&self.before, &self.after, &mut bytes)?;
         flip_top(&mut bytes);
         if self.negative {
             flip_all(&mut bytes);
@@ -61,35 +62,16 @@ pub(crate) fn flip_all(bytes: &mut [u8])
     }
 }
 
-/// Appends the groups of the digits before the point.
-#[tactic(auto, unfolding(crate::specs::Digits::before_bytes))]
-fn put_before(digits: &[u8], out: &mut Vec<u8>) -> Result<(), AllocError>
-    requires { AreDigits digits.now }
-    ensures { OnOk result (out.new.items ≡ out.old.items ++ before_bytes digits.now) }
+/// Appends the groups of the digits before and after the point.
+fn put_groups(before: &[u8], after: &[u8], out: &mut Vec<u8>) -> Result<(), AllocError>
+    requires before { AreDigits before.now }
+    requires after { AreDigits after.now }
+    ensures { OnOk result (out.new.items ≡ out.old.items ++ sides_bytes before.now after.now) }
 {
-    let (left, rest) = digits.split_at(digits.len() % DIG_PER_DEC);
-    put_group(left, out)?;
-    put_nines(rest, out)
-}
-
-/// Appends the groups of the digits after the point.
-#[tactic(auto, unfolding(crate::specs::Digits::after_bytes))]
-fn put_after(digits: &[u8], out: &mut Vec<u8>) -> Result<(), AllocError>
-    requires { AreDigits digits.now }
-    ensures { OnOk result (out.new.items ≡ out.old.items ++ after_bytes digits.now) }
-{
-    put_nines(digits, out)?;
-    put_group(&digits[DIG_PER_DEC * (digits.len() / DIG_PER_DEC)..], out)
-}
-
-/// Appends the groups of nine digits, as many as there are.
-fn put_nines(digits: &[u8], out: &mut Vec<u8>) -> Result<(), AllocError>
-    requires { AreDigits digits.now }
-    ensures { OnOk result (out.new.items ≡ out.old.items
-        ++ nines_bytes (length digits.now / 9) digits.now) }
-{
-    for i in 0..digits.len() / DIG_PER_DEC {
-        put_group(&digits[DIG_PER_DEC * i..DIG_PER_DEC * i + DIG_PER_DEC], out)?;
+    let (mut group, mut before, mut after) = split_group(before, after);
+    while !group.is_empty() {
+        put_group(group, out)?;
+        (group, before, after) = split_group(before, after);
     }
     Ok(())
 }

@@ -4,7 +4,7 @@ ghost use Rattle.std.specs.Prelude.{◌≡◌, ◌<◌, ◌+◌, ◌==◌, IfOk,
 ghost use Rattle.std.specs.Str.{trim, IsUtf8};
 ghost use Rattle.std.specs.List.{before_first, after_first, list_all};
 ghost use Rattle.std.specs.Char.{is_ascii_digit};
-ghost use Rattle.rows_decimal.specs.Decimals.{value_of};
+ghost use Rattle.rows_decimal.specs.Decimals.{decimal_parts};
 ghost use Rattle.rows_decimal.specs.declared.parse.ParseDecimalError.TheVariants.{Memory};
 ghost use Rattle.rows_decimal.specs.Texts.{text_value, spelled as spelled_as, is_spelled as is_spelled_as, one_zero as one_zero_of, has_minus, behind_sign, digits_of as digits_in, are_zeros as are_zeros_in, are_allowed as are_allowed_in, IsTextFault};
 
@@ -39,7 +39,7 @@ impl Decimal {
     /// at least one digit. Other zeros in front are kept as digits. Where all digits are zeros there
     /// is no sign. An exponent is refused, as all else is: `Text`. Want of memory is `Memory`.
     pub fn from_str(alloc: Global, text: &str) -> Result<Decimal, ParseDecimalError>
-        ensures ok { IfOk result (λ d. text_value (trim text.now) ≡ Some (value_of d)) }
+        ensures ok { IfOk result (λ d. text_value (trim text.now) ≡ Some (decimal_parts d)) }
         ensures err { IfErr result (λ e. IsTextFault e (text_value (trim text.now))) }
     {
         parse_trimmed(alloc, text.trim().as_bytes())
@@ -49,7 +49,7 @@ impl Decimal {
     /// bytes are refused, white space too.
     pub fn parse_str_bytes(alloc: Global, bytes: &[u8]) -> Result<Decimal, ParseDecimalError>
         ensures ok { IfOk result (λ d. (are_allowed_in bytes.now ≡ true)
-            × (text_value bytes.now ≡ Some (value_of d))) }
+            × (text_value bytes.now ≡ Some (decimal_parts d))) }
         ensures err { IfErr result (λ e. are_allowed_in bytes.now ≡ true → IsTextFault e (text_value bytes.now)) }
     {
         if !are_allowed(bytes) {
@@ -61,7 +61,7 @@ impl Decimal {
     /// Takes bytes that are UTF-8 as `from_str` takes their text, and refuses others.
     pub fn parse_bytes(alloc: Global, bytes: &[u8]) -> Result<Decimal, ParseDecimalError>
         ensures ok { IfOk result (λ d. IsUtf8 bytes.now
-            × (text_value (trim bytes.now) ≡ Some (value_of d))) }
+            × (text_value (trim bytes.now) ≡ Some (decimal_parts d))) }
         ensures err { IfErr result (λ e. IsUtf8 bytes.now → IsTextFault e (text_value (trim bytes.now))) }
     {
         match str::from_utf8(bytes) {
@@ -74,7 +74,7 @@ impl Decimal {
 /// The decimal of a text with no white space around it.
 #[tactic(auto, unfolding(crate::specs::Texts::text_value))]
 fn parse_trimmed(alloc: Global, text: &[u8]) -> Result<Decimal, ParseDecimalError>
-    ensures ok { IfOk result (λ d. text_value text.now ≡ Some (value_of d)) }
+    ensures ok { IfOk result (λ d. text_value text.now ≡ Some (decimal_parts d)) }
     ensures err { IfErr result (λ e. IsTextFault e (text_value text.now)) }
 {
     let text = one_zero(text);
@@ -91,7 +91,7 @@ fn spelled(
     before: &[u8],
     after: &[u8],
 ) -> Result<Decimal, ParseDecimalError>
-    ensures ok { IfOk result (λ d. spelled_as minus before.now after.now ≡ Some (value_of d)) }
+    ensures ok { IfOk result (λ d. spelled_as minus before.now after.now ≡ Some (decimal_parts d)) }
     ensures err { IfErr result (λ e. IsTextFault e (spelled_as minus before.now after.now)) }
 {
     if !is_spelled(before, after) {

@@ -3,36 +3,16 @@
 
 ghost use Rattle.std.specs.Prelude.{◌≡◌, ◌≤◌, ◌<◌, ◌+◌, ◌-◌, ◌^◌, ◌++◌, ◌==◌, ◌&&◌, ◌||◌, nat_lt, length, take, true, false};
 ghost use Rattle.byteorder.specs.Endian.{big_number};
-ghost use Rattle.rows_decimal.specs.Digits.{side_size as side_size_of};
-ghost use Rattle.rows_decimal.specs.Steps.{digits_in};
+ghost use Rattle.rows_decimal.specs.Digits.{side_size as side_size_of, digits_in};
 ghost use Rattle.rows_decimal.specs.Unpacked.{before_digits, after_digits, packed_text};
 ghost use Rattle.rows_decimal.specs.Texts.{sign_text};
 ghost use Rattle.rows_decimal.specs.TextSteps.{turned, is_shown, lead_piece, zero_piece, LeadsOrNone, FollowsOrNone, FractionOrNone, PutsOrNone};
 
-use crate::digits::{DIG_PER_DEC, GROUP_BYTES, decimal_bin_size, group_size, side_size};
+use crate::digits::{
+    DIG_PER_DEC, GROUP_BYTES, decimal_bin_size, group_size, power_of_ten, side_size,
+};
+use crate::group_number::{group_number, has_minus_bit, is_first};
 use crate::places::{digit_count, put_byte, put_places};
-use crate::unpacking::has_minus_bit;
-use byteorder::{BigEndian, ByteOrder};
-
-/// The largest number of so many bytes.
-const LARGEST: [u32; 5] = [0, 0xff, 0xffff, 0xff_ffff, 0xffff_ffff];
-
-/// What the top bit of so many bytes counts.
-const TOPS: [u32; 5] = [0, 0x80, 0x8000, 0x80_0000, 0x8000_0000];
-
-/// The powers of ten from 10^0 to 10^9.
-const POWERS: [u32; 10] = [
-    1,
-    10,
-    100,
-    1_000,
-    10_000,
-    100_000,
-    1_000_000,
-    10_000_000,
-    100_000_000,
-    1_000_000_000,
-];
 
 /// Writes the text of the decimal that the bytes pack, of `precision` digits with `scale` of them after
 /// the point, and answers where it ends: a minus where it is negative, the digits before the point
@@ -87,7 +67,7 @@ fn put_before(
     let left = count % DIG_PER_DEC;
     let (front, rest) = bytes.split_at(group_size(left));
     let number = group_number(front, negative, true);
-    if number >= POWERS[left] {
+    if number >= power_of_ten(left) {
         return None;
     }
     let top = front.is_empty();
@@ -215,7 +195,7 @@ fn put_after(
     }
     let left = count % DIG_PER_DEC;
     let number = group_number(rest, negative, is_first(top, whole));
-    if number >= POWERS[left] {
+    if number >= power_of_ten(left) {
         return None;
     }
     Some(put_places(text, end, left, number))
@@ -235,51 +215,4 @@ fn is_minus_kept(negative: bool, scale: usize) -> bool
     ensures { result ≡ (negative && nat_lt 0 scale) }
 {
     negative && scale > 0
-}
-
-/// Whether a group is the very first: there is no byte in front of the groups, and it is the first of them.
-#[inline(always)]
-fn is_first(top: bool, place: usize) -> bool
-    ensures { result ≡ (top && (place == 0)) }
-{
-    top && place == 0
-}
-
-/// The number of a group, from its bytes as they are packed: of a negative decimal or not, and with the
-/// top bit of all or not.
-#[inline(always)]
-fn group_number(bytes: &[u8], negative: bool, top: bool) -> u32
-    requires { length bytes.now ≤ 4 }
-    ensures { result ≡ big_number (length bytes.now) (turned negative top bytes.now) }
-{
-    let size = bytes.len();
-    let packed = number_of(bytes);
-    let number = if negative {
-        LARGEST[size] - packed
-    } else {
-        packed
-    };
-    if !top {
-        return number;
-    }
-    if number >= TOPS[size] {
-        number - TOPS[size]
-    } else {
-        number + TOPS[size]
-    }
-}
-
-/// The number in up to four bytes, the highest first.
-#[inline(always)]
-fn number_of(bytes: &[u8]) -> u32
-    requires { length bytes.now ≤ 4 }
-    ensures { result ≡ big_number (length bytes.now) bytes.now }
-{
-    match bytes.len() {
-        0 => 0,
-        1 => u32::from(bytes[0]),
-        2 => u32::from(BigEndian::read_u16(bytes)),
-        3 => BigEndian::read_u24(bytes),
-        _ => BigEndian::read_u32(bytes),
-    }
 }

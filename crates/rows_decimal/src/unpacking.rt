@@ -2,17 +2,15 @@
 
 ghost use Rattle.std.specs.Prelude.{◌≡◌, ◌≤◌, ◌<◌, ◌-◌, ◌*◌, ◌^◌, ◌++◌, ◌/◌, ◌⊎◌, Some, None, OnOk, IfOk, IfErr, true, false, length, if◌then◌else◌};
 ghost use Rattle.rows_values.specs.declared.fault.RowsError.TheVariants.{Decimal as BadDecimal, Memory};
-ghost use Rattle.rows_decimal.specs.Digits.{AreDigits, group_size as group_size_of, side_size as side_size_of, group_bytes, nines_bytes, before_bytes, after_bytes, top_flipped, signed};
-ghost use Rattle.rows_decimal.specs.Steps.{Gains, NoDigits, digits_in, has_minus_bit as has_minus_bit_in};
-ghost use Rattle.byteorder.specs.Endian.{big_number};
-ghost use Rattle.wire_buf.specs.Spelling.{AreBytes};
-ghost use Rattle.rows_decimal.specs.Decimals.{value_of, packed_size, some_digit, without_zero_groups, Unpacks, NonePacked, ReadsDecimal, FailsDecimal, ReadsPacked, FailsPacked};
+ghost use Rattle.rows_decimal.specs.Digits.{AreDigits, group_size as group_size_of, side_size as side_size_of, group_bytes, nines_bytes, before_bytes, after_bytes, digits_in};
+ghost use Rattle.rows_decimal.specs.Steps.{Gains, NoDigits};
+ghost use Rattle.rows_decimal.specs.TextSteps.{turned};
+ghost use Rattle.rows_decimal.specs.Decimals.{decimal_parts, packed_size, some_digit, without_zero_groups, Unpacks, NonePacked, ReadsDecimal, FailsDecimal, ReadsPacked, FailsPacked};
 ghost use Rattle.rows_decimal.specs.Unpacked.{unpacked, kept_of, packed_value, packed_fault};
 
 use crate::digits::{DIG_PER_DEC, GROUP_BYTES, decimal_bin_size, group_size, leading, side_size};
 use crate::fields::Decimal;
-use crate::packing::{flip_all, flip_top};
-use byteorder::{BigEndian, ByteOrder};
+use crate::group_number::{group_number, has_minus_bit, is_first};
 use rows_values::RowsError;
 use std::alloc::{AllocError, Global};
 use std::io::Read;
@@ -34,7 +32,7 @@ impl Decimal {
         scale: usize,
         keep_precision: bool,
     ) -> Result<Decimal, RowsError>
-        ensures ok { IfOk result (λ d. ReadsDecimal keep_precision precision scale (value_of d)
+        ensures ok { IfOk result (λ d. ReadsDecimal keep_precision precision scale (decimal_parts d)
             (R.remaining input.old) (R.remaining input.new)) }
         ensures err { IfErr result (λ e. FailsDecimal precision scale e
             (R.remaining input.old) (R.remaining input.new)) }
@@ -44,7 +42,7 @@ impl Decimal {
         }
         let mut bytes = Vec::new(alloc);
         read_more(input, decimal_bin_size(precision, scale) as u64, &mut bytes)?;
-        unpack(alloc, &mut bytes, precision - scale, scale, keep_precision)
+        unpack(alloc, &bytes, precision - scale, scale, keep_precision)
     }
 
     /// The decimal that the bytes pack, all of them: those of `precision` digits, `scale` of them after
@@ -60,7 +58,7 @@ impl Decimal {
         scale: usize,
         keep_precision: bool,
     ) -> Result<Decimal, RowsError>
-        ensures ok { IfOk result (λ d. kept_of keep_precision (unpacked precision scale bytes.now) ≡ Some (value_of d)) }
+        ensures ok { IfOk result (λ d. kept_of keep_precision (unpacked precision scale bytes.now) ≡ Some (decimal_parts d)) }
         ensures err { IfErr result (λ e. e ≡ Memory ⊎ ((e ≡ BadDecimal) × (unpacked precision scale bytes.now ≡ None))) }
     {
         if precision < scale {
@@ -69,8 +67,7 @@ impl Decimal {
         if bytes.len() != decimal_bin_size(precision, scale) {
             return Err(RowsError::Decimal);
         }
-        let mut copy = Vec::from_slice(alloc, bytes)?;
-        unpack(alloc, &mut copy, precision - scale, scale, keep_precision)
+        unpack(alloc, bytes, precision - scale, scale, keep_precision)
     }
 
     /// The decimal at the front of bytes that have its precision and its scale in one byte each and
@@ -83,7 +80,7 @@ impl Decimal {
         bytes: &[u8],
         keep_precision: bool,
     ) -> Result<Decimal, RowsError>
-        ensures ok { IfOk result (λ d. kept_of keep_precision (packed_value bytes.now) ≡ Some (value_of d)) }
+        ensures ok { IfOk result (λ d. kept_of keep_precision (packed_value bytes.now) ≡ Some (decimal_parts d)) }
         ensures err { IfErr result (λ e. e ≡ Memory ⊎ ((e ≡ packed_fault bytes.now) × (packed_value bytes.now ≡ None))) }
     {
         if bytes.len() < 2 {
@@ -108,7 +105,7 @@ impl Decimal {
         input: &mut R,
         keep_precision: bool,
     ) -> Result<Decimal, RowsError>
-        ensures ok { IfOk result (λ d. ReadsPacked keep_precision (value_of d)
+        ensures ok { IfOk result (λ d. ReadsPacked keep_precision (decimal_parts d)
             (R.remaining input.old) (R.remaining input.new)) }
         ensures err { IfErr result
             (λ e. FailsPacked e (R.remaining input.old) (R.remaining input.new)) }
@@ -129,49 +126,24 @@ impl Decimal {
 /// The decimal that the bytes pack, of so many digits before and after the point.
 fn unpack(
     alloc: Global,
-    bytes: &mut [u8],
+    bytes: &[u8],
     before: usize,
     after: usize,
     keep: bool,
 ) -> Result<Decimal, RowsError>
-    requires { length bytes.old ≡ packed_size before after }
-    ensures ok { IfOk result (λ d. Unpacks keep before after (value_of d) bytes.old) }
-    ensures err { IfErr result (λ e. e ≡ Memory ⊎ ((e ≡ BadDecimal) × NonePacked before after bytes.old)) }
+    requires { length bytes.now ≡ packed_size before after }
+    ensures ok { IfOk result (λ d. Unpacks keep before after (decimal_parts d) bytes.now) }
+    ensures err { IfErr result (λ e. e ≡ Memory ⊎ ((e ≡ BadDecimal) × NonePacked before after bytes.now)) }
 {
-    let negative = flip_back(bytes);
+    let negative = has_minus_bit(bytes);
     let (front, back) = bytes.split_at(side_size(before));
-    let mut whole = Vec::new(alloc);
-    take_before(front, before, &mut whole)?;
-    let mut fraction = Vec::new(alloc);
-    take_after(back, after, &mut fraction)?;
+    let mut whole = Vec::with_capacity(alloc, before)?;
+    take_before(front, negative, before, &mut whole)?;
+    let mut fraction = Vec::with_capacity(alloc, after)?;
+    take_after(back, negative, front.is_empty(), after, &mut fraction)?;
     drop_zero_groups(&mut whole, keep);
     let decimal = finish(alloc, negative, whole, fraction)?;
     Ok(decimal)
-}
-
-/// Flips packed bits back, and says whether they were those of a negative number.
-fn flip_back(bytes: &mut [u8]) -> bool
-    ensures sign { result ≡ has_minus_bit_in bytes.old }
-    ensures plain { bytes.new ≡ top_flipped (signed result bytes.old) }
-    ensures bytes { AreBytes bytes.old }
-{
-    let negative = has_minus_bit(bytes);
-    if negative {
-        flip_all(bytes);
-    }
-    flip_top(bytes);
-    negative
-}
-
-/// Whether packed bytes are those of a negative number.
-pub(crate) fn has_minus_bit(bytes: &[u8]) -> bool
-    ensures sign { result ≡ has_minus_bit_in bytes.now }
-    ensures bytes { AreBytes bytes.now }
-{
-    match bytes.first() {
-        Some(first) => *first < 128,
-        None => false,
-    }
 }
 
 /// The decimal of these digits, or zero where there is none.
@@ -183,7 +155,7 @@ fn finish(
 ) -> Result<Decimal, AllocError>
     requires before_are { AreDigits before.items }
     requires after_are { AreDigits after.items }
-    ensures { IfOk result (λ d. value_of d ≡ some_digit
+    ensures { IfOk result (λ d. decimal_parts d ≡ some_digit
         (record { negative = negative; before = before.items; after = after.items })) }
 {
     if before.is_empty() && after.is_empty() {
@@ -209,69 +181,90 @@ fn drop_zero_groups(digits: &mut Vec<u8>, keep: bool)
     drop(digits.drain(..unused));
 }
 
-/// Appends the digits before the point.
-fn take_before(bytes: &[u8], count: usize, digits: &mut Vec<u8>) -> Result<(), RowsError>
+/// Appends the digits before the point, of packed bytes of a negative decimal or not.
+fn take_before(
+    bytes: &[u8],
+    negative: bool,
+    count: usize,
+    digits: &mut Vec<u8>,
+) -> Result<(), RowsError>
     requires { length bytes.now ≡ side_size_of count }
-    ensures ok { OnOk result (Gains before_bytes count bytes.now digits.old.items digits.new.items) }
-    ensures err { IfErr result (λ e. e ≡ Memory ⊎ ((e ≡ BadDecimal) × NoDigits before_bytes count bytes.now)) }
+    ensures ok { OnOk result (Gains before_bytes count (turned negative true bytes.now) digits.old.items digits.new.items) }
+    ensures err { IfErr result (λ e. e ≡ Memory ⊎ ((e ≡ BadDecimal) × NoDigits before_bytes count (turned negative true bytes.now))) }
 {
     let left = count % DIG_PER_DEC;
     let (front, rest) = bytes.split_at(group_size(left));
-    take_group(front, left, digits)?;
-    take_nines(rest, count / DIG_PER_DEC, digits)
+    take_group(front, negative, true, left, digits)?;
+    take_nines(
+        rest,
+        negative,
+        front.is_empty(),
+        count / DIG_PER_DEC,
+        digits,
+    )
 }
 
-/// Appends the digits after the point.
-fn take_after(bytes: &[u8], count: usize, digits: &mut Vec<u8>) -> Result<(), RowsError>
+/// Appends the digits after the point; `top` says that there are none before it.
+fn take_after(
+    bytes: &[u8],
+    negative: bool,
+    top: bool,
+    count: usize,
+    digits: &mut Vec<u8>,
+) -> Result<(), RowsError>
     requires { length bytes.now ≡ side_size_of count }
-    ensures ok { OnOk result (Gains after_bytes count bytes.now digits.old.items digits.new.items) }
-    ensures err { IfErr result (λ e. e ≡ Memory ⊎ ((e ≡ BadDecimal) × NoDigits after_bytes count bytes.now)) }
+    ensures ok { OnOk result (Gains after_bytes count (turned negative top bytes.now) digits.old.items digits.new.items) }
+    ensures err { IfErr result (λ e. e ≡ Memory ⊎ ((e ≡ BadDecimal) × NoDigits after_bytes count (turned negative top bytes.now))) }
 {
     let whole = count / DIG_PER_DEC;
     let (front, rest) = bytes.split_at(GROUP_BYTES * whole);
-    take_nines(front, whole, digits)?;
-    take_group(rest, count % DIG_PER_DEC, digits)
+    take_nines(front, negative, top, whole, digits)?;
+    take_group(
+        rest,
+        negative,
+        is_first(top, whole),
+        count % DIG_PER_DEC,
+        digits,
+    )
 }
 
-/// Appends the digits of groups of nine.
-fn take_nines(bytes: &[u8], count: usize, digits: &mut Vec<u8>) -> Result<(), RowsError>
+/// Appends the digits of groups of nine; `top` says that no group stands in front of them.
+fn take_nines(
+    bytes: &[u8],
+    negative: bool,
+    top: bool,
+    count: usize,
+    digits: &mut Vec<u8>,
+) -> Result<(), RowsError>
     requires { length bytes.now ≡ 4 * count }
-    ensures ok { OnOk result (Gains (nines_bytes count) (9 * count) bytes.now digits.old.items digits.new.items) }
-    ensures err { IfErr result (λ e. e ≡ Memory ⊎ ((e ≡ BadDecimal) × NoDigits (nines_bytes count) (9 * count) bytes.now)) }
+    ensures ok { OnOk result (Gains (nines_bytes count) (9 * count) (turned negative top bytes.now) digits.old.items digits.new.items) }
+    ensures err { IfErr result (λ e. e ≡ Memory ⊎ ((e ≡ BadDecimal) × NoDigits (nines_bytes count) (9 * count) (turned negative top bytes.now))) }
 {
     for i in 0..count {
-        take_group(
-            &bytes[GROUP_BYTES * i..GROUP_BYTES * i + GROUP_BYTES],
-            DIG_PER_DEC,
-            digits,
-        )?;
+        let group = &bytes[GROUP_BYTES * i..GROUP_BYTES * i + GROUP_BYTES];
+        take_group(group, negative, is_first(top, i), DIG_PER_DEC, digits)?;
     }
     Ok(())
 }
 
-/// Appends the digits of one group.
-fn take_group(bytes: &[u8], count: usize, digits: &mut Vec<u8>) -> Result<(), RowsError>
+/// Appends the digits of one group; `top` says that it is the first of all.
+fn take_group(
+    bytes: &[u8],
+    negative: bool,
+    top: bool,
+    count: usize,
+    digits: &mut Vec<u8>,
+) -> Result<(), RowsError>
     requires few { count ≤ 9 }
     requires size { length bytes.now ≡ group_size_of count }
-    ensures ok { OnOk result (Gains group_bytes count bytes.now digits.old.items digits.new.items) }
-    ensures err { IfErr result (λ e. e ≡ Memory ⊎ ((e ≡ BadDecimal) × NoDigits group_bytes count bytes.now)) }
+    ensures ok { OnOk result (Gains group_bytes count (turned negative top bytes.now) digits.old.items digits.new.items) }
+    ensures err { IfErr result (λ e. e ≡ Memory ⊎ ((e ≡ BadDecimal) × NoDigits group_bytes count (turned negative top bytes.now))) }
 {
-    push_digits(number_at(bytes), count, digits)
-}
-
-/// The number in the bytes, the highest first.
-fn number_at(bytes: &[u8]) -> u64
-    requires { length bytes.now ≤ 8 }
-    ensures { result ≡ big_number (length bytes.now) bytes.now }
-{
-    if bytes.is_empty() {
-        return 0;
-    }
-    BigEndian::read_uint(bytes, bytes.len())
+    push_digits(group_number(bytes, negative, top), count, digits)
 }
 
 /// Appends the last digits of a number, if it has no more.
-fn push_digits(number: u64, count: usize, digits: &mut Vec<u8>) -> Result<(), RowsError>
+fn push_digits(number: u32, count: usize, digits: &mut Vec<u8>) -> Result<(), RowsError>
     requires { count ≤ 9 }
     ensures ok { OnOk result ((number < 10 ^ count)
         × (digits.new.items ≡ digits.old.items ++ digits_in count number)) }
@@ -287,7 +280,7 @@ fn push_digits(number: u64, count: usize, digits: &mut Vec<u8>) -> Result<(), Ro
 }
 
 /// Writes the last digits of a number over all of the places, and answers whether it has no more.
-fn put_digits(number: u64, places: &mut [u8]) -> bool
+fn put_digits(number: u32, places: &mut [u8]) -> bool
     ensures digits { places.new ≡ digits_in (length places.old) number }
     ensures fits { result ≡ true → number < 10 ^ length places.old }
     ensures past { result ≡ false → 10 ^ length places.old ≤ number }

@@ -1,14 +1,14 @@
-use Rattle.rows_decimal.proofs.UnpackedLemmas.{unpacked_is, is_unpacked, kept_unpacks, kept_is}
+use Rattle.rows_decimal.proofs.UnpackedLemmas.{unpacked-sound, unpacked-complete, kept-sound, kept-complete}
 use Rattle.rows_decimal.proofs.laws.packed_forms_are_unpacked.Goals as goal
 
-pub returns-clause-is : goal.returns-clause-is
-returns-clause-is c = unpacked_is
+pub returns-clause-sound : goal.returns-clause-sound
+returns-clause-sound c = unpacked-sound
 
-pub returns-clause-here : goal.returns-clause-here
-returns-clause-here c = is_unpacked
+pub returns-clause-complete : goal.returns-clause-complete
+returns-clause-complete c = unpacked-complete
 
-pub returns-clause-made : goal.returns-clause-made
-returns-clause-made c = kept_unpacks
+pub returns-clause-kept_sound : goal.returns-clause-kept_sound
+returns-clause-kept_sound c = kept-sound
 
-pub returns-clause-made_here : goal.returns-clause-made_here
-returns-clause-made_here c = kept_is
+pub returns-clause-kept_complete : goal.returns-clause-kept_complete
+returns-clause-kept_complete c = kept-complete

@@ -1,49 +1,47 @@
 use Rattle.std.proofs.Common.{refl}
-use Rattle.rows_decimal.specs.Digits.{before_bytes, after_bytes, nines_bytes}
-use Rattle.rows_decimal.specs.Decimals.{without_zero_nines}
-use Rattle.rows_decimal.specs.Texts.{text_value, spelled, is_spelled}
+use Rattle.rows_decimal.proofs.Computed.{computed}
 use Rattle.rows_decimal.proofs.UnpackLemmas.{no_hundred}
 use Rattle.rows_decimal.proofs.laws.worked_decimals.Goals as goal
 
 pub returns-clause-positive : goal.returns-clause-positive
-unfolding before_bytes after_bytes nines_bytes
+unfolding computed
 returns-clause-positive c = refl
 
 pub returns-clause-negative : goal.returns-clause-negative
-unfolding before_bytes after_bytes nines_bytes
+unfolding computed
 returns-clause-negative c = refl
 
 pub returns-clause-half : goal.returns-clause-half
-unfolding before_bytes after_bytes nines_bytes
+unfolding computed
 returns-clause-half c = refl
 
 pub returns-clause-taken : goal.returns-clause-taken
-unfolding text_value spelled is_spelled
+unfolding computed
 returns-clause-taken c = refl
 
 pub returns-clause-negative_zero : goal.returns-clause-negative_zero
-unfolding before_bytes after_bytes nines_bytes
+unfolding computed
 returns-clause-negative_zero c = refl
 
 pub returns-clause-hundred_refused : goal.returns-clause-hundred_refused
 returns-clause-hundred_refused c = no_hundred
 
 pub returns-clause-exponent_refused : goal.returns-clause-exponent_refused
-unfolding text_value spelled is_spelled
+unfolding computed
 returns-clause-exponent_refused c = refl
 
 pub returns-clause-point_alone_refused : goal.returns-clause-point_alone_refused
-unfolding text_value spelled is_spelled
+unfolding computed
 returns-clause-point_alone_refused c = refl
 
 pub returns-clause-two_points_refused : goal.returns-clause-two_points_refused
-unfolding text_value spelled is_spelled
+unfolding computed
 returns-clause-two_points_refused c = refl
 
 pub returns-clause-negative_zero_text : goal.returns-clause-negative_zero_text
-unfolding without_zero_nines
+unfolding computed
 returns-clause-negative_zero_text c = refl
 
 pub returns-clause-no_digits_left : goal.returns-clause-no_digits_left
-unfolding without_zero_nines
+unfolding computed
 returns-clause-no_digits_left c = refl

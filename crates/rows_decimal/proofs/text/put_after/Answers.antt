@@ -1,7 +1,7 @@
 use Rattle.std.proofs.Common.{◌≡◌, ◌*◌, ◌/◌, ◌%◌, arith, sym, ap, ◌∙◌}
 use Rattle.rows_decimal.specs.TextSteps.{turned}
 use Rattle.rows_decimal.proofs.TurnLemmas.{number_nine, number_rest, take-turned}
-use Rattle.rows_decimal.proofs.WriteLemmas.{follows_begin, follows_more, follows_last, kept_front, group_fits, group_past, nines_none_of, none_left, none_behind, powers_at}
+use Rattle.rows_decimal.proofs.WriteLemmas.{follows_begin, follows_more, follows_last, kept_front, group_fits, group_past, nines_none_of, none_left, none_behind}
 use Rattle.rows_decimal.proofs.text.put_after.Goals as goal
 
 pub loop-i-init : goal.loop-i-init
@@ -23,18 +23,18 @@ loop-i-preserved c =
     let number = number_nine c.args.negative c.args.top c.is_first.result c.loop-i.i _ _ c.group_number-number.result front c.is_first.ensures c.group_number-number.ensures in
     follows_more _ c.loop-i.i c.group_number-number.result c.args.at c.loop-i.end _ _ _ _ c.loop-i.invariant (group_fits 9 c.group_number-number.result _ number (omega arith)) c.put_places-end.ensures.end c.put_places-end.ensures.text
 
-pub returns-then-number-left : goal.returns-then-number-left
-returns-then-number-left c =
+pub returns-then-number-power_of_ten : goal.returns-then-number-power_of_ten
+returns-then-number-power_of_ten c =
     let number = number_rest c.args.negative c.args.top c.is_first-2.result (c.args.count / 9) c.args.bytes.now _ c.group_number-number-2.result c.split_at.ensures.back c.is_first-2.ensures c.group_number-number-2.ensures in
     let f = c.loop-i.invariant in
     let ends = f.end_is in
-    let power = powers_at (c.args.count % 9) (omega arith) in
-    (none_behind _ _ (group_past (c.args.count % 9) c.group_number-number-2.result _ number (omega (arith, power, c.if-number-left.true))), kept_front c.args.at c.loop-i.end _ _ _ (omega (arith, ends)) (omega arith) f.text)
+    let power = c.power_of_ten.ensures in
+    (none_behind _ _ (group_past (c.args.count % 9) c.group_number-number-2.result _ number (omega (arith, power, c.if-number-power_of_ten.true))), kept_front c.args.at c.loop-i.end _ _ _ (omega (arith, ends)) (omega arith) f.text)
 
 pub returns : goal.returns
 returns c =
     let number = number_rest c.args.negative c.args.top c.is_first-2.result (c.args.count / 9) c.args.bytes.now _ c.group_number-number-2.result c.split_at.ensures.back c.is_first-2.ensures c.group_number-number-2.ensures in
-    let power = powers_at (c.args.count % 9) (omega arith) in
+    let power = c.power_of_ten.ensures in
     let all : c.loop-i.i ≡ c.args.count / 9 = omega arith in
     follows_last _ _ (c.args.count / 9) c.loop-i.i c.args.count (c.args.count % 9) c.group_number-number-2.result c.args.at c.loop-i.end _ _ _ _ c.loop-i.invariant all
-    (group_fits (c.args.count % 9) c.group_number-number-2.result _ number (omega (arith, power, c.if-number-left.false))) (omega arith) c.put_places.ensures.end c.put_places.ensures.text
+    (group_fits (c.args.count % 9) c.group_number-number-2.result _ number (omega (arith, power, c.if-number-power_of_ten.false))) (omega arith) c.put_places.ensures.end c.put_places.ensures.text

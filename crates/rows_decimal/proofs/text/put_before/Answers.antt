@@ -1,21 +1,21 @@
 use Rattle.std.proofs.Common.{◌≡◌, ◌%◌, ◌/◌, true, eqb, arith, refl, ap, ◌∙◌}
 use Rattle.rows_decimal.specs.Digits.{group_size}
 use Rattle.rows_decimal.proofs.TurnLemmas.{number_front, number_nine, rest_turned}
-use Rattle.rows_decimal.proofs.WriteLemmas.{leads_begin, leads_more, kept_front, group_fits, group_past, nines_none_of, none_left, none_behind, powers_at}
+use Rattle.rows_decimal.proofs.WriteLemmas.{leads_begin, leads_more, kept_front, group_fits, group_past, nines_none_of, none_left, none_behind}
 use Rattle.rows_decimal.proofs.text.put_before.Goals as goal
 
-pub returns-then-number-left : goal.returns-then-number-left
-returns-then-number-left c =
+pub returns-then-number-power_of_ten : goal.returns-then-number-power_of_ten
+returns-then-number-power_of_ten c =
     let number = number_front c.args.negative true c.group_size.result (group_size (c.args.count % 9)) c.args.bytes.now _ c.group_number-number.result c.group_size.ensures.size c.split_at.ensures.front c.group_number-number.ensures in
-    let power = powers_at (c.args.count % 9) (omega arith) in
-    (none_left _ _ (group_past (c.args.count % 9) c.group_number-number.result _ number (omega (arith, power, c.if-number-left.true))), refl)
+    let power = c.power_of_ten.ensures in
+    (none_left _ _ (group_past (c.args.count % 9) c.group_number-number.result _ number (omega (arith, power, c.if-number-power_of_ten.true))), refl)
 
 pub loop-i-init : goal.loop-i-init
 loop-i-init c =
     let number = number_front c.args.negative true c.group_size.result (group_size (c.args.count % 9)) c.args.bytes.now _ c.group_number-number.result c.group_size.ensures.size c.split_at.ensures.front c.group_number-number.ensures in
-    let power = powers_at (c.args.count % 9) (omega arith) in
+    let power = c.power_of_ten.ensures in
     let e = c.put_lead-end.ensures in
-    leads_begin c.args.negative _ _ (c.args.count % 9) c.group_number-number.result c.args.at c.put_lead-end.result _ _ (group_fits (c.args.count % 9) c.group_number-number.result _ number (omega (arith, power, c.if-number-left.false))) e.from
+    leads_begin c.args.negative _ _ (c.args.count % 9) c.group_number-number.result c.args.at c.put_lead-end.result _ _ (group_fits (c.args.count % 9) c.group_number-number.result _ number (omega (arith, power, c.if-number-power_of_ten.false))) e.from
     e.most (e.none refl) (e.tells refl) e.text c.is_now_shown-shown.result c.is_now_shown-shown.ensures
 
 pub returns-then-number-ge1000000000 : goal.returns-then-number-ge1000000000

@@ -11,9 +11,9 @@ returns-then-bytes-decimal_bin_size-clause-err c =
     inr (refl, unpacked_other c.args.precision c.args.scale c.args.bytes.now (λ e. c.if-bytes-decimal_bin_size.true (e ∙ sym c.decimal_bin_size.ensures)))
 
 pub returns-clause-ok : goal.returns-clause-ok
-returns-clause-ok c = slice_ok c.args.keep_precision c.args.precision c.args.scale c.args.bytes.now _ _ (omega arith) (c.deref_mut.ensures.value ∙ c.in_ok-copy.ensures.items) c.unpack.ensures.ok
+returns-clause-ok c = slice_ok c.args.keep_precision c.args.precision c.args.scale c.args.bytes.now _ _ (omega arith) refl c.unpack.ensures.ok
 
 pub returns-clause-err : goal.returns-clause-err
 returns-clause-err c =
     let are : AreBytes c.args.bytes.now = λ k. omega (arith, c.type_inv.bytes k) in
-    slice_err c.args.precision c.args.scale c.args.bytes.now _ _ are (c.deref_mut.ensures.value ∙ c.in_ok-copy.ensures.items) c.unpack.ensures.err
+    slice_err c.args.precision c.args.scale c.args.bytes.now _ _ are refl c.unpack.ensures.err

@@ -3,8 +3,8 @@ use Rattle.byteorder.specs.Endian.{big_number}
 use Rattle.wire_buf.specs.Spelling.{AreBytes}
 use Rattle.rows_decimal.specs.Digits.{signed}
 use Rattle.rows_decimal.proofs.TurnLemmas.{minus_number, plus_number, high_number, low_number}
-use Rattle.rows_decimal.proofs.text.group_number.Goals as goal
-use Rattle.rows_decimal.proofs.text.group_number.Goals.{then-negative, else-negative}
+use Rattle.rows_decimal.proofs.group_number.group_number.Goals as goal
+use Rattle.rows_decimal.proofs.group_number.group_number.Goals.{then-negative, else-negative}
 
 pub returns-then-number-size : goal.returns-then-number-size
 returns-then-number-size c =
