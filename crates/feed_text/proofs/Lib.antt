@@ -3,3 +3,4 @@ pub mod PieceLemmas
 pub mod PaddingLemmas
 pub mod InjectiveLemmas
 pub mod WorkedLemmas
+pub mod ShortTextLemmas

@@ -1,17 +1,14 @@
 -- The text of the feed: the values of cells.
-use Rattle.std.specs.Prelude.{ℕ, Bool, true, false, List, [], ◌∷◌, codes}
+use Rattle.std.specs.Prelude.{ℕ, List, [], ◌∷◌, codes}
 use Rattle.std.specs.Fmt.{decimal, signed_decimal}
 use Rattle.std.specs.Int.{w32, w64, to_be_bytes}
 use Rattle.hex.specs.Hex.{encode_lower}
 use Rattle.rows_values.specs.TimeTexts.{padded}
 use Rattle.rows_values.specs.declared.rows.value.Value.{Value}
 use Rattle.rows_values.specs.declared.rows.value.Value.TheVariants.{NULL, Bytes, Int, UInt, Float, Double, Date, Time}
+use Rattle.rows_decimal.specs.Texts.{sign_text}
 use Rattle.feed_text.specs.Quoting.{quoted}
 use Rattle.feed_text.specs.Pieces.{joined}
-
-abbrev pub sign_text : Bool → List ℕ
-sign_text true = codes "-"
-sign_text false = []
 
 -- hours, minutes, seconds and microseconds
 abbrev pub clock_texts : ℕ → ℕ → ℕ → ℕ → List (List ℕ)

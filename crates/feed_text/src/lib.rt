@@ -9,6 +9,7 @@ pub mod laws;
 mod padding;
 mod pieces;
 mod quoting;
+mod short_text;
 mod values;
 
 pub use quoting::quote;

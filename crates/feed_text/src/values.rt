@@ -1,12 +1,13 @@
-ghost use Rattle.std.specs.Prelude.{◌≡◌, ◌≤◌, ◌++◌, OnOk, IfErr, Bool, length, take};
+ghost use Rattle.std.specs.Prelude.{◌≡◌, ◌≤◌, ◌++◌, OnOk, IfErr, length};
 ghost use Rattle.rows_values.specs.declared.rows.value.Value.TheVariants.{Date, Time};
-ghost use Rattle.feed_text.specs.Pieces.{IsRefused, joined};
-ghost use Rattle.feed_text.specs.ValueText.{value_text, sign_text, clock_texts};
+ghost use Rattle.feed_text.specs.Pieces.{IsRefused};
+ghost use Rattle.rows_decimal.specs.Texts.{sign_text};
+ghost use Rattle.feed_text.specs.ValueText.{value_text};
 
 use crate::digits::put_digits;
-use crate::padding::Digits;
 use crate::pieces::append_all;
 use crate::quoting::quote;
+use crate::short_text::ShortText;
 use itoa::Buffer;
 use rows_values::{RowsError, Value};
 use std::alloc::Allocator;
@@ -55,20 +56,16 @@ fn put_date<A: Allocator>(
         ++ value_text (Date date.0 date.1 date.2 clock.0 clock.1 clock.2 clock.3)) }
     ensures err { IfErr result (λ e. IsRefused e out.old.items out.new.items) }
 {
-    let start = out.len();
-    let year = Digits::with_width(4, u64::from(date.0));
-    let month = Digits::with_width(2, u64::from(date.1));
-    let day = Digits::with_width(2, u64::from(date.2));
-    let pieces = [
-        year.as_slice(),
-        b"-".as_slice(),
-        month.as_slice(),
-        b"-".as_slice(),
-        day.as_slice(),
-        b"T".as_slice(),
-    ];
-    append_all(&pieces, out)?;
-    put_clock(clock, start, out)
+    let mut text = ShortText::new();
+    text.push_four(date.0);
+    text.push(b'-');
+    text.push_two(date.1);
+    text.push(b'-');
+    text.push_two(date.2);
+    text.push(b'T');
+    text.push_clock(clock.0, clock.1, clock.2, clock.3);
+    out.extend_from_slice(text.as_slice())?;
+    Ok(())
 }
 
 /// Appends a sign and days, and hours, minutes, seconds and microseconds; or nothing.
@@ -82,47 +79,19 @@ fn put_span<A: Allocator>(
         ++ value_text (Time span.0 span.1 clock.0 clock.1 clock.2 clock.3)) }
     ensures err { IfErr result (λ e. IsRefused e out.old.items out.new.items) }
 {
-    let start = out.len();
-    let mut buffer = Buffer::new();
-    let days = buffer.format(span.1);
-    append_all(&[sign(span.0), days.as_bytes(), b"d".as_slice()], out)?;
-    put_clock(clock, start, out)
-}
-
-/// Appends hours, minutes, seconds and microseconds, or cuts the text back to `start`.
-fn put_clock<A: Allocator>(
-    clock: (u8, u8, u8, u32),
-    start: usize,
-    out: &mut Vec<u8, A>,
-) -> Result<(), RowsError>
-    requires { start ≤ length out.old.items }
-    ensures ok { OnOk result (out.new.items ≡ out.old.items
-        ++ joined (clock_texts clock.0 clock.1 clock.2 clock.3)) }
-    ensures err { IfErr result (λ e. IsRefused e (take start out.old.items) out.new.items) }
-{
-    let hours = Digits::with_width(2, u64::from(clock.0));
-    let minutes = Digits::with_width(2, u64::from(clock.1));
-    let seconds = Digits::with_width(2, u64::from(clock.2));
-    let micros = Digits::with_width(6, u64::from(clock.3));
-    let pieces = [
-        hours.as_slice(),
-        b":".as_slice(),
-        minutes.as_slice(),
-        b":".as_slice(),
-        seconds.as_slice(),
-        b".".as_slice(),
-        micros.as_slice(),
-    ];
-    let Ok(()) = append_all(&pieces, out) else {
-        out.truncate(start);
-        return Err(RowsError::Memory);
-    };
+    let mut text = ShortText::new();
+    text.push_all(sign(span.0));
+    text.push_padded(1, span.1);
+    text.push(b'd');
+    text.push_clock(clock.0, clock.1, clock.2, clock.3);
+    out.extend_from_slice(text.as_slice())?;
     Ok(())
 }
 
 /// The sign before a number.
 fn sign(is_negative: bool) -> &'static [u8]
-    ensures { result.now ≡ sign_text is_negative }
+    ensures sign { result.now ≡ sign_text is_negative }
+    ensures len { length result.now ≤ 1 }
 {
     if is_negative {
         b"-".as_slice()

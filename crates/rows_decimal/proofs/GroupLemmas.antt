@@ -1,16 +1,16 @@
 -- Digits, their groups, and the bytes of these.
-use Rattle.std.proofs.Common.{◌≡◌, ◌≤◌, ◌<◌, ◌+◌, ◌*◌, ◌-◌, ◌^◌, ◌++◌, ℕ, zero, suc, List, [], ◌∷◌, length, take, drop, map, get_or, eqb, ltb, true, false, inl, inr, append_assoc, arith, refl, sym, ap, ◌∙◌}
+use Rattle.std.proofs.Common.{◌≡◌, ◌≤◌, ◌<◌, ◌+◌, ◌*◌, ◌-◌, ◌^◌, ◌++◌, ℕ, zero, suc, List, [], ◌∷◌, length, take, drop, map, get_or, eqb, ltb, true, false, inl, inr, arith, refl, sym, ap, ◌∙◌}
 use Rattle.std.proofs.Math.Nat.{pow-le-pow_right}
 use Rattle.std.proofs.Math.Seq.{take-length}
 use borrow.Author.Tests.{ltb-true}
-use Rattle.std.proofs.lemmas.List.{length-take-le, length-map, append-nil, length-drop, drop-append-le, take-append-le}
+use Rattle.std.proofs.lemmas.List.{length-take-le, length-map, length-drop, drop-append-le, take-append-le}
 use Rattle.std.proofs.lemmas.Int.Digits.{number_lt}
 use Rattle.std.proofs.lemmas.List.Sums.{prefix_len_is}
 use Rattle.std.proofs.lemmas.Bool.Decides.{eqb_tells}
 use Rattle.std.specs.List.{prefix_len, position_or_len, list_all}
 use Rattle.std.proofs.lemmas.Bool.{and_parts}
 use Rattle.std.proofs.lemmas.Bool.Decides.{nat_tests}
-use Rattle.std.specs.Prelude.{not, slice_range, ◌&&◌}
+use Rattle.std.specs.Prelude.{not, ◌&&◌}
 use Rattle.std.specs.Char.{is_ascii_digit}
 use Rattle.std.specs.Int.{bytes_high_first}
 use Rattle.std.specs.Int.Digits.{number_from_digits, AllBelowBase}
@@ -121,17 +121,6 @@ number_room ds i below few are =
     let most : length (take i ds) ≤ 8 = omega (arith, size, below, few) in
     let ten : 0 < 10 = omega arith in
     omega (arith, bound, pow-le-pow_right {n = 10} ten most)
-
--- one group more is appended
-pub nines_push : (i : ℕ) (ds old mid new : List ℕ) → mid ≡ old ++ nines_bytes i ds → new ≡ mid ++ group_bytes (slice_range ds (9 * i) (9 * i + 9)) → new ≡ old ++ nines_bytes (i + 1) ds
-nines_push i ds old mid new so_far more =
-    let nine : 9 * i + 9 - 9 * i ≡ 9 = omega arith in
-    more ∙ ap (λ k. mid ++ group_bytes (take k (drop (9 * i) ds))) nine ∙ ap (λ l. l ++ group_bytes (take 9 (drop (9 * i) ds))) so_far
-    ∙ append_assoc old (nines_bytes i ds) (group_bytes (take 9 (drop (9 * i) ds))) ∙ ap (λ l. old ++ l) (sym (nines_more i ds))
-
-pub nines_none : (ds old : List ℕ) → old ≡ old ++ nines_bytes 0 ds
-unfolding nines_bytes
-nines_none ds old = sym (append-nil old)
 
 -- what spells a decimal makes digits, and at least one
 pub spelled_facts : (a b : List ℕ) → is_spelled a b ≡ true → AreDigits (digits_of a) × AreDigits (digits_of b) × (0 < length (digits_of a) + length (digits_of b))

@@ -71,9 +71,6 @@ low_number negative top xs n few h is e low =
     rw is (ap (λ m. m + tops (length xs)) number ∙ ap (λ k. num (signed negative xs) + tops k) (sym long) ∙ low_turned (signed negative xs) least (signed_are negative xs h) under
     ∙ ap (λ k. big_number k (top_flipped (signed negative xs))) long)
 
-pub flat_number : (negative top : Bool) (xs : List ℕ) (n : ℕ) → top ≡ false → n ≡ big_number (length xs) (signed negative xs) → n ≡ big_number (length xs) (turned negative top xs)
-flat_number negative top xs n is e = rw is e
-
 -- ---- fronts and rests of turned bytes
 
 pub length-turned : (negative top : Bool) (xs : List ℕ) → length (turned negative top xs) ≡ length xs

@@ -6,7 +6,6 @@ use Rattle.std.proofs.lemmas.Bool.Decides.{leb_tells}
 use Rattle.std.proofs.lemmas.List.{length-append, length-take, length-take-le, length-drop, take-append-drop}
 use Rattle.std.specs.Int.{bytes_high_first}
 use Rattle.std.specs.Int.Digits.{number_from_digits}
-use Rattle.byteorder.specs.Endian.{big_from}
 use Rattle.wire_buf.specs.Spelling.{AreBytes}
 use Rattle.std.specs.Prelude.{if◌then◌else◌}
 use Rattle.rows_decimal.specs.Digits.{AreDigits, group_size, side_size, group_bytes, nines_bytes, before_bytes, after_bytes, top_flipped, signed, has_minus_bit}
@@ -282,9 +281,6 @@ lacks_after neg before after s bytes x sign plain is none v p =
     let long : length (before_bytes v.before) ≡ s = length-before v.before ∙ ap side_size p.before_size ∙ sym is in
     none v.after p.after_size p.after_are
     (sym (drop-append_seam (before_bytes v.before) (after_bytes v.after)) ∙ ap (λ k. drop k (before_bytes v.before ++ after_bytes v.after)) long ∙ ap (drop s) (sym (plain_of neg bytes x before after v sign plain p)))
-
-pub no_number : (xs : List ℕ) → length xs ≡ 0 → 0 ≡ big_from 0 (length xs) xs
-no_number xs e = ap (λ k. big_from 0 k xs) (sym e)
 
 pub gains_from_none : (pack : List ℕ → List ℕ) (count : ℕ) (bytes old new : List ℕ) → old ≡ [] → Gains pack count bytes old new → Gains pack count bytes [] new
 gains_from_none pack count bytes old new e g = record { digits = g.digits; size = g.size; are = g.are; bytes_are = g.bytes_are; appended = g.appended ∙ ap (λ l. l ++ g.digits) e }

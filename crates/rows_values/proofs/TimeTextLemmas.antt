@@ -12,7 +12,7 @@ longer : (n : ℕ) → 10 ≤ n → n < 2 ^ 64 → length (decimal n) ≡ length
 longer n m h = ap length (decimal_step n m h) ∙ length-append (decimal (n / 10)) ((48 + n % 10) ∷ [])
 
 -- the last digit stands apart
-padded_more : (k n : ℕ) → n < 2 ^ 64 → padded (suc (suc k)) n ≡ padded (suc k) (n / 10) ++ (48 + n % 10) ∷ []
+pub padded_more : (k n : ℕ) → n < 2 ^ 64 → padded (suc (suc k)) n ≡ padded (suc k) (n / 10) ++ (48 + n % 10) ∷ []
 unfolding padded
 padded_more k n h = either (nat_lt n 10) refl
   where
@@ -32,7 +32,7 @@ padded_more k n h = either (nat_lt n 10) refl
         ∙ ap (λ (t : List ℕ). replicate (suc k - length (decimal (n / 10))) 48 ++ t) (decimal_step n m h)
         ∙ sym (append_assoc (replicate (suc k - length (decimal (n / 10))) 48) (decimal (n / 10)) ((48 + n % 10) ∷ []))
 
-padded_one : (n : ℕ) → n < 10 → padded 1 n ≡ (48 + n) ∷ []
+pub padded_one : (n : ℕ) → n < 10 → padded 1 n ≡ (48 + n) ∷ []
 unfolding padded
 padded_one n l = rw (decimal_digit n l) refl
 
