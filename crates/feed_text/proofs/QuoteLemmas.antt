@@ -1,15 +1,9 @@
 -- Quoting, a run of plain bytes at a time.
-use Rattle.std.proofs.Common.{◌≡◌, ◌≤◌, ◌<◌, ◌/◌, ◌%◌, slice_index, ℕ, suc, ◌+◌, Bool, true, false, List, [], ◌∷◌, ◌++◌, length, take, drop, refl, sym, ap, ◌∙◌, append_assoc, arith, length-take}
+use Rattle.std.proofs.Common.{◌≡◌, ◌≤◌, ◌<◌, ◌/◌, ◌%◌, slice_index, ℕ, zero, suc, ◌+◌, Bool, true, false, List, [], ◌∷◌, ◌++◌, length, take, drop, refl, sym, ap, ◌∙◌, append_assoc, arith, length-take}
 use Rattle.std.proofs.lemmas.List.{append-nil, take-append-le}
-use Rattle.std.specs.Prelude.{take_while}
+use Rattle.std.specs.Prelude.{take_while, not}
 use Rattle.std.specs.List.{flat_map, prefix_len}
-use Rattle.std.specs.Fmt.{digit_glyph}
-use Rattle.hex.specs.Hex.{lower_digits, encode_with, encode_lower}
-use Rattle.feed_text.specs.Quoting.{is_plain_byte, quoted_byte, quoted}
-
--- the digit of the table
-glyph_at : (d : ℕ) → d < 16 → slice_index lower_digits d ≡ digit_glyph false d
-glyph_at d h = grind arith
+use Rattle.feed_text.specs.Quoting.{is_plain_byte, escape, quoted_byte, quoted}
 
 -- the plain bytes at the front stand for themselves
 pub plain_run : (xs : List ℕ) → flat_map quoted_byte xs ≡ take (length (take_while is_plain_byte xs)) xs ++ flat_map quoted_byte (drop (length (take_while is_plain_byte xs)) xs)
@@ -42,7 +36,38 @@ kept_more old out new more kept is =
     let long : length old ≤ length out = let e = ap length kept in let l = length-take (length old) out in omega (arith, e, l) in
     ap (take (length old)) is ∙ take-append-le (length old) out more long ∙ kept
 
--- a byte that doesn't stand for itself
-pub quoted_other : (b : ℕ) → b < 256 → is_plain_byte b ≡ false → 92 ∷ encode_lower (b ∷ []) ≡ quoted_byte b
-unfolding encode_with
-quoted_other b h plain = rw (plain, glyph_at (b / 16) (omega (arith, h)), glyph_at (b % 16) (omega arith)) refl
+-- the first bytes that don't stand for themselves are escaped
+pub escaped_run : (m : ℕ) (xs : List ℕ) → (let n = length (take_while (λ b. not (is_plain_byte b)) (take m xs)) in flat_map quoted_byte xs ≡ flat_map escape (take n xs) ++ flat_map quoted_byte (drop n xs))
+escaped_run zero xs = refl
+escaped_run (suc m) [] = refl
+escaped_run (suc m) (x ∷ xs) = either (is_plain_byte x) refl (escaped_run m xs)
+  where
+    either : (b : Bool) → is_plain_byte x ≡ b
+        → (let n = length (take_while (λ b. not (is_plain_byte b)) (take m xs)) in flat_map quoted_byte xs ≡ flat_map escape (take n xs) ++ flat_map quoted_byte (drop n xs))
+        → (let n = length (take_while (λ b. not (is_plain_byte b)) (x ∷ take m xs)) in flat_map quoted_byte (x ∷ xs) ≡ flat_map escape (take n (x ∷ xs)) ++ flat_map quoted_byte (drop n (x ∷ xs)))
+    either true h more = rw (h, h) refl
+    either false h more =
+        let e : 1 + prefix_len (λ b. not (is_plain_byte b)) (take m xs) ≡ suc (prefix_len (λ b. not (is_plain_byte b)) (take m xs)) = omega arith in
+        rw h (simp e (ap (λ (t : List ℕ). escape x ++ t) more))
+
+-- where no byte at the front stands for itself, there is one to be escaped
+pub some_escaped : (m : ℕ) (xs : List ℕ) → 0 < length xs → length (take_while is_plain_byte xs) ≡ 0 → 0 < length (take_while (λ b. not (is_plain_byte b)) (take (suc m) xs))
+some_escaped m [] some none = absurd (omega (arith, some))
+some_escaped m (x ∷ xs) some none = either (is_plain_byte x) refl
+  where
+    either : (b : Bool) → is_plain_byte x ≡ b → 0 < length (take_while (λ b. not (is_plain_byte b)) (x ∷ take m xs))
+    either true h =
+        let e : 1 + prefix_len is_plain_byte xs ≡ suc (prefix_len is_plain_byte xs) = omega arith in
+        let first = rw h at none in
+        let bad = simp e at first in
+        absurd (omega (arith, bad))
+    either false h =
+        let e : 1 + prefix_len (λ b. not (is_plain_byte b)) (take m xs) ≡ suc (prefix_len (λ b. not (is_plain_byte b)) (take m xs)) = omega arith in
+        rw h (simp e (omega arith))
+
+-- a run of bytes was escaped, and what is left begins behind it
+pub escapes_more : (out new others after rest : List ℕ) (n : ℕ) → new ≡ out ++ flat_map escape others → others ≡ take n rest → after ≡ drop n rest
+    → n ≡ length (take_while (λ b. not (is_plain_byte b)) (take 16 rest)) → new ++ flat_map quoted_byte after ≡ out ++ flat_map quoted_byte rest
+escapes_more out new others after rest n is front back len =
+    let m : ℕ = length (take_while (λ b. not (is_plain_byte b)) (take 16 rest)) in
+    rw (is, front, back, len, append_assoc out (flat_map escape (take m rest)) (flat_map quoted_byte (drop m rest))) (ap (λ (t : List ℕ). out ++ t) (sym (escaped_run 16 rest)))

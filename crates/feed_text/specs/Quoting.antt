@@ -7,9 +7,13 @@ use Rattle.std.specs.Fmt.{digit_glyph}
 abbrev pub is_plain_byte : ℕ → Bool
 is_plain_byte b = nat_le 32 b && nat_le b 126 && not (b == 39) && not (b == 92)
 
--- a byte within quotes: itself, or a backslash and two hexadecimal digits
+-- a backslash and the two lower case hexadecimal digits of a byte
+abbrev pub escape : ℕ → List ℕ
+escape b = 92 ∷ digit_glyph false (b / 16) ∷ digit_glyph false (b % 16) ∷ []
+
+-- a byte within quotes: itself, or its escape
 abbrev pub quoted_byte : ℕ → List ℕ
-quoted_byte b = if is_plain_byte b then b ∷ [] else 92 ∷ digit_glyph false (b / 16) ∷ digit_glyph false (b % 16) ∷ []
+quoted_byte b = if is_plain_byte b then b ∷ [] else escape b
 
 -- bytes between quotes
 unfoldable pub quoted : List ℕ → List ℕ

@@ -1,10 +1,14 @@
-ghost use Rattle.std.specs.Prelude.{◌≡◌, ◌<◌, ◌++◌, OnOk, IfErr, false, length, take, take_while};
-ghost use Rattle.feed_text.specs.Quoting.{is_plain_byte, quoted_byte, quoted};
+ghost use Rattle.std.specs.Prelude.{◌≡◌, ◌≤◌, ◌++◌, OnOk, IfErr, not, length, take, take_while};
+ghost use Rattle.std.specs.List.{flat_map};
+ghost use Rattle.feed_text.specs.Quoting.{is_plain_byte, escape, quoted};
 ghost use Rattle.feed_text.specs.Pieces.{IsRefused};
 
-use crate::digits::put_digits;
+use crate::short_text::ShortText;
 use rows_values::RowsError;
 use std::alloc::Allocator;
+
+/// How many bytes are escaped and appended at once.
+const ESCAPED_AT_ONCE: usize = 16;
 
 /// Appends bytes between single quotes: 0x20 to 0x7e save quote and backslash as they are, each
 /// other byte as a backslash and two lower case hexadecimal digits. Want of memory is `Memory`, and
@@ -29,11 +33,12 @@ fn append_quoted<A: Allocator>(bytes: &[u8], out: &mut Vec<u8, A>) -> Result<(),
 {
     out.push(b'\'')?;
     let mut rest = bytes;
-    while let Some((first, _)) = rest.split_first() {
+    while !rest.is_empty() {
         let (plain, after) = rest.split_at(plain_len(rest));
         if plain.is_empty() {
-            put_byte(*first, out)?;
-            rest = &rest[1..];
+            let (others, after) = rest.split_at(escaped_len(rest));
+            append_escapes(others, out)?;
+            rest = after;
         } else {
             out.extend_from_slice(plain)?;
             rest = after;
@@ -43,13 +48,29 @@ fn append_quoted<A: Allocator>(bytes: &[u8], out: &mut Vec<u8, A>) -> Result<(),
     Ok(())
 }
 
-/// Appends a backslash and the two digits of a byte that doesn't stand for itself, or nothing.
-fn put_byte<A: Allocator>(byte: u8, out: &mut Vec<u8, A>) -> Result<(), RowsError>
-    requires { is_plain_byte byte ≡ false }
-    ensures ok { OnOk result (out.new.items ≡ out.old.items ++ quoted_byte byte) }
+/// Appends the escapes of at most sixteen bytes, or nothing.
+fn append_escapes<A: Allocator>(bytes: &[u8], out: &mut Vec<u8, A>) -> Result<(), RowsError>
+    requires { length bytes.now ≤ 16 }
+    ensures ok { OnOk result (out.new.items ≡ out.old.items ++ flat_map escape bytes.now) }
     ensures err { IfErr result (λ e. IsRefused e out.old.items out.new.items) }
 {
-    put_digits(b'\\', &[byte], out)
+    let mut text = ShortText::new();
+    for byte in bytes {
+        text.push_escape(*byte);
+    }
+    out.extend_from_slice(text.as_slice())?;
+    Ok(())
+}
+
+/// How many of the first sixteen bytes do not stand for themselves, up to the first that does.
+fn escaped_len(bytes: &[u8]) -> usize
+    ensures { result ≡ length (take_while (λ b. not (is_plain_byte b)) (take 16 bytes.now)) }
+{
+    bytes
+        .iter()
+        .take(ESCAPED_AT_ONCE)
+        .take_while(|byte| !is_plain(**byte))
+        .count()
 }
 
 /// How many bytes at the front stand for themselves.

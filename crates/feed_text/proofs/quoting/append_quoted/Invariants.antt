@@ -4,11 +4,11 @@ use Rattle.feed_text.specs.Quoting.{quoted_byte}
 use Rattle.feed_text.proofs.quoting.append_quoted.Given as goal
 
 -- what is written and what is left to write is all, and what stood there stands there
-abbrev pub invariant-loop-first : goal.invariant-loop-first
-invariant-loop-first g l = record {
+abbrev pub invariant-loop-rest : goal.invariant-loop-rest
+invariant-loop-rest g l = record {
   written : l.out.items ++ flat_map quoted_byte l.rest ≡ (l.fn.out.items ++ 39 ∷ []) ++ flat_map quoted_byte l.bytes;
   kept : take (length l.fn.out.items) l.out.items ≡ l.fn.out.items;
 }
 
-abbrev pub decreases-loop-first : goal.decreases-loop-first
-decreases-loop-first g l = length l.rest
+abbrev pub decreases-loop-rest : goal.decreases-loop-rest
+decreases-loop-rest g l = length l.rest
