@@ -4,3 +4,4 @@ pub mod PaddingLemmas
 pub mod InjectiveLemmas
 pub mod WorkedLemmas
 pub mod ShortTextLemmas
+pub mod DecimalTextLemmas

@@ -1,5 +1,5 @@
 -- Quoting, a run of plain bytes at a time.
-use Rattle.std.proofs.Common.{◌≡◌, ◌≤◌, ◌<◌, ◌/◌, ◌%◌, slice_index, ℕ, zero, suc, ◌+◌, Bool, true, false, List, [], ◌∷◌, ◌++◌, length, take, drop, refl, sym, ap, ◌∙◌, append_assoc, arith, length-take}
+use Rattle.std.proofs.Common.{◌≡◌, ◌≤◌, ℕ, zero, suc, ◌+◌, Bool, true, false, List, [], ◌∷◌, ◌++◌, length, take, drop, refl, sym, ap, ◌∙◌, append_assoc, arith, length-take}
 use Rattle.std.proofs.lemmas.List.{append-nil, take-append-le}
 use Rattle.std.specs.Prelude.{take_while, not}
 use Rattle.std.specs.List.{flat_map, prefix_len}
@@ -49,21 +49,6 @@ escaped_run (suc m) (x ∷ xs) = either (is_plain_byte x) refl (escaped_run m xs
     either false h more =
         let e : 1 + prefix_len (λ b. not (is_plain_byte b)) (take m xs) ≡ suc (prefix_len (λ b. not (is_plain_byte b)) (take m xs)) = omega arith in
         rw h (simp e (ap (λ (t : List ℕ). escape x ++ t) more))
-
--- where no byte at the front stands for itself, there is one to be escaped
-pub some_escaped : (m : ℕ) (xs : List ℕ) → 0 < length xs → length (take_while is_plain_byte xs) ≡ 0 → 0 < length (take_while (λ b. not (is_plain_byte b)) (take (suc m) xs))
-some_escaped m [] some none = absurd (omega (arith, some))
-some_escaped m (x ∷ xs) some none = either (is_plain_byte x) refl
-  where
-    either : (b : Bool) → is_plain_byte x ≡ b → 0 < length (take_while (λ b. not (is_plain_byte b)) (x ∷ take m xs))
-    either true h =
-        let e : 1 + prefix_len is_plain_byte xs ≡ suc (prefix_len is_plain_byte xs) = omega arith in
-        let first = rw h at none in
-        let bad = simp e at first in
-        absurd (omega (arith, bad))
-    either false h =
-        let e : 1 + prefix_len (λ b. not (is_plain_byte b)) (take m xs) ≡ suc (prefix_len (λ b. not (is_plain_byte b)) (take m xs)) = omega arith in
-        rw h (simp e (omega arith))
 
 -- a run of bytes was escaped, and what is left begins behind it
 pub escapes_more : (out new others after rest : List ℕ) (n : ℕ) → new ≡ out ++ flat_map escape others → others ≡ take n rest → after ≡ drop n rest

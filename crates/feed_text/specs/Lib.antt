@@ -1,3 +1,4 @@
 pub mod Quoting
 pub mod Pieces
 pub mod ValueText
+pub mod DecimalText

@@ -4,6 +4,7 @@
 //! was. `specs/` has the texts.
 #![tactic(auto)]
 
+mod decimals;
 mod digits;
 pub mod laws;
 mod padding;
@@ -12,5 +13,6 @@ mod quoting;
 mod short_text;
 mod values;
 
+pub use decimals::put_decimal;
 pub use quoting::quote;
 pub use values::put_value;

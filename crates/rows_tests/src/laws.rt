@@ -12,6 +12,8 @@ fn laws_of_constants(_rt: HostRuntime) {
 #[test]
 fn laws_of_values(_rt: HostRuntime) {
     rows::equal_values_are_the_same();
+    rows::equal_columns_and_times_are_the_same();
+    rows::equal_rows_are_the_same();
     rows::worked_time();
     rows::worked_date_and_time();
     rows::worked_bits();
@@ -22,6 +24,8 @@ fn laws_of_decimals(_rt: HostRuntime) {
     rows::numbers_in_order();
     rows::packed_forms_are_uniquely_read();
     rows::packed_forms_are_unpacked();
+    rows::packed_forms_are_read_back();
+    rows::named_numbers();
     rows::only_zero_groups_are_dropped();
     rows::texts_are_taken_back();
     rows::worked_decimals();

@@ -1,6 +1,6 @@
 //! Quoted bytes and the texts of values.
 
-use feed_text::{put_value, quote};
+use feed_text::{put_decimal, put_value, quote};
 use linked_list_allocator::LocalHeap;
 use mysql_binlog_rows::{
     RowsError, Value, datetime_from_packed, my_datetime_packed_from_binary,
@@ -21,6 +21,61 @@ fn quoting_and_base64_quoted(rt: HostRuntime) -> Result<(), Fail> {
     let mut out = Vec::new(rt.alloc());
     quote(&[0x27, 0x5c, 0x0a, 0x41], &mut out)?;
     assert_eq!(rt; out.as_slice(), br"'\27\5c\0aA'".as_slice());
+    Ok(())
+}
+
+// More bytes that need a backslash than are escaped at once, between bytes that don't.
+#[test]
+fn many_escapes(rt: HostRuntime) -> Result<(), Fail> {
+    let mut out = Vec::new(rt.alloc());
+    quote(
+        &[
+            b'a', 0, 0, 0, 0, 0, 0, 0, 0, 0, 0, 0, 0, 0, 0, 0, 0, 0, 0xff, b'b',
+        ],
+        &mut out,
+    )?;
+    let zeros = br"\00\00\00\00\00\00\00\00\00\00\00\00\00\00\00\00\00";
+    let mut wanted = Vec::from_slice(rt.alloc(), b"'a")?;
+    wanted.extend_from_slice(zeros.as_slice())?;
+    wanted.extend_from_slice(br"\ffb'".as_slice())?;
+    assert_eq!(rt; out.as_slice(), wanted.as_slice());
+    Ok(())
+}
+
+// Decimals straight from their packed bytes, and bytes that pack none: what stood there stands.
+#[test]
+fn packed_decimals_as_text(rt: HostRuntime) -> Result<(), Fail> {
+    let mut out = Vec::from_slice(rt.alloc(), b"a")?;
+    put_decimal(b"\x7e\xf2\x04\xc7\x2d\xfb\x2d", 14, 4, &mut out)?;
+    assert_eq!(rt; out.as_slice(), b"a'-1234567890.1234'".as_slice());
+    put_decimal(b"\x80", 2, 0, &mut out)?;
+    assert_eq!(rt; out.as_slice(), b"a'-1234567890.1234''0'".as_slice());
+    out.truncate(1);
+    let refused = [
+        (b"\xe4".as_slice(), 2, 0),
+        (b"\x80\x00".as_slice(), 2, 3),
+        (b"\x80".as_slice(), 4, 0),
+        (b"\x80\x00".as_slice(), 2, 0),
+    ];
+    for (bytes, precision, scale) in refused {
+        assert_eq!(rt;
+            put_decimal(bytes, precision, scale, &mut out),
+            Err(RowsError::Decimal)
+        );
+        assert_eq!(rt; out.as_slice(), b"a".as_slice());
+    }
+    let heap = LocalHeap::new(rt.alloc(), 32)?;
+    let mut none = Vec::new(&heap);
+    assert_eq!(rt;
+        put_decimal(
+            b"\x80\x00\x00\x00\x00\x00\x00\x00\x00\x00\x00\x00\x00\x00\x00\x00\x00\x00\x00\x00\x00\x00\x00\x00\x00\x00\x00",
+            60,
+            0,
+            &mut none
+        ),
+        Err(RowsError::Memory)
+    );
+    assert!(rt; none.is_empty());
     Ok(())
 }
 

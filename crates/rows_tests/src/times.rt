@@ -3,9 +3,10 @@
 use crate::devices::FailingReader;
 use mysql_binlog_rows::{
     DATETIMEF_INT_OFS, MysqlTime, MysqlTimestampType, RowsError, TIMEF_INT_OFS, TIMEF_OFS, Value,
-    datetime_from_packed, my_datetime_packed_from_binary, my_packed_time_get_frac_part,
-    my_packed_time_get_int_part, my_packed_time_make, my_packed_time_make_int,
-    my_time_packed_from_binary, my_timestamp_from_binary, time_from_packed,
+    datetime_from_packed, datetime_of, fraction_size, my_datetime_packed_from_binary,
+    my_packed_time_get_frac_part, my_packed_time_get_int_part, my_packed_time_make,
+    my_packed_time_make_int, my_time_packed_from_binary, my_timestamp_from_binary,
+    time_from_packed, time_of, timestamp_of,
 };
 
 // A span below zero, whose fraction has the sign of the whole.
@@ -121,6 +122,18 @@ fn cell_values_of_times(rt: HostRuntime) {
     );
     let mut input: &[u8] = &[0x00, 0x00, 0x00, 0x01, 0xff, 0xff, 0xfb];
     assert_eq!(rt; my_timestamp_from_binary(&mut input, 6), Ok((1, -5)));
+}
+
+// Cells that lie in slices, with bytes behind them.
+#[test]
+fn cells_in_slices(rt: HostRuntime) {
+    assert_eq!(rt; fraction_size(2), 1);
+    assert_eq!(rt; time_of(b"\x7f\xff\xfe\xf6\x01", 2), -16_877_216);
+    assert_eq!(rt;
+        datetime_from_packed(datetime_of(b"\x99\x83\xb0\x90\xf9", 0)),
+        Value::Date(2009, 9, 24, 9, 3, 57, 0)
+    );
+    assert_eq!(rt; timestamp_of(b"\x00\x00\x00\x01\xff\xff\xfb", 6), (1, -5));
 }
 
 // An end of the input and a reader that fails.

@@ -1,5 +1,4 @@
-use Rattle.std.proofs.Common.{◌≡◌, ◌≤◌, ◌++◌, ◌∷◌, [], List, ℕ, length, arith, rules, ap, append_assoc, ◌∙◌}
-use Rattle.rows_values.specs.TimeTexts.{padded}
+use Rattle.std.proofs.Common.{◌≡◌, length, arith, rules, ap}
 use Rattle.feed_text.specs.ValueText.{value_text}
 use Rattle.feed_text.proofs.ShortTextLemmas.{length-padded, padded_least, span_whole}
 use Rattle.feed_text.proofs.values.put_span.Goals as goal
