@@ -8,6 +8,7 @@ pub use Rattle.rows_values.specs.Faults
 pub use Rattle.rows_values.specs.PackedTimes
 pub use Rattle.rows_values.specs.ReadTimes
 pub use Rattle.rows_values.specs.TimeFields
+pub use Rattle.rows_values.specs.TimePlaces
 pub use Rattle.rows_values.specs.Values
 pub use Rattle.rows_values.specs.Columns
 pub use Rattle.rows_values.specs.BitLists

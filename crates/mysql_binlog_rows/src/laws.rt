@@ -1,13 +1,14 @@
-//! Laws of constants, values and decimals, each proved as the contract of a function. Those that do nothing hold of the
-//! definitions alone.
+//! Laws of constants, values and decimals, each proved as the contract of a function that does nothing.
 
-pub use rows_consts::laws::{numbers_are_distinct, orders_are_of_numbers, worked_numbers};
+pub use rows_consts::laws::{
+    numbers_are_distinct, orders_are_of_numbers, transaction_numbers, worked_numbers,
+};
 pub use rows_decimal::laws::{
-    numbers_in_order, only_zero_groups_are_dropped, packed_forms_are_uniquely_read,
-    named_numbers, packed_forms_are_read_back, packed_forms_are_unpacked, texts_are_taken_back,
+    named_numbers, numbers_in_order, only_zero_groups_are_dropped, packed_forms_are_read_back,
+    packed_forms_are_uniquely_read, packed_forms_are_unpacked, texts_are_taken_back,
     worked_decimals, worked_unpacking,
 };
 pub use rows_values::laws::{
     equal_columns_and_times_are_the_same, equal_rows_are_the_same, equal_values_are_the_same,
-    worked_bits, worked_date_and_time, worked_time,
+    fields_stand_at_their_places, times_by_cases, worked_bits, worked_date_and_time, worked_time,
 };

@@ -38,6 +38,12 @@ pub fn numbers_are_distinct()
     ensures status_keys { AreDistinct status_var_key_number }
 {}
 
+/// The least and the greatest number of a transaction that has an identifier.
+pub fn transaction_numbers()
+    ensures least { Gno.MIN_GNO ≡ 1 }
+    ensures greatest { Gno.MAX_GNO ≡ 2 ^ 63 - 1 }
+{}
+
 /// What numbers at an edge are taken as: 2^63 - 1 is a transaction's and 2^63 is refused; 256 is no
 /// field of a payload, and its refusal holds 255.
 pub fn worked_numbers()

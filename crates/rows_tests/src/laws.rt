@@ -6,6 +6,7 @@ use mysql_binlog_rows::laws as rows;
 fn laws_of_constants(_rt: HostRuntime) {
     rows::orders_are_of_numbers();
     rows::numbers_are_distinct();
+    rows::transaction_numbers();
     rows::worked_numbers();
 }
 
@@ -14,6 +15,8 @@ fn laws_of_values(_rt: HostRuntime) {
     rows::equal_values_are_the_same();
     rows::equal_columns_and_times_are_the_same();
     rows::equal_rows_are_the_same();
+    rows::times_by_cases();
+    rows::fields_stand_at_their_places();
     rows::worked_time();
     rows::worked_date_and_time();
     rows::worked_bits();

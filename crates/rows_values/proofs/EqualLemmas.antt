@@ -48,8 +48,28 @@ times_decide a b =
       time_type = w.1.1.1.1.1.1.1.1.0 i;
       time_zone_displacement = w.1.1.1.1.1.1.1.1.1 i;
     })
-    (λ e. (ap (λ p. p.year) e, (ap (λ p. p.month) e, (ap (λ p. p.day) e, (ap (λ p. p.hour) e, (ap (λ p. p.minute) e, (ap (λ p. p.second) e, (ap (λ p. p.second_part) e,
-    (ap (λ p. p.neg) e, (ap (λ p. p.time_type) e, ap (λ p. p.time_zone_displacement) e))))))))))
+    (λ e. (
+      ap (λ p. p.year) e,
+      (
+        ap (λ p. p.month) e,
+        (
+          ap (λ p. p.day) e,
+          (
+            ap (λ p. p.hour) e,
+            (
+              ap (λ p. p.minute) e,
+              (
+                ap (λ p. p.second) e,
+                (
+                  ap (λ p. p.second_part) e,
+                  (ap (λ p. p.neg) e, (ap (λ p. p.time_type) e, ap (λ p. p.time_zone_displacement) e)),
+                ),
+              ),
+            ),
+          ),
+        ),
+      ),
+    ))
     (Decides-and _ _ (Decides-eqb a.year b.year) (Decides-and _ _ (Decides-eqb a.month b.month) (Decides-and _ _ (Decides-eqb a.day b.day) (Decides-and _ _ (Decides-eqb a.hour b.hour)
     (Decides-and _ _ (Decides-eqb a.minute b.minute) (Decides-and _ _ (Decides-eqb a.second b.second) (Decides-and _ _ (Decides-eqb a.second_part b.second_part) (Decides-and _ _ (booleans_Decides a.neg b.neg)
     (Decides-and _ _ (same_true time_type (search rules) a.time_type b.time_type, true_same time_type a.time_type b.time_type) (Decides-int_eq a.time_zone_displacement b.time_zone_displacement))))))))))

@@ -2,3 +2,4 @@ pub mod RowLemmas
 pub mod PackedLemmas
 pub mod TimeTextLemmas
 pub mod EqualLemmas
+pub mod TimeCaseLemmas

@@ -2,6 +2,7 @@ pub mod Faults
 pub mod PackedTimes
 pub mod ReadTimes
 pub mod TimeFields
+pub mod TimePlaces
 pub mod Values
 pub mod Columns
 pub mod BitLists
