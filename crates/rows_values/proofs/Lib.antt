@@ -3,3 +3,4 @@ pub mod PackedLemmas
 pub mod TimeTextLemmas
 pub mod EqualLemmas
 pub mod TimeCaseLemmas
+pub mod BitLemmas

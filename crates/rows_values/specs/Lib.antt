@@ -6,5 +6,6 @@ pub mod TimePlaces
 pub mod Values
 pub mod Columns
 pub mod BitLists
+pub mod BitCounts
 pub mod Rows
 pub mod TimeTexts

@@ -12,6 +12,7 @@ pub struct Bits<'a> {
 
 impl<'a> Bits<'a> {
     ghost use Rattle.std.specs.Prelude.{◌≡◌, ◌≤◌, ◌<◌, ◌*◌, ◌==◌, ℕ, length};
+    ghost use Rattle.rows_values.specs.BitCounts.{first_ones as first_ones_of};
     ghost use Rattle.rows_values.specs.BitLists.{lowest_bit, highest_bit, bit_of, len_of, bit_at, count_below, all_bits};
 
     /// The first bits of these bytes, each byte from its lowest bit on, as null bits stand.
@@ -72,13 +73,32 @@ impl<'a> Bits<'a> {
     pub fn count_ones(&self) -> usize
         ensures { result ≡ count_below (bit_of self.now) (len_of self.now) }
     {
+        let whole = self.len / 8;
         let mut count = 0;
-        for i in 0..self.len {
-            if self.get(i) == Some(true) {
-                count += 1;
-            }
+        for byte in &self.bytes[..whole] {
+            count += byte.count_ones() as usize;
+        }
+        let left = self.len % 8;
+        if left > 0 {
+            count += Bits::first_ones(self.bytes[whole], left as u32, self.from_highest);
         }
         count
+    }
+
+    /// How many of the first bits of a byte are set, from its lowest or from its highest on.
+    fn first_ones(byte: u8, count: u32, from_highest: bool) -> usize
+        requires some { 0 < count }
+        requires few { count < 8 }
+        ensures value { result ≡ first_ones_of from_highest byte count }
+        ensures bound { result ≤ count }
+    {
+        let others = 8 - count;
+        let first = if from_highest {
+            byte >> others
+        } else {
+            byte << others
+        };
+        first.count_ones() as usize
     }
 
     /// The bits in order.
