@@ -1,7 +1,7 @@
 //! The quoted text of decimals, straight from the bytes that pack them.
 
 ghost use Rattle.std.specs.Prelude.{◌≡◌, ◌≤◌, ◌+◌, OnOk, IfErr, length};
-ghost use Rattle.rows_decimal.specs.TextSteps.{PutsOrNone};
+ghost use Rattle.rows_decimal.specs.PackedTexts.{PutsOrNone};
 ghost use Rattle.feed_text.specs.DecimalText.{quoted_decimal, AppendsSome, IsDecimalRefused};
 
 use rows_decimal::put_decimal_text;

@@ -18,3 +18,4 @@ pub use Rattle.rows_decimal.specs.Digits
 pub use Rattle.rows_decimal.specs.Decimals
 pub use Rattle.rows_decimal.specs.Texts
 pub use Rattle.rows_decimal.specs.Unpacked
+pub use Rattle.rows_decimal.specs.PackedTexts

@@ -6,7 +6,7 @@ use Rattle.std.proofs.lemmas.Bool.Decides.{eqb_tells}
 use Rattle.byteorder.specs.Endian.{big_number}
 use Rattle.wire_buf.specs.Spelling.{AreBytes}
 use Rattle.rows_decimal.specs.Digits.{top_flipped, signed}
-use Rattle.rows_decimal.specs.TextSteps.{turned}
+use Rattle.rows_decimal.specs.PackedTexts.{turned}
 use Rattle.rows_decimal.proofs.UnpackLemmas.{top_bytes}
 use Rattle.rows_decimal.proofs.UnpackedLemmas.{signed_are, length-top, length-signed}
 

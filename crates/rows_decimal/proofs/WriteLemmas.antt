@@ -9,7 +9,7 @@ use Rattle.rows_decimal.specs.Digits.{side_size, digits_in, has_minus_bit}
 use Rattle.rows_decimal.specs.Texts.{glyphs, significant, sign_text, whole_text, fraction_text, decimal_text}
 use Rattle.rows_decimal.specs.Decimals.{DecimalParts, only_zeros, without_zero_groups, first_group, kept, packed_size}
 use Rattle.rows_decimal.specs.Unpacked.{joined, places, group_digits, nines_digits, before_digits, after_digits, valued, plain_bytes, sides_value, unpacked, text_of}
-use Rattle.rows_decimal.specs.TextSteps.{digits_text, is_shown, lead, lead_piece, zero_piece, turned, Leads, Follows, FollowsOrNone, Fraction, FractionOrNone, PutsOrNone}
+use Rattle.rows_decimal.specs.PackedTexts.{digits_text, is_shown, lead, lead_piece, zero_piece, turned, Leads, Follows, FollowsOrNone, Fraction, FractionOrNone, PutsOrNone}
 use Rattle.rows_decimal.proofs.TakingLemmas.{length-digits_in}
 use Rattle.rows_decimal.proofs.PlaceLemmas.{lead_none, lead_some, sig_append_none, sig_append_some, sig_zero, sig_suc}
 use Rattle.rows_decimal.proofs.UnpackedLemmas.{joined_some, unpacked_sized}

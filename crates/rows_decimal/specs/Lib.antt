@@ -4,4 +4,4 @@ pub mod Texts
 pub mod Steps
 pub mod GroupsLeft
 pub mod Unpacked
-pub mod TextSteps
+pub mod PackedTexts

@@ -1,4 +1,4 @@
--- The decimal that bytes pack, computed from them. That it is the one whose packed form they are is a law in laws.
+-- The decimal that given bytes pack, computed from the bytes, and its text. `packed_forms_are_unpacked` in laws says that it is the only one whose packed form the bytes are.
 use Rattle.std.specs.Prelude.{ℕ, zero, suc, ◌*◌, ◌/◌, ◌%◌, ◌-◌, ◌^◌, nat_lt, Bool, false, List, [], ◌++◌, length, take, drop, slice_index, Option, Some, None, if◌then◌else◌, nat_eq}
 use Rattle.byteorder.specs.Endian.{big_number}
 use Rattle.rows_decimal.specs.Digits.{group_size, side_size, top_flipped, signed, digits_in, has_minus_bit}
@@ -7,7 +7,7 @@ use Rattle.rows_decimal.specs.Texts.{decimal_text}
 use Rattle.rows_values.specs.declared.fault.RowsError.{RowsError}
 use Rattle.rows_values.specs.declared.fault.RowsError.TheVariants.{EndOfBody, Decimal as BadDecimal}
 
--- digits and the ones behind them, where both are there
+-- two runs of digits, one behind the other; none where one of them is missing
 abbrev pub joined : Option (List ℕ) → Option (List ℕ) → Option (List ℕ)
 joined None more = None
 joined (Some ds) None = None
@@ -34,17 +34,17 @@ before_digits n bytes = joined (group_digits (n % 9) (take (group_size (n % 9)) 
 abbrev pub after_digits : ℕ → List ℕ → Option (List ℕ)
 after_digits n bytes = joined (nines_digits (n / 9) (take (4 * (n / 9)) bytes)) (group_digits (n % 9) (drop (4 * (n / 9)) bytes))
 
--- a sign and the digits on both sides, where both are there
+-- the decimal of a sign and the digits on both sides; none where one side is missing
 abbrev pub valued : Bool → Option (List ℕ) → Option (List ℕ) → Option DecimalParts
 valued negative None after = None
 valued negative (Some before) None = None
 valued negative (Some before) (Some after) = Some (record { negative = negative; before = before; after = after })
 
--- packed bytes with the sign and the top bit undone: the groups alone
+-- the bytes of the groups alone: where the decimal is negative all bits are flipped back, and then the top bit
 abbrev pub plain_bytes : List ℕ → List ℕ
 plain_bytes bytes = top_flipped (signed (has_minus_bit bytes) bytes)
 
--- so many digits before and after the point, from the groups alone
+-- the decimal of so many digits before and after the point, from the bytes of the groups
 abbrev pub sides_value : Bool → ℕ → ℕ → List ℕ → Option DecimalParts
 sides_value negative before after plain = valued negative (before_digits before (take (side_size before) plain)) (after_digits after (drop (side_size before) plain))
 
@@ -55,12 +55,12 @@ unpacked precision scale bytes =
     else if nat_eq (length bytes) (packed_size (precision - scale) scale) then sides_value (has_minus_bit bytes) (precision - scale) scale (plain_bytes bytes)
     else None
 
--- what is made of it: all digits are kept, or not those of leading zero groups
+-- the decimal that a reader makes of it: all digits are kept, or groups in front that are only zeros are dropped
 abbrev pub kept_of : Bool → Option DecimalParts → Option DecimalParts
 kept_of keep None = None
 kept_of keep (Some v) = Some (kept keep v)
 
--- its text: that of the value without leading zero groups, so that a zero without digits after the point has no sign
+-- the text of it, groups of zeros in front dropped; so a zero without digits after the point is shown without a sign
 abbrev pub text_of : Option DecimalParts → Option (List ℕ)
 text_of None = None
 text_of (Some v) = Some (decimal_text (kept false v))
@@ -69,7 +69,7 @@ text_of (Some v) = Some (decimal_text (kept false v))
 abbrev pub packed_text : ℕ → ℕ → List ℕ → Option (List ℕ)
 packed_text precision scale bytes = text_of (unpacked precision scale bytes)
 
--- as JSON documents have it: behind a byte for the precision and one for the scale as many bytes as the digits take, whatever follows them
+-- a decimal in a JSON document: a byte for the precision, a byte for the scale, and as many bytes as the digits take; what follows them is not looked at
 unfoldable pub packed_value : List ℕ → Option DecimalParts
 packed_value bytes =
     if nat_lt (length bytes) 2 then None

@@ -4,7 +4,7 @@ ghost use Rattle.std.specs.Prelude.{◌≡◌, ◌≤◌, ◌==◌, ◌&&◌, le
 ghost use Rattle.byteorder.specs.Endian.{big_number};
 ghost use Rattle.wire_buf.specs.Spelling.{AreBytes};
 ghost use Rattle.rows_decimal.specs.Digits.{has_minus_bit as has_minus_bit_in};
-ghost use Rattle.rows_decimal.specs.TextSteps.{turned};
+ghost use Rattle.rows_decimal.specs.PackedTexts.{turned};
 
 use byteorder::{BigEndian, ByteOrder};
 

@@ -1,8 +1,9 @@
 //! MySQL's DECIMAL: its digits, its text, and the packed form of columns, JSON documents and keys.
 //!
 //! [`Decimal`] holds a sign and the digits before and after the point. `specs/Digits.antt` says how
-//! digits are packed, `specs/Decimals.antt` what is read and written, and `specs/Texts.antt` what is
-//! shown and taken as text. [`laws`] ties these to one another, and has worked values.
+//! digits are packed, `specs/Decimals.antt` what is read and written, `specs/Texts.antt` what is shown
+//! and taken as text, and `specs/Unpacked.antt` which decimal given bytes pack, and what its text is.
+//! [`laws`] ties these to one another, and has worked values.
 #![tactic(auto)]
 
 mod decimal;
@@ -13,13 +14,13 @@ mod group_number;
 mod groups;
 pub mod laws;
 mod order;
+mod packed_text;
 mod packing;
 mod parse;
 mod places;
-mod text;
 mod unpacking;
 
 pub use digits::{DIG_BASE, DIG_PER_DEC, DIG_TO_BYTES, Digit, POWERS_10, decimal_bin_size};
 pub use fields::Decimal;
+pub use packed_text::put_decimal_text;
 pub use parse::ParseDecimalError;
-pub use text::put_decimal_text;

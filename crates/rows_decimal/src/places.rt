@@ -1,7 +1,7 @@
 //! Digits written at a place of a buffer that has room for them. Each writer answers where it ends.
 
 ghost use Rattle.std.specs.Prelude.{◌≡◌, ◌≤◌, ◌<◌, ◌+◌, ◌-◌, ◌^◌, ◌++◌, ◌∷◌, [], length, take};
-ghost use Rattle.rows_decimal.specs.TextSteps.{digits_text};
+ghost use Rattle.rows_decimal.specs.PackedTexts.{digits_text};
 
 /// The two digits of each number below 100.
 static PAIRS: [u8; 200] =

@@ -4,7 +4,7 @@ ghost use Rattle.std.specs.Prelude.{◌≡◌, ◌≤◌, ◌<◌, ◌-◌, ◌*
 ghost use Rattle.rows_values.specs.declared.fault.RowsError.TheVariants.{Decimal as BadDecimal, Memory};
 ghost use Rattle.rows_decimal.specs.Digits.{AreDigits, group_size as group_size_of, side_size as side_size_of, group_bytes, nines_bytes, before_bytes, after_bytes, digits_in};
 ghost use Rattle.rows_decimal.specs.Steps.{Gains, NoDigits};
-ghost use Rattle.rows_decimal.specs.TextSteps.{turned};
+ghost use Rattle.rows_decimal.specs.PackedTexts.{turned};
 ghost use Rattle.rows_decimal.specs.Decimals.{decimal_parts, packed_size, some_digit, without_zero_groups, Unpacks, NonePacked, ReadsDecimal, FailsDecimal, ReadsPacked, FailsPacked};
 ghost use Rattle.rows_decimal.specs.Unpacked.{unpacked, kept_of, packed_value, packed_fault};
 

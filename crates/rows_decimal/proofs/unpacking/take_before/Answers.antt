@@ -2,7 +2,7 @@ use Rattle.std.proofs.Common.{◌%◌, ◌/◌, ◌*◌, true, subst, arith}
 use Rattle.std.proofs.lemmas.Result.{on_ok_weaker}
 use Rattle.rows_decimal.specs.Digits.{group_bytes, nines_bytes}
 use Rattle.rows_decimal.specs.Steps.{Gains, NoDigits}
-use Rattle.rows_decimal.specs.TextSteps.{turned}
+use Rattle.rows_decimal.specs.PackedTexts.{turned}
 use Rattle.rows_decimal.proofs.TakingLemmas.{fault_because, fault_exit}
 use Rattle.rows_decimal.proofs.TurnLemmas.{front_turned, behind_turned}
 use Rattle.rows_decimal.proofs.UnpackLemmas.{before_gains, before_lacks_first, before_lacks_rest}

@@ -2,7 +2,7 @@ use Rattle.std.proofs.Common.{arith, sym, ap, ◌∙◌}
 use Rattle.std.proofs.lemmas.Result.{on_ok_weaker}
 use Rattle.byteorder.specs.Endian.{big_number}
 use Rattle.wire_buf.specs.Spelling.{AreBytes}
-use Rattle.rows_decimal.specs.TextSteps.{turned}
+use Rattle.rows_decimal.specs.PackedTexts.{turned}
 use Rattle.rows_decimal.proofs.TakingLemmas.{group_gains, group_none, fault_because}
 use Rattle.rows_decimal.proofs.TurnLemmas.{length-turned, turned_are}
 use Rattle.rows_decimal.proofs.unpacking.take_group.Goals as goal

@@ -1,7 +1,7 @@
 use Rattle.std.proofs.Common.{arith, subst, ◌∙◌}
 use Rattle.rows_decimal.specs.Digits.{group_bytes}
 use Rattle.rows_decimal.specs.Steps.{Gains, NoDigits}
-use Rattle.rows_decimal.specs.TextSteps.{turned}
+use Rattle.rows_decimal.specs.PackedTexts.{turned}
 use Rattle.rows_decimal.proofs.TakingLemmas.{nines_gain_none, nines_gain_more, nines_lack, fault_exit}
 use Rattle.rows_decimal.proofs.TurnLemmas.{length-turned, nine_turned}
 use Rattle.rows_decimal.proofs.unpacking.take_nines.Goals as goal

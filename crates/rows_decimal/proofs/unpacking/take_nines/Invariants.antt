@@ -1,7 +1,7 @@
 use Rattle.std.proofs.Common.{◌*◌, take}
 use Rattle.rows_decimal.specs.Digits.{nines_bytes}
 use Rattle.rows_decimal.specs.Steps.{Gains}
-use Rattle.rows_decimal.specs.TextSteps.{turned}
+use Rattle.rows_decimal.specs.PackedTexts.{turned}
 use Rattle.rows_decimal.proofs.unpacking.take_nines.Given as goal
 
 -- the digits of the groups so far

@@ -1,7 +1,7 @@
 use Rattle.std.proofs.Common.{true, arith, refl, subst, sym}
 use Rattle.rows_decimal.specs.Digits.{AreDigits, before_bytes, after_bytes}
 use Rattle.rows_decimal.specs.Steps.{Gains, NoDigits}
-use Rattle.rows_decimal.specs.TextSteps.{turned}
+use Rattle.rows_decimal.specs.PackedTexts.{turned}
 use Rattle.rows_decimal.proofs.TakingLemmas.{fault_exit}
 use Rattle.rows_decimal.proofs.TurnLemmas.{front_turned, behind_turned}
 use Rattle.rows_decimal.proofs.UnpackLemmas.{unpacks, lacks_before, lacks_after, kept_are, gained_are, gains_from_none}

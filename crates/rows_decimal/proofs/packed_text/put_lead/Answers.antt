@@ -1,6 +1,6 @@
 use Rattle.std.proofs.Common.{arith}
 use Rattle.rows_decimal.proofs.PlaceLemmas.{zero_tells, zero_piece_is, count_fits, some_tells, some_piece_is}
-use Rattle.rows_decimal.proofs.text.put_lead.Goals as goal
+use Rattle.rows_decimal.proofs.packed_text.put_lead.Goals as goal
 
 pub returns-then-number-eq0-clause-tells : goal.returns-then-number-eq0-clause-tells
 returns-then-number-eq0-clause-tells c = λ hidden. zero_tells c.args.count c.args.number c.if-number-eq0.true

@@ -1,7 +1,7 @@
 use Rattle.std.proofs.Common.{◌/◌, ◌*◌, take}
 use Rattle.rows_decimal.specs.Unpacked.{nines_digits}
-use Rattle.rows_decimal.specs.TextSteps.{Follows, turned}
-use Rattle.rows_decimal.proofs.text.put_after.Given as goal
+use Rattle.rows_decimal.specs.PackedTexts.{Follows, turned}
+use Rattle.rows_decimal.proofs.packed_text.put_after.Given as goal
 
 -- the digits of the groups so far
 abbrev pub invariant-loop-i : goal.invariant-loop-i

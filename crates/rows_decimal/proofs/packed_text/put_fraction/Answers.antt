@@ -1,6 +1,6 @@
 use Rattle.std.proofs.Common.{arith}
 use Rattle.rows_decimal.proofs.WriteLemmas.{fraction_none, fraction_is}
-use Rattle.rows_decimal.proofs.text.put_fraction.Goals as goal
+use Rattle.rows_decimal.proofs.packed_text.put_fraction.Goals as goal
 
 pub returns-then-count-eq0 : goal.returns-then-count-eq0
 returns-then-count-eq0 c = fraction_none c.args.negative c.args.top c.args.count c.args.at c.args.bytes.now c.args.text.now c.if-count-eq0.true c.requires.size

@@ -6,7 +6,7 @@ ghost use Rattle.byteorder.specs.Endian.{big_number};
 ghost use Rattle.rows_decimal.specs.Digits.{side_size as side_size_of, digits_in};
 ghost use Rattle.rows_decimal.specs.Unpacked.{before_digits, after_digits, packed_text};
 ghost use Rattle.rows_decimal.specs.Texts.{sign_text};
-ghost use Rattle.rows_decimal.specs.TextSteps.{turned, is_shown, lead_piece, zero_piece, LeadsOrNone, FollowsOrNone, FractionOrNone, PutsOrNone};
+ghost use Rattle.rows_decimal.specs.PackedTexts.{turned, is_shown, lead_piece, zero_piece, LeadsOrNone, FollowsOrNone, FractionOrNone, PutsOrNone};
 
 use crate::digits::{
     DIG_PER_DEC, GROUP_BYTES, decimal_bin_size, group_size, power_of_ten, side_size,

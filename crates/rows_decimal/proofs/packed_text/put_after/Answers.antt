@@ -1,8 +1,8 @@
 use Rattle.std.proofs.Common.{◌≡◌, ◌*◌, ◌/◌, ◌%◌, arith, sym, ap, ◌∙◌}
-use Rattle.rows_decimal.specs.TextSteps.{turned}
+use Rattle.rows_decimal.specs.PackedTexts.{turned}
 use Rattle.rows_decimal.proofs.TurnLemmas.{number_nine, number_rest, take-turned}
 use Rattle.rows_decimal.proofs.WriteLemmas.{follows_begin, follows_more, follows_last, kept_front, group_fits, group_past, nines_none_of, none_left, none_behind}
-use Rattle.rows_decimal.proofs.text.put_after.Goals as goal
+use Rattle.rows_decimal.proofs.packed_text.put_after.Goals as goal
 
 pub loop-i-init : goal.loop-i-init
 loop-i-init c = follows_begin _ c.args.at c.args.text.now

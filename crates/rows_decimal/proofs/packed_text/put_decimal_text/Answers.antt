@@ -2,7 +2,7 @@ use Rattle.std.proofs.Common.{◌≤◌, ◌-◌, arith, refl, sym, ap, ◌∙�
 use Rattle.rows_decimal.specs.Unpacked.{text_of}
 use Rattle.rows_decimal.proofs.UnpackedLemmas.{unpacked_past, unpacked_other}
 use Rattle.rows_decimal.proofs.WriteLemmas.{unpacked_parts, text_none_before, puts_is}
-use Rattle.rows_decimal.proofs.text.put_decimal_text.Goals as goal
+use Rattle.rows_decimal.proofs.packed_text.put_decimal_text.Goals as goal
 
 pub returns-then-scale-precision : goal.returns-then-scale-precision
 returns-then-scale-precision c = (ap text_of (unpacked_past c.args.precision c.args.scale c.args.bytes.now c.if-scale-precision.true), refl)

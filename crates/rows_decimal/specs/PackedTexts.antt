@@ -1,4 +1,4 @@
--- What the steps say of writing the text of a decimal straight from the bytes that pack it. The whole text is in Unpacked.
+-- What is said of writing the text of a decimal, into a buffer, straight from the bytes that pack it, and of its steps. What the text is stands in Unpacked.
 use Rattle.std.specs.Prelude.{◌≡◌, ◌≤◌, ◌+◌, ℕ, List, [], ◌∷◌, ◌++◌, take, length, Bool, false, nat_lt, Option, Some, None, if◌then◌else◌}
 use Rattle.rows_decimal.specs.Digits.{top_flipped, signed, digits_in}
 use Rattle.rows_decimal.specs.Texts.{glyphs, significant, fraction_text, sign_text}
@@ -7,19 +7,19 @@ use Rattle.rows_decimal.specs.Texts.{glyphs, significant, fraction_text, sign_te
 abbrev pub digits_text : ℕ → ℕ → List ℕ
 digits_text k n = glyphs (digits_in k n)
 
--- packed bytes with the sign undone, and with the top bit undone where they are the first
+-- packed bytes flipped back: all bits where the decimal is negative, and the top bit of the first byte where they are the first of all
 abbrev pub turned : Bool → Bool → List ℕ → List ℕ
 turned negative top bytes = if top then top_flipped (signed negative bytes) else signed negative bytes
 
--- whether they aren't all zeros
+-- whether there is a digit that is not zero
 abbrev pub is_shown : List ℕ → Bool
 is_shown ds = nat_lt 0 (length (significant ds))
 
--- the sign and the digits without zeros in front; nothing where all are zeros
+-- the text of digits before the point, so far: the sign and the digits without zeros in front; nothing where all are zeros
 abbrev pub lead : Bool → List ℕ → List ℕ
 lead negative ds = if is_shown ds then sign_text negative ++ glyphs (significant ds) else []
 
--- what the k digits of one more number add
+-- what the last k digits of one more number add to it, where a digit was shown before or not
 abbrev pub lead_piece : Bool → Bool → ℕ → ℕ → List ℕ
 lead_piece negative shown k n = if shown then digits_text k n else lead negative (digits_in k n)
 

@@ -2,7 +2,7 @@ use Rattle.std.proofs.Common.{◌≡◌, ◌%◌, ◌/◌, true, eqb, arith, ref
 use Rattle.rows_decimal.specs.Digits.{group_size}
 use Rattle.rows_decimal.proofs.TurnLemmas.{number_front, number_nine, rest_turned}
 use Rattle.rows_decimal.proofs.WriteLemmas.{leads_begin, leads_more, kept_front, group_fits, group_past, nines_none_of, none_left, none_behind}
-use Rattle.rows_decimal.proofs.text.put_before.Goals as goal
+use Rattle.rows_decimal.proofs.packed_text.put_before.Goals as goal
 
 pub returns-then-number-power_of_ten : goal.returns-then-number-power_of_ten
 returns-then-number-power_of_ten c =

@@ -1,8 +1,8 @@
 use Rattle.std.proofs.Common.{◌%◌, ◌*◌, ◌+◌, true, take, drop}
 use Rattle.rows_decimal.specs.Digits.{group_size}
 use Rattle.rows_decimal.specs.Unpacked.{joined, group_digits, nines_digits}
-use Rattle.rows_decimal.specs.TextSteps.{Leads, turned}
-use Rattle.rows_decimal.proofs.text.put_before.Given as goal
+use Rattle.rows_decimal.specs.PackedTexts.{Leads, turned}
+use Rattle.rows_decimal.proofs.packed_text.put_before.Given as goal
 
 -- the digits of the groups so far
 abbrev pub invariant-loop-i : goal.invariant-loop-i
