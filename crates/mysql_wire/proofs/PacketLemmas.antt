@@ -5,7 +5,7 @@ use Rattle.std.proofs.lemmas.Bool.{ne_eqb, ltb-true, ltb-false, cases_Bool}
 use Rattle.mysql_wire.specs.Framing.{longest, chunk, chunks, slice_of, framing, framings, number_after, next_number}
 use Rattle.mysql_wire.specs.Reading.{len_at, takes, fault_at, bytes_at, behind}
 use Rattle.mysql_wire.specs.Packets.{payload_in, packets_in, packets, full_run, rest_of, packet_fault}
-use Rattle.mysql_wire.specs.Standing.{Reads, Halts, next_after}
+use Rattle.mysql_wire.specs.Standing.{SplitsInto, Halts, next_after}
 use Rattle.mysql_wire.specs.declared.error.PacketCodecError.{PacketCodecError}
 use Rattle.mysql_wire.proofs.FramingLemmas.{chunks_none, chunks_more, chunks_snoc}
 use Rattle.mysql_wire.proofs.ReadingLemmas.{taken, taken_parts, len_bytes, chunk_at}
@@ -229,7 +229,7 @@ framings_long k [] = omega arith
 framings_long k (p ∷ ps) = omega (arith, length-append (framing k p) (framings (next_number k p) ps), chunks_long longest k (length p / longest + 1) p, framings_long (next_number k p) ps)
 
 -- what was read, where nothing more can be taken, are the packets
-pub packets_of : (limit k : ℕ) (s : List ℕ) (ps : List (List ℕ)) (g u : List ℕ) (fault : Option PacketCodecError) → Reads limit k s ps g u → Halts limit k ps g u fault → packets limit k s ≡ ps
+pub packets_of : (limit k : ℕ) (s : List ℕ) (ps : List (List ℕ)) (g u : List ℕ) (fault : Option PacketCodecError) → SplitsInto limit k s ps g u → Halts limit k ps g u fault → packets limit k s ≡ ps
 packets_of limit k s ps g u fault r h =
     let c : List ℕ = chunks longest (number_after k ps) (length g / longest) g ++ u in
     let none = none_read (length g / longest) (suc (limit / longest)) limit (number_after k ps) 0 g u r.even (nothing_at h.nothing) in
@@ -247,7 +247,7 @@ packets_of limit k s ps g u fault r h =
 abbrev fault_of_run : ℕ → ℕ × List ℕ → Option PacketCodecError
 fault_of_run limit x = fault_at limit x.0 x.1
 
-pub fault_of_packets : (limit k : ℕ) (s : List ℕ) (ps : List (List ℕ)) (g u : List ℕ) (fault : Option PacketCodecError) → Reads limit k s ps g u → Halts limit k ps g u fault → packet_fault limit k s ≡ fault
+pub fault_of_packets : (limit k : ℕ) (s : List ℕ) (ps : List (List ℕ)) (g u : List ℕ) (fault : Option PacketCodecError) → SplitsInto limit k s ps g u → Halts limit k ps g u fault → packet_fault limit k s ≡ fault
 fault_of_packets limit k s ps g u fault r h =
     let is = packets_of limit k s ps g u fault r h in
     let z : 0 + length g ≡ length g = omega arith in
@@ -378,7 +378,7 @@ packets_stand (suc n) limit k s h =
 -- framings alone are read as the payloads
 pub framings_read : (limit k : ℕ) (ps : List (List ℕ)) → All (λ p. length p ≤ limit) ps → (packets limit k (framings k ps) ≡ ps) × (packet_fault limit k (framings k ps) ≡ None)
 framings_read limit k ps all =
-    let r : Reads limit k (framings k ps) ps [] [] = record {
+    let r : SplitsInto limit k (framings k ps) ps [] [] = record {
       whole = sym (append-nil (framings k ps)) ∙ ap (λ (t : List ℕ). framings k ps ++ (t ++ [])) (sym (chunks_none longest (number_after k ps) []));
       even = refl;
       each = all;

@@ -4,7 +4,7 @@ use Rattle.std.proofs.lemmas.List.{get_or_append_left, append-nil, take_all}
 use Rattle.mysql_wire.specs.Packets.{packets}
 use Rattle.mysql_wire.specs.Reading.{len_at, takes, fault_at}
 use Rattle.mysql_wire.specs.Framing.{framings, number_after, chunks, longest}
-use Rattle.mysql_wire.specs.Standing.{Reads, Stands, Halts, Stops, Waits, GivesPacket, next_after, limit_of}
+use Rattle.mysql_wire.specs.Standing.{SplitsInto, HasRead, Halts, Stops, Waits, GivesPacket, next_after, limit_of}
 use Rattle.mysql_wire.specs.Pieces.{Drains, stream, IsReading}
 use Rattle.mysql_wire.specs.declared.packet_codec.PacketCodec.{PacketCodec}
 use Rattle.mysql_wire.specs.declared.error.PacketCodecError.{PacketCodecError}
@@ -14,56 +14,56 @@ use Rattle.std.proofs.lemmas.List.Concat.{flat_map-append}
 use Rattle.std.proofs.lemmas.List.{take_more, take-append-drop}
 use Rattle.std.specs.Borrow.{Bor}
 use Rattle.mysql_wire.proofs.ReadingLemmas.{header_short, too_large, chunk_short, out_of_number, taken}
-use Rattle.mysql_wire.proofs.StandingLemmas.{reads_more}
+use Rattle.mysql_wire.proofs.StandingLemmas.{splits_more}
 use Rattle.mysql_wire.proofs.PacketLemmas.{order, packets_of, fault_of_packets, front_of_packets}
 
 -- want of memory stops the reading
-pub stops_for_memory : (n : ℕ) (c : PacketCodec) (k : ℕ) (s : List ℕ) (ps : List (List ℕ)) (g u : List ℕ) (e : PacketCodecError) → Stands c k s ps g u → n ≡ limit_of c → e ≡ Memory → Stops n k s ps [] g u e
-stops_for_memory n c k s ps g u e st limit m = record { bytes = g; out_is = refl; reads = subst (λ (i : ℕ). Reads i k s ps g u) (sym limit) st.reads; why = inl m }
+pub stops_for_memory : (n : ℕ) (c : PacketCodec) (k : ℕ) (s : List ℕ) (ps : List (List ℕ)) (g u : List ℕ) (e : PacketCodecError) → HasRead c k s ps g u → n ≡ limit_of c → e ≡ Memory → Stops n k s ps [] g u e
+stops_for_memory n c k s ps g u e st limit m = record { bytes = g; out_is = refl; reads = subst (λ (i : ℕ). SplitsInto i k s ps g u) (sym limit) st.reads; why = inl m }
 
 -- no memory for one more piece
-pub stops_before : (n : ℕ) (c : PacketCodec) (k : ℕ) (s : List ℕ) (ps : List (List ℕ)) (g u piece : List ℕ) (e : PacketCodecError) → Stands c k s ps g u → n ≡ limit_of c → e ≡ Memory → Stops n k (s ++ piece) ps [] g (u ++ piece) e
+pub stops_before : (n : ℕ) (c : PacketCodec) (k : ℕ) (s : List ℕ) (ps : List (List ℕ)) (g u piece : List ℕ) (e : PacketCodecError) → HasRead c k s ps g u → n ≡ limit_of c → e ≡ Memory → Stops n k (s ++ piece) ps [] g (u ++ piece) e
 stops_before n c k s ps g u piece e st limit m = record {
   bytes = g;
   out_is = refl;
-  reads = subst (λ (i : ℕ). Reads i k (s ++ piece) ps g (u ++ piece)) (sym limit) (reads_more (limit_of c) k s ps g u piece st.reads);
+  reads = subst (λ (i : ℕ). SplitsInto i k (s ++ piece) ps g (u ++ piece)) (sym limit) (splits_more (limit_of c) k s ps g u piece st.reads);
   why = inl m;
 }
 
 pub drained : (c : PacketCodec) (k : ℕ) (s : List ℕ) (ps : List (List ℕ)) (out u : List ℕ) → Waits c k s ps [] out u → Drains c k s ps out u
 drained c k s ps out u w = record {
-  stands = subst (λ (b : List ℕ). Stands c k s ps b u) (sym w.out_is) w.stands;
+  stands = subst (λ (b : List ℕ). HasRead c k s ps b u) (sym w.out_is) w.stands;
   halts = subst (λ (b : List ℕ). Halts (limit_of c) k ps b u None) (sym w.out_is) w.halts;
 }
 
 -- one more packet
-pub pushed : (c : PacketCodec) (k : ℕ) (s : List ℕ) (ps qs : List (List ℕ)) (p out u : List ℕ) → GivesPacket c k s ps [] p u → out ≡ [] → qs ≡ ps ++ p ∷ [] → Stands c k s qs out u
+pub pushed : (c : PacketCodec) (k : ℕ) (s : List ℕ) (ps qs : List (List ℕ)) (p out u : List ℕ) → GivesPacket c k s ps [] p u → out ≡ [] → qs ≡ ps ++ p ∷ [] → HasRead c k s qs out u
 pushed c k s ps qs p out u h none more =
-    let a : Stands c k s (ps ++ p ∷ []) [] u = subst (λ (q : List ℕ). Stands c k s (ps ++ q ∷ []) [] u) (sym h.out_is) h.stands in
-    subst (λ (o : List ℕ). Stands c k s qs o u) (sym none) (subst (λ (q : List (List ℕ)). Stands c k s q [] u) (sym more) a)
+    let a : HasRead c k s (ps ++ p ∷ []) [] u = subst (λ (q : List ℕ). HasRead c k s (ps ++ q ∷ []) [] u) (sym h.out_is) h.stands in
+    subst (λ (o : List ℕ). HasRead c k s qs o u) (sym none) (subst (λ (q : List (List ℕ)). HasRead c k s q [] u) (sym more) a)
 
 -- more of the stream came
-pub stands_more : (c : PacketCodec) (k : ℕ) (s : List ℕ) (ps : List (List ℕ)) (g u piece v : List ℕ) → Stands c k s ps g u → v ≡ u ++ piece → Stands c k (s ++ piece) ps g v
-stands_more c k s ps g u piece v st is = subst (Stands c k (s ++ piece) ps g) (sym is) (record {
-  reads = reads_more (limit_of c) k s ps g u piece st.reads;
+pub stands_more : (c : PacketCodec) (k : ℕ) (s : List ℕ) (ps : List (List ℕ)) (g u piece v : List ℕ) → HasRead c k s ps g u → v ≡ u ++ piece → HasRead c k (s ++ piece) ps g v
+stands_more c k s ps g u piece v st is = subst (HasRead c k (s ++ piece) ps g) (sym is) (record {
+  reads = splits_more (limit_of c) k s ps g u piece st.reads;
   number = st.number;
   gathered = st.gathered;
   no_fault = st.no_fault;
 })
 
 -- nothing came yet
-pub drains_none : (c : PacketCodec) (k : ℕ) → Stands c k [] [] [] [] → Drains c k [] [] [] []
+pub drains_none : (c : PacketCodec) (k : ℕ) → HasRead c k [] [] [] [] → Drains c k [] [] [] []
 drains_none c k st = record { stands = st; halts = record { nothing = refl; why = refl } }
 
 -- the same, where the two buffers are empty
-pub drains_empty : (c : PacketCodec) (k : ℕ) (g u : List ℕ) → Stands c k [] [] [] [] → g ≡ [] → u ≡ [] → Drains c k [] [] g u
+pub drains_empty : (c : PacketCodec) (k : ℕ) (g u : List ℕ) → HasRead c k [] [] [] [] → g ≡ [] → u ≡ [] → Drains c k [] [] g u
 drains_empty c k g u st ge ue =
     subst (λ (x : List ℕ). Drains c k [] [] x u) (sym ge) (subst (λ (x : List ℕ). Drains c k [] [] [] x) (sym ue) (drains_none c k st))
 
 -- what was read is at the front of the packets, whatever comes
-pub packets_at : (limit k : ℕ) (s : List ℕ) (ps : List (List ℕ)) (g u more : List ℕ) → Reads limit k s ps g u → (q : List (List ℕ)) × (packets limit k (s ++ more) ≡ ps ++ q)
+pub packets_at : (limit k : ℕ) (s : List ℕ) (ps : List (List ℕ)) (g u more : List ℕ) → SplitsInto limit k s ps g u → (q : List (List ℕ)) × (packets limit k (s ++ more) ≡ ps ++ q)
 packets_at limit k s ps g u more r =
-    let m = reads_more limit k s ps g u more r in
+    let m = splits_more limit k s ps g u more r in
     (_, front_of_packets limit k (s ++ more) ps _ m.each m.whole)
 
 -- what was read of a stream
@@ -122,7 +122,7 @@ pub stops_reading : (limit k : ℕ) (s t : List ℕ) (ps : List (List ℕ)) (d o
 stops_reading limit k s t ps d out u e h =
     elim h.why [
       | inl m ↦ inl (m, _, front_of_packets limit k (s ++ t) ps _ h.reads.each (ap (λ (v : List ℕ). v ++ t) h.reads.whole ∙ append_assoc (framings k ps) (chunks longest (number_after k ps) (length h.bytes / longest) h.bytes ++ u) t))
-      | inr w ↦ inr (packets_of limit k (s ++ t) ps h.bytes (u ++ t) (Some e) (reads_more limit k s ps h.bytes u t h.reads) (halts_more limit k ps h.bytes u t e w), fault_of_packets limit k (s ++ t) ps h.bytes (u ++ t) (Some e) (reads_more limit k s ps h.bytes u t h.reads) (halts_more limit k ps h.bytes u t e w))
+      | inr w ↦ inr (packets_of limit k (s ++ t) ps h.bytes (u ++ t) (Some e) (splits_more limit k s ps h.bytes u t h.reads) (halts_more limit k ps h.bytes u t e w), fault_of_packets limit k (s ++ t) ps h.bytes (u ++ t) (Some e) (splits_more limit k s ps h.bytes u t h.reads) (halts_more limit k ps h.bytes u t e w))
     ]
 
 -- one more piece

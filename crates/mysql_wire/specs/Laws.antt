@@ -3,7 +3,7 @@ use Rattle.std.specs.Prelude.{◌≡◌, ℕ, ◌<◌, ◌≤◌, slice_index, O
 use Rattle.mysql_wire.specs.Framing.{framing, framings}
 use Rattle.mysql_wire.specs.Packets.{packets, packet_fault}
 use Rattle.mysql_wire.specs.Version.{numbers_at, IsVersion}
-use Rattle.mysql_wire.specs.Standing.{Reads, Halts}
+use Rattle.mysql_wire.specs.Standing.{SplitsInto, Halts}
 use Rattle.mysql_wire.specs.declared.error.PacketCodecError.{PacketCodecError}
 
 -- framings from one number, each followed by anything, are equal only if payloads and rests are
@@ -27,7 +27,7 @@ FramingsAreReadBack = (limit k : ℕ) (ps : List (List ℕ)) → All (λ p. leng
 
 -- where a stream is the framings of payloads, whole chunks of a payload that has more, and bytes of which nothing can be taken, these payloads are its packets and the fault of these bytes is its fault
 abbrev pub PacketsEnd : Type 0
-PacketsEnd = (limit k : ℕ) (s : List ℕ) (ps : List (List ℕ)) (g u : List ℕ) (fault : Option PacketCodecError) → Reads limit k s ps g u → Halts limit k ps g u fault
+PacketsEnd = (limit k : ℕ) (s : List ℕ) (ps : List (List ℕ)) (g u : List ℕ) (fault : Option PacketCodecError) → SplitsInto limit k s ps g u → Halts limit k ps g u fault
     → (packets limit k s ≡ ps) × (packet_fault limit k s ≡ fault)
 
 -- a text has three numbers exactly where they stand at its front, with points between, and no digit behind

@@ -6,7 +6,6 @@ pub mod Packets
 pub mod Standing
 pub mod Pieces
 pub mod Laws
-pub mod Watched
 pub mod Version
 pub use Rattle.wire_buf.specs.Spelling
 pub use Rattle.wire_buf.specs.Eating
@@ -21,6 +20,7 @@ pub use Rattle.wire_ints.specs.Sevens
 pub use Rattle.wire_ints.specs.TrailingOnes
 pub use Rattle.wire_ints.specs.Streams
 pub use Rattle.wire_streams.specs.Transfers
+pub use Rattle.wire_streams.specs.Watched
 pub use Rattle.wire_consts.specs.Numbering
 pub use Rattle.wire_consts.specs.ColumnTypes
 pub use Rattle.wire_consts.specs.Constants

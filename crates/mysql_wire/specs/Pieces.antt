@@ -3,7 +3,7 @@ use Rattle.std.specs.Prelude.{◌≡◌, ◌⊎◌, ℕ, List, [], ◌++◌, Opt
 use Rattle.std.specs.List.{flat_map}
 use Rattle.std.specs.Borrow.{Bor}
 use Rattle.mysql_wire.specs.Packets.{packets, packet_fault}
-use Rattle.mysql_wire.specs.Standing.{Stands, Halts, Stops, limit_of}
+use Rattle.mysql_wire.specs.Standing.{HasRead, Halts, Stops, limit_of}
 use Rattle.mysql_wire.specs.declared.packet_codec.PacketCodec.{PacketCodec}
 use Rattle.mysql_wire.specs.declared.error.PacketCodecError.{PacketCodecError}
 use Rattle.mysql_wire.specs.declared.error.PacketCodecError.TheVariants.{Memory}
@@ -18,7 +18,7 @@ stream pieces = flat_map (λ p. p.now) pieces
 
 -- all that can be taken was taken
 pub record Drains (c : PacketCodec) (k : ℕ) (s : List ℕ) (ps : List (List ℕ)) (g u : List ℕ) : Type 0 where
-  pub stands : Stands c k s ps g u
+  pub stands : HasRead c k s ps g u
   pub halts : Halts (limit_of c) k ps g u None
 
 -- a stream was read to its end, or up to where it stopped

@@ -33,12 +33,12 @@ impl Default for PacketCodec {
 }
 
 impl PacketCodec {
-    ghost use Rattle.mysql_wire.specs.Standing.{IsFresh, Stands, Decodes, limit_of, number_of, gathered_of, fault_of};
+    ghost use Rattle.mysql_wire.specs.Standing.{IsFresh, HasRead, Decodes, limit_of, number_of, gathered_of, fault_of};
 
     /// A codec with this limit, in bytes, whose first chunk has this number.
     pub fn with_number(max_allowed_packet: usize, number: u8) -> PacketCodec
         ensures fresh { IsFresh max_allowed_packet number result }
-        ensures stands { Stands result number [] [] [] [] }
+        ensures stands { HasRead result number [] [] [] [] }
     {
         PacketCodec {
             max_allowed_packet,
@@ -76,7 +76,7 @@ impl PacketCodec {
         dst: &mut Vec<u8>,
     ) -> Result<bool, PacketCodecError>
         ensures stands { (k : ℕ) (s : List ℕ) (ps : List (List ℕ)) (g d : List ℕ)
-            → Stands self.old k s ps g src.old.items → dst.old.items ≡ d ++ g
+            → HasRead self.old k s ps g src.old.items → dst.old.items ≡ d ++ g
             → Decodes self.new k s ps d dst.new.items src.new.items result }
         ensures limit { limit_of self.new ≡ limit_of self.old }
         ensures again { IfSome (fault_of self.old) (λ e. (result ≡ Err e)

@@ -1,5 +1,5 @@
 ghost use Rattle.std.specs.Prelude.{◌≡◌, ℕ, List, [], ◌++◌, IfErr, IfSome, IfNone, Some};
-ghost use Rattle.mysql_wire.specs.Standing.{Stands, limit_of, fault_of};
+ghost use Rattle.mysql_wire.specs.Standing.{HasRead, limit_of, fault_of};
 ghost use Rattle.mysql_wire.specs.Pieces.{Takes, IsReading, Rests, lists, stream};
 
 use crate::error::PacketCodecError;
@@ -18,9 +18,9 @@ pub fn decode_pieces(
     codec: &mut PacketCodec,
     pieces: &[&[u8]],
 ) -> (Vec<Vec<u8>>, Option<PacketCodecError>)
-    ensures reading { (k : ℕ) → Stands codec.old k [] [] [] []
+    ensures reading { (k : ℕ) → HasRead codec.old k [] [] [] []
         → IsReading (limit_of codec.old) k (stream pieces.now) (lists result.0.items) result.1 }
-    ensures rests { (k : ℕ) → Stands codec.old k [] [] [] []
+    ensures rests { (k : ℕ) → HasRead codec.old k [] [] [] []
         → IfNone result.1 (Rests codec.new k (stream pieces.now) (lists result.0.items)) }
     ensures limit { limit_of codec.new ≡ limit_of codec.old }
     ensures again { IfSome (fault_of codec.old) (λ e. (result.0.items ≡ []) × (result.1 ≡ Some e)
@@ -51,7 +51,7 @@ fn take_piece(
     piece: &[u8],
 ) -> Result<(), PacketCodecError>
     ensures takes { (k : ℕ) (s : List ℕ)
-        → Stands codec.old k s (lists packets.old.items) packet.old.items src.old.items
+        → HasRead codec.old k s (lists packets.old.items) packet.old.items src.old.items
         → Takes codec.new k (s ++ piece.now) (lists packets.new.items) packet.new.items src.new.items result }
     ensures limit { limit_of codec.new ≡ limit_of codec.old }
     ensures fault { IfErr result (λ e. fault_of codec.new ≡ Some e) }
@@ -71,7 +71,7 @@ fn drain(
     packets: &mut Vec<Vec<u8>>,
 ) -> Result<(), PacketCodecError>
     ensures takes { (k : ℕ) (s : List ℕ)
-        → Stands codec.old k s (lists packets.old.items) packet.old.items src.old.items
+        → HasRead codec.old k s (lists packets.old.items) packet.old.items src.old.items
         → Takes codec.new k s (lists packets.new.items) packet.new.items src.new.items result }
     ensures limit { limit_of codec.new ≡ limit_of codec.old }
     ensures fault { IfErr result (λ e. fault_of codec.new ≡ Some e) }

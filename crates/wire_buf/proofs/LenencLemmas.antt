@@ -77,8 +77,8 @@ pub lenenc_lacks : (x : List ℕ) → lenenc_front x ≡ None → Lacks (Alone I
 lenenc_lacks x e = Lacks-front IsLenenc lenenc_front lenenc_front-complete x e
 
 -- little-endian bytes spell their number
-pub little_is : (n v : ℕ) → v < 256 ^ n → IsFixed (little_number n) n v (little_bytes n v)
-little_is n v fits = record {
+pub little_bytes-sound : (n v : ℕ) → v < 256 ^ n → IsFixed (little_number n) n v (little_bytes n v)
+little_bytes-sound n v fits = record {
   size = length-bytes_low_first 0 n v;
   value_is = sym (little_number-reads_back n v [] fits) ∙ ap (little_number n) (append-nil (little_bytes n v));
 }
@@ -108,10 +108,10 @@ unfolding lenenc_spelling
 lenenc_least v fits = elim (leb_tells (suc v) 251) [
   | inl t ↦ rw t.0 (record { is = one {v = v} (omega (arith, t.1)); least = λ other h bytes. (lenenc_long v other h bytes).0 })
   | inr t ↦ rw t.0 (elim (leb_tells (suc v) 65536) [
-    | inl u ↦ rw u.0 (record { is = two (little_is 2 v (omega (arith, u.1))); least = λ other h bytes. (lenenc_long v other h bytes).1 (omega (arith, t.1)) })
+    | inl u ↦ rw u.0 (record { is = two (little_bytes-sound 2 v (omega (arith, u.1))); least = λ other h bytes. (lenenc_long v other h bytes).1 (omega (arith, t.1)) })
     | inr u ↦ rw u.0 (elim (leb_tells (suc v) 16777216) [
-      | inl w ↦ rw w.0 (record { is = three (little_is 3 v (omega (arith, w.1))); least = λ other h bytes. (lenenc_long v other h bytes).2 (omega (arith, u.1)) })
-      | inr w ↦ rw w.0 (record { is = eight (little_is 8 v (omega (arith, fits))); least = λ other h bytes. (lenenc_long v other h bytes).3 (omega (arith, w.1)) })
+      | inl w ↦ rw w.0 (record { is = three (little_bytes-sound 3 v (omega (arith, w.1))); least = λ other h bytes. (lenenc_long v other h bytes).2 (omega (arith, u.1)) })
+      | inr w ↦ rw w.0 (record { is = eight (little_bytes-sound 8 v (omega (arith, fits))); least = λ other h bytes. (lenenc_long v other h bytes).3 (omega (arith, w.1)) })
     ])
   ])
 ]

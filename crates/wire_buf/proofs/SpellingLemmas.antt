@@ -3,7 +3,7 @@ use Rattle.std.proofs.Common.{◌≡◌, ◌++◌, ◌⊎◌, inl, inr, ℕ, zer
 use Rattle.std.proofs.lemmas.List.{take-append-drop, length-take-le}
 use Rattle.std.proofs.Math.Seq.{take-append_seam, drop-append_seam}
 use Rattle.std.proofs.lemmas.Result.{err_from_is_err_and}
-use Rattle.wire_buf.specs.Spelling.{Stands, Begins, Lacks, Reads, Both, SameBoth, Alone, Equal, IsFixed, IsShortest, IsSequence, SameAll, Then}
+use Rattle.wire_buf.specs.Spelling.{BeginsWith, Begins, Lacks, Reads, Both, SameBoth, Alone, Equal, IsFixed, IsShortest, IsSequence, SameAll, Then}
 use Rattle.wire_buf.specs.Writing.{Writes, AppendsOf}
 
 module _ {A B : Type 0} (first : A → List ℕ → List ℕ → Type 0) (second : B → List ℕ → List ℕ → Type 0) where
@@ -224,7 +224,7 @@ module _ {A B : Type 0} (first : A → List ℕ → List ℕ → Type 0) (second
 
 -- what stands at the front is found by a reader that answers None only where nothing does
 pub is_some_unless_lacks : {A B : Type 0} (spells : A → List ℕ → List ℕ → Type 0) (x : List ℕ) (P : Type 0) (r : Option B)
-    → Stands spells x → IfNone r (Lacks spells x × P) → IsSome r
+    → BeginsWith spells x → IfNone r (Lacks spells x × P) → IsSome r
 is_some_unless_lacks spells x P None stands none = absurd (none.0 stands.value stands.after stands.begins)
 is_some_unless_lacks spells x P (Some b) stands none = refl
 

@@ -12,7 +12,7 @@ pub record Begins {A : Type 0} (spells : A → List ℕ → List ℕ → Type 0)
   pub is : spells v bytes after
 
 -- some value is spelled at the front
-pub record Stands {A : Type 0} (spells : A → List ℕ → List ℕ → Type 0) (before : List ℕ) : Type 0 where
+pub record BeginsWith {A : Type 0} (spells : A → List ℕ → List ℕ → Type 0) (before : List ℕ) : Type 0 where
   pub value : A
   pub after : List ℕ
   pub begins : Begins spells value before after

@@ -8,7 +8,7 @@ ghost use Rattle.wire_buf.specs.declared.fault.WireFault.TheVariants.{Memory};
 
 use crate::fault::WireFault;
 use crate::parse_buf::ParseBuf;
-use crate::traits::{AnySize, Bytes, MyDeserialize, MySerialize};
+use crate::traits::{AnySize, FixedSize, MyDeserialize, MySerialize};
 use std::alloc::{Allocator, Global};
 
 /// The next bytes, as many as the context says. It is a part of the source.
@@ -83,7 +83,7 @@ impl<'de> MyDeserialize<'de> for ParseBuf<'de> {
 impl<'de, const LEN: usize> MyDeserialize<'de> for [u8; LEN] {
     const SIZE: Option<usize> = Some(LEN);
 
-    type Size = Bytes<LEN>;
+    type Size = FixedSize<LEN>;
 
     type Ctx = ();
 

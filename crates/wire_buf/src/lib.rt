@@ -10,10 +10,8 @@
 mod bytes;
 mod fault;
 mod parse_buf;
-#[cfg(test)]
-mod tests;
 mod traits;
 
 pub use fault::WireFault;
 pub use parse_buf::ParseBuf;
-pub use traits::{AnySize, Bytes, MyDeserialize, MySerialize, WireSize};
+pub use traits::{AnySize, FixedSize, MyDeserialize, MySerialize, WireSize};

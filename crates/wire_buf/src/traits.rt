@@ -17,12 +17,12 @@ pub trait WireSize {
 }
 
 /// Always N bytes.
-pub struct Bytes<const N: usize>;
+pub struct FixedSize<const N: usize>;
 
 /// As many bytes as the value and its context ask.
 pub struct AnySize;
 
-impl<const N: usize> WireSize for Bytes<N> {
+impl<const N: usize> WireSize for FixedSize<N> {
     const SIZE: Option<usize> = Some(N);
 
     ghost SIZE = { Some N };

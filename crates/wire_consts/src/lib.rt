@@ -11,8 +11,6 @@ mod geometry_type;
 mod item_result;
 mod limits;
 mod query_flags;
-#[cfg(test)]
-mod tests;
 
 pub use column_flags::{ColumnFlags, UnknownColumnFlags};
 pub use column_type::{ColumnType, UnknownColumnType};

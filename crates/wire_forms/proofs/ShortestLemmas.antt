@@ -4,12 +4,12 @@ use Rattle.byteorder.specs.Endian.{little_bytes}
 use Rattle.wire_buf.specs.Spelling.{IsShortest, IsBytes}
 use Rattle.wire_buf.specs.Numbers.{IsLittle}
 use Rattle.wire_buf.specs.Writing.{AppendsOf}
-use Rattle.wire_buf.proofs.LenencLemmas.{little_is}
+use Rattle.wire_buf.proofs.LenencLemmas.{little_bytes-sound}
 use Rattle.wire_forms.specs.Texts.{IsShortestText, WritesText}
 
 -- a number in n bytes
 pub number_shortest : (n k : ℕ) (old new : List ℕ) → k < 256 ^ n → new ≡ old ++ little_bytes n k → AppendsOf (IsShortest (IsLittle n) k) old new
-number_shortest n k old new fits appended = let is = little_is n k fits in record {
+number_shortest n k old new fits appended = let is = little_bytes-sound n k fits in record {
   bytes = little_bytes n k;
   appended = appended;
   is = record { is = is; least = λ other h _. let size = is.size in let e = h.size in omega (arith, size, e) };

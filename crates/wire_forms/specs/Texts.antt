@@ -1,6 +1,6 @@
 -- Byte strings as bytes: what is left of a packet, strings that end in a zero, strings of fixed length, and what is written for them. `Numbers` of wire_buf has the strings behind a count.
 use Rattle.std.specs.Prelude.{◌≡◌, ◌≢◌, ◌++◌, ◌<◌, ◌≤◌, ◌-◌, ◌⊎◌, ℕ, List, [], ◌∷◌, length, take, take_while, replicate, slice_index, not, ◌==◌}
-use Rattle.wire_buf.specs.Spelling.{AreBytes, Alone, Stands, Lacks}
+use Rattle.wire_buf.specs.Spelling.{AreBytes, Alone, BeginsWith, Lacks}
 use Rattle.wire_buf.specs.declared.fault.WireFault.{WireFault}
 use Rattle.wire_buf.specs.declared.fault.WireFault.TheVariants.{Eof}
 use Rattle.wire_ints.specs.Sevens.{varlen_spelling}
@@ -30,7 +30,7 @@ varlen_string_spelling v = varlen_spelling (length v) ++ v
 -- where no string behind its length stands: the fault of a length that isn't there, or `Eof` where a length is and its bytes are missing
 abbrev pub CountedRefusal : (ℕ → List ℕ → Type 0) → (List ℕ → WireFault) → List ℕ → WireFault → Type 0
 CountedRefusal counts fault_at x fault =
-    (Lacks (Alone counts) x × (fault ≡ fault_at x)) ⊎ (Stands (Alone counts) x × (fault ≡ Eof))
+    (Lacks (Alone counts) x × (fault ≡ fault_at x)) ⊎ (BeginsWith (Alone counts) x × (fault ≡ Eof))
 
 -- The bytes spell the text in each context, before each rest, that suits it, and no spelling of it is shorter.
 pub record IsShortestText {C : Type 0} (spells : C → List ℕ → List ℕ → List ℕ → Type 0) (suits : C → List ℕ → List ℕ → Type 0) (text bytes : List ℕ) : Type 0 where

@@ -11,7 +11,7 @@ ghost use Rattle.wire_buf.specs.declared.fault.WireFault.TheVariants.{Eof, Memor
 use crate::plain_bytes::append_zeros;
 use std::alloc::{Allocator, Global};
 use std::marker::PhantomData;
-use wire_buf::{Bytes, MyDeserialize, MySerialize, ParseBuf, WireFault};
+use wire_buf::{FixedSize, MyDeserialize, MySerialize, ParseBuf, WireFault};
 
 /// The one byte `VALUE`. Another is refused as `BadConst`. `T` tells such fields apart.
 #[derive(Drop)]
@@ -35,7 +35,7 @@ impl<T, const VALUE: u8> ConstU8<T, VALUE> {
 impl<'de, T, const VALUE: u8> MyDeserialize<'de> for ConstU8<T, VALUE> {
     const SIZE: Option<usize> = Some(1);
 
-    type Size = Bytes<1>;
+    type Size = FixedSize<1>;
 
     type Ctx = ();
 
@@ -93,7 +93,7 @@ impl<T, const VALUE: u32> ConstU32<T, VALUE> {
 impl<'de, T, const VALUE: u32> MyDeserialize<'de> for ConstU32<T, VALUE> {
     const SIZE: Option<usize> = Some(4);
 
-    type Size = Bytes<4>;
+    type Size = FixedSize<4>;
 
     type Ctx = ();
 
@@ -161,7 +161,7 @@ impl<T, const LEN: usize> ConstBytes<T, LEN> {
 impl<'de, T: ConstBytesValue<LEN>, const LEN: usize> MyDeserialize<'de> for ConstBytes<T, LEN> {
     const SIZE: Option<usize> = Some(LEN);
 
-    type Size = Bytes<LEN>;
+    type Size = FixedSize<LEN>;
 
     type Ctx = ();
 
@@ -217,7 +217,7 @@ pub struct Skip<const LEN: usize>;
 impl<'de, const LEN: usize> MyDeserialize<'de> for Skip<LEN> {
     const SIZE: Option<usize> = Some(LEN);
 
-    type Size = Bytes<LEN>;
+    type Size = FixedSize<LEN>;
 
     type Ctx = ();
 

@@ -17,8 +17,6 @@ mod flags;
 pub mod laws;
 mod plain_bytes;
 mod raw_bytes;
-#[cfg(test)]
-mod tests;
 
 pub use bytes_repr::BytesRepr;
 pub use consts::{Const, Constant, RawConst};

@@ -9,7 +9,7 @@ use crate::bytes_repr::BytesRepr;
 use memchr::memchr;
 use std::alloc::Allocator;
 use std::borrow::CowSlice;
-use wire_buf::{AnySize, Bytes, ParseBuf, WireFault};
+use wire_buf::{AnySize, FixedSize, ParseBuf, WireFault};
 
 /// The bytes before the first zero, which is eaten too; without a zero they are refused. What
 /// stands before the first zero of a string is written, and a zero.
@@ -124,7 +124,7 @@ impl<const MAX: usize> BytesRepr for BareBytes<MAX> {
 impl<const LEN: usize> BytesRepr for FixedLengthText<LEN> {
     const SIZE: Option<usize> = Some(LEN);
 
-    type Size = Bytes<LEN>;
+    type Size = FixedSize<LEN>;
 
     type Ctx = ();
 

@@ -14,7 +14,7 @@ use Rattle.wire_buf.specs.Fronts.{lenenc_front, number_front}
 use Rattle.wire_buf.proofs.LenencLemmas.{lenenc_front-complete, lenenc_lacks}
 use Rattle.wire_buf.proofs.StringLemmas.{Lacks-count, Lacks-counted, Reads-counted}
 use Rattle.wire_ints.specs.Streams.{ReadsFrom, LacksIn, FailsFrom, IsCause, LacksMemory}
-use Rattle.wire_streams.specs.Transfers.{IsCut, IsCutOrMemory, Gathers}
+use Rattle.wire_streams.specs.Transfers.{FallsShort, FallsShortOrLacksMemory, Gathers}
 use Rattle.wire_ints.proofs.StreamLemmas.{ReadsFrom-taken, lacks_taken, lacks_ended}
 
 -- a buffer of one byte
@@ -79,7 +79,7 @@ fails_bad b first old new e far two' three' eight' h =
 
 -- fewer bytes than the first byte announces
 pub fails_tail : (tag n : ℕ) (fault : WireFault) (first : List ℕ) (old mid new : Option (List ℕ)) → first ≡ tag ∷ [] → Consumes old mid first
-    → ((t : List ℕ) → length t < n → Lacks (Alone IsLenenc) (tag ∷ t)) → IsCut fault n mid new → FailsFrom (Alone IsLenenc) fault old new
+    → ((t : List ℕ) → length t < n → Lacks (Alone IsLenenc) (tag ∷ t)) → FallsShort fault n mid new → FailsFrom (Alone IsLenenc) fault old new
 fails_tail tag n fault first old mid new e h none cut =
     let taken = Consumes-trans old mid new (tag ∷ []) cut.taken (subst (Consumes old mid) e h) cut.consumed in
     record {
@@ -96,7 +96,7 @@ unfolding lenenc_front
 none_front = refl
 
 -- no first byte
-pub fails_first : (fault : WireFault) (old new : Option (List ℕ)) → IsCut fault 1 old new → FailsFrom (Alone IsLenenc) fault old new
+pub fails_first : (fault : WireFault) (old new : Option (List ℕ)) → FallsShort fault 1 old new → FailsFrom (Alone IsLenenc) fault old new
 fails_first fault old new cut = record {
   taken = cut.taken;
   consumed = cut.consumed;
@@ -146,7 +146,7 @@ reads_string n text (Some x) (Some y) (Some z) r g =
     Reads-counted IsLenenc n x y text z r enough front back
 
 -- a string that is cut off behind its length
-pub fails_cut : (n : ℕ) (fault : WireFault) (old mid new : Option (List ℕ)) (before after : List ℕ) → ReadsFrom (Alone IsLenenc) Equal n old mid → IsCutOrMemory fault n mid new before after
+pub fails_cut : (n : ℕ) (fault : WireFault) (old mid new : Option (List ℕ)) (before after : List ℕ) → ReadsFrom (Alone IsLenenc) Equal n old mid → FallsShortOrLacksMemory fault n mid new before after
     → FailsFrom (Alone IsLenencString) fault old new ⊎ LacksMemory fault old new
 fails_cut n fault None mid new before after r cut = elim cut.cause [
   | inl p ↦ inl (record { taken = []; consumed = tt; cause = subst (λ (f : WireFault). IsCause (Alone IsLenencString) f [] None new) (sym p.0) (tt, p.1) })

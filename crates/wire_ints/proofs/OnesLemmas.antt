@@ -15,7 +15,7 @@ use Rattle.wire_buf.specs.Spelling.{Begins, Reads, Lacks, Alone, Equal, IsFixed,
 use Rattle.wire_buf.specs.Numbers.{IsLittle}
 use Rattle.wire_buf.specs.Writing.{Writes}
 use Rattle.wire_buf.proofs.SpellingLemmas.{Reads-fixed}
-use Rattle.wire_buf.proofs.LenencLemmas.{little_is}
+use Rattle.wire_buf.proofs.LenencLemmas.{little_bytes-sound}
 use Rattle.wire_buf.proofs.NumberLemmas.{little_reads}
 use Rattle.wire_ints.specs.TrailingOnes.{HasTrailingOnes, IsVarlenUint, short, long, varlen_uint_len, varlen_uint_spelling, marked}
 
@@ -38,37 +38,37 @@ holds x y a b e = elim (eqb_tells x y) [ inl t ↦ rw t.0 refl | inr t ↦ absur
 fails : (x y : ℕ) (a b : ℕ) → (x ≡ y → ⊥) → (if x == y then a else b) ≡ b
 fails x y a b e = elim (eqb_tells x y) [ inl t ↦ absurd (e t.1) | inr t ↦ rw t.0 refl ]
 
-ones_of-is : (n b : ℕ) → n ≤ 7 → b % 2 ^ suc n ≡ 2 ^ n - 1 → ones_of b ≡ n
+ones_of-complete : (n b : ℕ) → n ≤ 7 → b % 2 ^ suc n ≡ 2 ^ n - 1 → ones_of b ≡ n
 unfolding ones_of
-ones_of-is zero b room h = holds (b % 2) 0 _ _ h
-ones_of-is (suc zero) b room h = fails (b % 2) 0 _ _ (λ e. omega (arith, e, h))
+ones_of-complete zero b room h = holds (b % 2) 0 _ _ h
+ones_of-complete (suc zero) b room h = fails (b % 2) 0 _ _ (λ e. omega (arith, e, h))
     ∙ holds (b % 4) 1 _ _ h
-ones_of-is (suc (suc zero)) b room h = fails (b % 2) 0 _ _ (λ e. omega (arith, e, h))
+ones_of-complete (suc (suc zero)) b room h = fails (b % 2) 0 _ _ (λ e. omega (arith, e, h))
     ∙ fails (b % 4) 1 _ _ (λ e. omega (arith, e, h))
     ∙ holds (b % 8) 3 _ _ h
-ones_of-is (suc (suc (suc zero))) b room h = fails (b % 2) 0 _ _ (λ e. omega (arith, e, h))
+ones_of-complete (suc (suc (suc zero))) b room h = fails (b % 2) 0 _ _ (λ e. omega (arith, e, h))
     ∙ fails (b % 4) 1 _ _ (λ e. omega (arith, e, h))
     ∙ fails (b % 8) 3 _ _ (λ e. omega (arith, e, h))
     ∙ holds (b % 16) 7 _ _ h
-ones_of-is (suc (suc (suc (suc zero)))) b room h = fails (b % 2) 0 _ _ (λ e. omega (arith, e, h))
+ones_of-complete (suc (suc (suc (suc zero)))) b room h = fails (b % 2) 0 _ _ (λ e. omega (arith, e, h))
     ∙ fails (b % 4) 1 _ _ (λ e. omega (arith, e, h))
     ∙ fails (b % 8) 3 _ _ (λ e. omega (arith, e, h))
     ∙ fails (b % 16) 7 _ _ (λ e. omega (arith, e, h))
     ∙ holds (b % 32) 15 _ _ h
-ones_of-is (suc (suc (suc (suc (suc zero))))) b room h = fails (b % 2) 0 _ _ (λ e. omega (arith, e, h))
+ones_of-complete (suc (suc (suc (suc (suc zero))))) b room h = fails (b % 2) 0 _ _ (λ e. omega (arith, e, h))
     ∙ fails (b % 4) 1 _ _ (λ e. omega (arith, e, h))
     ∙ fails (b % 8) 3 _ _ (λ e. omega (arith, e, h))
     ∙ fails (b % 16) 7 _ _ (λ e. omega (arith, e, h))
     ∙ fails (b % 32) 15 _ _ (λ e. omega (arith, e, h))
     ∙ holds (b % 64) 31 _ _ h
-ones_of-is (suc (suc (suc (suc (suc (suc zero)))))) b room h = fails (b % 2) 0 _ _ (λ e. omega (arith, e, h))
+ones_of-complete (suc (suc (suc (suc (suc (suc zero)))))) b room h = fails (b % 2) 0 _ _ (λ e. omega (arith, e, h))
     ∙ fails (b % 4) 1 _ _ (λ e. omega (arith, e, h))
     ∙ fails (b % 8) 3 _ _ (λ e. omega (arith, e, h))
     ∙ fails (b % 16) 7 _ _ (λ e. omega (arith, e, h))
     ∙ fails (b % 32) 15 _ _ (λ e. omega (arith, e, h))
     ∙ fails (b % 64) 31 _ _ (λ e. omega (arith, e, h))
     ∙ holds (b % 128) 63 _ _ h
-ones_of-is (suc (suc (suc (suc (suc (suc (suc zero))))))) b room h = fails (b % 2) 0 _ _ (λ e. omega (arith, e, h))
+ones_of-complete (suc (suc (suc (suc (suc (suc (suc zero))))))) b room h = fails (b % 2) 0 _ _ (λ e. omega (arith, e, h))
     ∙ fails (b % 4) 1 _ _ (λ e. omega (arith, e, h))
     ∙ fails (b % 8) 3 _ _ (λ e. omega (arith, e, h))
     ∙ fails (b % 16) 7 _ _ (λ e. omega (arith, e, h))
@@ -76,11 +76,11 @@ ones_of-is (suc (suc (suc (suc (suc (suc (suc zero))))))) b room h = fails (b % 
     ∙ fails (b % 64) 31 _ _ (λ e. omega (arith, e, h))
     ∙ fails (b % 128) 63 _ _ (λ e. omega (arith, e, h))
     ∙ holds (b % 256) 127 _ _ h
-ones_of-is (suc (suc (suc (suc (suc (suc (suc (suc n)))))))) b room h = absurd (omega (arith, room))
+ones_of-complete (suc (suc (suc (suc (suc (suc (suc (suc n)))))))) b room h = absurd (omega (arith, room))
 
 -- a byte has its trailing ones once
 ones_unique : (n m b : ℕ) → n ≤ 7 → m ≤ 7 → HasTrailingOnes n b → HasTrailingOnes m b → n ≡ m
-ones_unique n m b p q h k = sym (ones_of-is n b p h.ones) ∙ ones_of-is m b q k.ones
+ones_unique n m b p q h k = sym (ones_of-complete n b p h.ones) ∙ ones_of-complete m b q k.ones
 
 -- 255 has eight
 all_ones : 8 ≡ ones_of 255
@@ -88,7 +88,7 @@ unfolding ones_of
 all_ones = refl
 
 ones_of_255 : (n : ℕ) → n ≤ 7 → HasTrailingOnes n 255 → ⊥
-ones_of_255 n room h = let e : 8 ≡ n = all_ones ∙ ones_of-is n 255 room h.ones in omega (arith, e, room)
+ones_of_255 n room h = let e : 8 ≡ n = all_ones ∙ ones_of-complete n 255 room h.ones in omega (arith, e, room)
 
 -- the lowest zero bit of a byte, as the lowest one bit of its complement
 pub ones_from_bits : (n b : ℕ) → n ≤ 7 → b < 256 → (255 - b) / 2 ^ n % 2 ≡ 1 → ((i : ℕ) → i < n → (255 - b) / 2 ^ i % 2 ≡ 0) → b % 2 ^ suc n ≡ 2 ^ n - 1
@@ -288,8 +288,8 @@ spelled_fits w bytes (short {n = m} small h f) are =
     ((λ _. rw size (rw is fits)), omega (arith, size, small), omega (arith, size))
 spelled_fits w bytes (long h) are = let size = h.size in ((λ few. absurd (omega (arith, few, size))), omega (arith, size), omega arith)
 
-short_is : (n v : ℕ) → n ≤ 7 → v < 128 ^ suc n → IsVarlenUint v (little_bytes (suc n) (marked (suc n) v))
-short_is n v room fits =
+short_spelling-sound : (n v : ℕ) → n ≤ 7 → v < 128 ^ suc n → IsVarlenUint v (little_bytes (suc n) (marked (suc n) v))
+short_spelling-sound n v room fits =
     let m = marked_facts n v room fits in
     let back = little_number-reads_back (suc n) (marked (suc n) v) [] m.0 in
     let whole : little_number (suc n) (little_bytes (suc n) (marked (suc n) v)) ≡ marked (suc n) v = ap (little_number (suc n)) (sym (append-nil (little_bytes (suc n) (marked (suc n) v)))) ∙ back in
@@ -304,7 +304,7 @@ varlen_uint_least v fits =
     let high = f.high in
     elim (eqb_tells n 9) [
       | inl t ↦ rw t.0 (record {
-        is = long (little_is 8 v (omega (arith, fits)));
+        is = long (little_bytes-sound 8 v (omega (arith, fits)));
         least = λ other h are.
             let s = spelled_fits v other h are in
             elim (leb_tells (length other) 8) [
@@ -316,7 +316,7 @@ varlen_uint_least v fits =
           let room : n ≤ 8 = omega (arith, high, t.1) in
           let m : n ≡ suc (n - 1) = omega (arith, low) in
           rw t.0 (record {
-            is = rw m (short_is (n - 1) v (omega (arith, room, low)) (rw (← m) (f.fits room)));
+            is = rw m (short_spelling-sound (n - 1) v (omega (arith, room, low)) (rw (← m) (f.fits room)));
             least = λ other h are.
                 let s = spelled_fits v other h are in
                 let size = length-bytes_low_first 0 n (marked n v) in

@@ -163,9 +163,9 @@ sevens_last len rest bytes all small room size e =
     ∙ ap (λ (n : ℕ). take len bytes ++ sevens_spelling n rest) (sym left) ∙ e
 
 -- the spelling spells its number
-sevens_is : (k v : ℕ) → v < 128 ^ suc k → IsSevens (suc k) v (sevens_spelling (suc k) v)
-sevens_is zero v fits = let small : v < 128 = omega (arith, fits) in rw (sevens_end zero v small) (last small)
-sevens_is (suc k) v fits = elim (leb_tells (suc v) 128) [
+sevens_spelling-sound : (k v : ℕ) → v < 128 ^ suc k → IsSevens (suc k) v (sevens_spelling (suc k) v)
+sevens_spelling-sound zero v fits = let small : v < 128 = omega (arith, fits) in rw (sevens_end zero v small) (last small)
+sevens_spelling-sound (suc k) v fits = elim (leb_tells (suc v) 128) [
   | inl t ↦ rw (sevens_end (suc k) v t.1) (last t.1)
   | inr t ↦
       let p : 128 ^ suc (suc k) ≡ 128 * 128 ^ suc k = omega arith in
@@ -173,7 +173,7 @@ sevens_is (suc k) v fits = elim (leb_tells (suc v) 128) [
       let d = v % 128 + 128 in
       let whole : (d - 128) + 128 * (v / 128) ≡ v = omega arith in
       rw (sevens_step (suc k) v (omega (arith, t.1)))
-      (subst (λ (n : ℕ). IsSevens (suc (suc k)) n (d ∷ sevens_spelling (suc k) (v / 128))) whole (more (omega arith) (sevens_is k (v / 128) high)))
+      (subst (λ (n : ℕ). IsSevens (suc (suc k)) n (d ∷ sevens_spelling (suc k) (v / 128))) whole (more (omega arith) (sevens_spelling-sound k (v / 128) high)))
 ]
 
 -- bytes after the first
@@ -205,7 +205,7 @@ varlen_writes v old new fits e = record {
   is = refl;
   appended = e;
   least = record {
-    is = record { sevens = sevens_is 4 v (omega (arith, fits)); fits = fits };
+    is = record { sevens = sevens_spelling-sound 4 v (omega (arith, fits)); fits = fits };
     least = λ other h bytes. sevens_least 5 5 v other h.sevens bytes;
   };
 }

@@ -9,7 +9,7 @@ use Rattle.byteorder.specs.Endian.{little_bytes}
 use Rattle.wire_buf.specs.Spelling.{AreBytes, IsShortest}
 use Rattle.wire_buf.specs.Numbers.{IsLenenc, IsLittle, IsCounted, IsLenencString, lenenc_spelling}
 use Rattle.wire_buf.specs.Writing.{Writes}
-use Rattle.wire_buf.proofs.LenencLemmas.{lenenc_least, little_is}
+use Rattle.wire_buf.proofs.LenencLemmas.{lenenc_least, little_bytes-sound}
 use Rattle.wire_ints.specs.Strings.{lenenc_string_spelling, counted_bytes, counted_spelling, WritesFront}
 
 -- the one fault that a refusal is, and what holds beside it
@@ -45,7 +45,7 @@ counted_least count s front h = record {
 
 -- the count of n bytes
 counted_count : (n k : ℕ) → k < 256 ^ n → IsShortest (IsLittle n) k (little_bytes n k)
-counted_count n k fits = let is = little_is n k fits in record {
+counted_count n k fits = let is = little_bytes-sound n k fits in record {
   is = is;
   least = λ other h _. let size = is.size in let e = h.size in omega (arith, size, e);
 }

@@ -5,12 +5,12 @@ ghost use Rattle.wire_ints.specs.Ints.{little_spelling, signed_little_spelling};
 
 use crate::int_repr::IntRepr;
 use std::alloc::Allocator;
-use wire_buf::{Bytes, ParseBuf, WireFault};
+use wire_buf::{FixedSize, ParseBuf, WireFault};
 
 impl IntRepr for u8 {
     const SIZE: Option<usize> = Some(1);
 
-    type Size = Bytes<1>;
+    type Size = FixedSize<1>;
 
     type Primitive = u8;
 
@@ -33,7 +33,7 @@ impl IntRepr for u8 {
 impl IntRepr for i8 {
     const SIZE: Option<usize> = Some(1);
 
-    type Size = Bytes<1>;
+    type Size = FixedSize<1>;
 
     type Primitive = i8;
 

@@ -10,7 +10,7 @@ use crate::number::Number;
 use byteorder::{BigEndian, ByteOrder, LittleEndian};
 use std::alloc::Allocator;
 use std::marker::PhantomData;
-use wire_buf::{Bytes, ParseBuf, WireFault};
+use wire_buf::{FixedSize, ParseBuf, WireFault};
 
 /// A number that is spelled in `N` bytes.
 pub trait InBytes<const N: usize>: Number {
@@ -24,7 +24,7 @@ pub struct Fixed<P, O, const N: usize>(PhantomData<P>, PhantomData<O>);
 impl<P: InBytes<N>, O: ByteOrder, const N: usize> IntRepr for Fixed<P, O, N> {
     const SIZE: Option<usize> = Some(N);
 
-    type Size = Bytes<N>;
+    type Size = FixedSize<N>;
 
     type Primitive = P;
 

@@ -6,7 +6,7 @@ ghost use Rattle.wire_ints.specs.Ints.{little_spelling, lower_half, upper_half, 
 
 use crate::int_repr::IntRepr;
 use std::alloc::Allocator;
-use wire_buf::{Bytes, ParseBuf, WireFault};
+use wire_buf::{FixedSize, ParseBuf, WireFault};
 
 /// Two bytes that are the lower half of a `u32`. What is read has a zero upper half; the upper half
 /// of what is written is dropped.
@@ -15,7 +15,7 @@ pub struct LeU32LowerHalf;
 impl IntRepr for LeU32LowerHalf {
     const SIZE: Option<usize> = Some(2);
 
-    type Size = Bytes<2>;
+    type Size = FixedSize<2>;
 
     type Primitive = u32;
 
@@ -44,7 +44,7 @@ pub struct LeU32UpperHalf;
 impl IntRepr for LeU32UpperHalf {
     const SIZE: Option<usize> = Some(2);
 
-    type Size = Bytes<2>;
+    type Size = FixedSize<2>;
 
     type Primitive = u32;
 

@@ -5,8 +5,6 @@
 //! is the one number that the bytes spell, and what is written is that number's shortest spelling.
 #![tactic(auto)]
 
-#[cfg(test)]
-mod big_tests;
 mod buf_mut_ext;
 mod byte;
 mod fixed;
@@ -16,8 +14,6 @@ pub mod laws;
 mod lenenc;
 mod number;
 mod read_ext;
-#[cfg(test)]
-mod tests;
 mod varlen;
 mod varlen_uint;
 mod write_ext;

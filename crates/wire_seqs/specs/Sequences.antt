@@ -1,6 +1,6 @@
 -- Sequences of fields: a count in some form, and then so many elements, one after the other.
 use Rattle.std.specs.Prelude.{◌≡◌, ◌++◌, ◌≤◌, ℕ, List, [], ◌∷◌, length, take, Option, Some, None, option_map, ◌⊎◌, ◌<◌}
-use Rattle.wire_buf.specs.Spelling.{IsSequence, Alone, AreBytes, Lacks, Stands}
+use Rattle.wire_buf.specs.Spelling.{IsSequence, Alone, AreBytes, Lacks, BeginsWith}
 use Rattle.wire_buf.specs.declared.fault.WireFault.{WireFault}
 use Rattle.wire_buf.specs.declared.fault.WireFault.TheVariants.{Eof, Memory}
 use Rattle.wire_buf.specs.Refusals.{Behind, ParseRefusal}
@@ -38,7 +38,7 @@ pub record WritesCount {C : Type 0} (counts : C → ℕ → List ℕ → Type 0)
 pub record ItemsRefusal {A E : Type 0} (n : ℕ) (spells : A → List ℕ → List ℕ → Type 0) (refusal : List ℕ → E → Type 0) (no_memory : E → Type 0) (x : List ℕ) (fault : E) : Type 0 where
   pub count : ℕ
   pub fewer : count < n
-  pub next : Behind (IsSequence count spells) (λ vs rest. refusal rest fault ⊎ (Stands spells rest × no_memory fault)) x
+  pub next : Behind (IsSequence count spells) (λ vs rest. refusal rest fault ⊎ (BeginsWith spells rest × no_memory fault)) x
 
 -- no count stands there, or one does and the values behind it are refused
 abbrev pub SequenceRefusal : {E : Type 0} → (ℕ → List ℕ → Type 0) → (E → Type 0) → (ℕ → List ℕ → E → Type 0) → List ℕ → E → Type 0

@@ -7,8 +7,6 @@ mod items;
 mod raw_seq;
 mod seq;
 mod seq_repr;
-#[cfg(test)]
-mod tests;
 
 pub use counts::Unknown;
 pub use raw_seq::RawSeq;

@@ -5,7 +5,7 @@ use Rattle.std.proofs.Math.Seq.{take-append_seam}
 use Rattle.std.proofs.lemmas.Result.{err_from_is_err_and}
 use Rattle.wire_buf.specs.declared.fault.WireFault.{WireFault}
 use Rattle.wire_buf.specs.declared.fault.WireFault.TheVariants.{Eof, Memory, Read}
-use Rattle.wire_streams.specs.Transfers.{IsCutOrMemory, WritesSome}
+use Rattle.wire_streams.specs.Transfers.{FallsShortOrLacksMemory, WritesSome}
 use Rattle.std.proofs.lemmas.Slice.{take-put_mid_below}
 use Rattle.std.proofs.KnownBytes.{Consumes-trans, Consumes-kept, Appends-nil, Appends-trans, Appends-kept}
 use borrow.Rule.Slice.PartMut.{put_mid, post_of}
@@ -77,7 +77,7 @@ IfErr-memory r P h p = let e = err_from_is_err_and r h.1 in rw e.1 (subst P (sym
 
 -- the piece that was read last found no memory
 pub cut_by_memory : (old mid new : Option (List ℕ)) (n left m : ℕ) (before middle part : List ℕ) → m ≤ left → length part ≡ m
-    → GathersSome old mid n left before middle → Consumes mid new part → IsCutOrMemory Memory n old new before middle
+    → GathersSome old mid n left before middle → Consumes mid new part → FallsShortOrLacksMemory Memory n old new before middle
 cut_by_memory old mid new n left m before middle part few size g more =
     let count = g.count in
     record {
@@ -91,7 +91,7 @@ cut_by_memory old mid new n left m before middle part few size g more =
 
 -- the reader is at its end short of the count
 pub cut_at_end : (old mid new : Option (List ℕ)) (n left : ℕ) (before middle : List ℕ) → 0 < left → GathersSome old mid n left before middle → Consumes mid new [] → IsAtEnd new
-    → IsCutOrMemory Eof n old new before middle
+    → FallsShortOrLacksMemory Eof n old new before middle
 cut_at_end old mid new n left before middle some g none end =
     let count = g.count in
     record {
@@ -104,7 +104,7 @@ cut_at_end old mid new n left before middle some g none end =
     }
 
 -- the reader failed
-pub cut_by_reader : (old mid new : Option (List ℕ)) (n left : ℕ) (before middle : List ℕ) → GathersSome old mid n left before middle → Keeps mid new → IsCutOrMemory Read n old new before middle
+pub cut_by_reader : (old mid new : Option (List ℕ)) (n left : ℕ) (before middle : List ℕ) → GathersSome old mid n left before middle → Keeps mid new → FallsShortOrLacksMemory Read n old new before middle
 cut_by_reader old mid new n left before middle g kept =
     let count = g.count in
     record {

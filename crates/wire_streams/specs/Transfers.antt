@@ -5,14 +5,14 @@ use Rattle.wire_buf.specs.declared.fault.WireFault.{WireFault}
 use Rattle.wire_buf.specs.declared.fault.WireFault.TheVariants.{Eof, Memory, Read}
 
 -- at most n bytes were taken: the reader is at its end short of them, or it failed
-pub record IsCut (fault : WireFault) (n : ℕ) (old new : Option (List ℕ)) : Type 0 where
+pub record FallsShort (fault : WireFault) (n : ℕ) (old new : Option (List ℕ)) : Type 0 where
   pub taken : List ℕ
   pub consumed : Consumes old new taken
   pub within : length taken ≤ n
   pub cause : ((fault ≡ Eof) × IsAtEnd new × (length taken < n)) ⊎ (fault ≡ Read)
 
 -- the same, or memory was refused; a front of what was taken is appended
-pub record IsCutOrMemory (fault : WireFault) (n : ℕ) (old new : Option (List ℕ)) (before after : List ℕ) : Type 0 where
+pub record FallsShortOrLacksMemory (fault : WireFault) (n : ℕ) (old new : Option (List ℕ)) (before after : List ℕ) : Type 0 where
   pub taken : List ℕ
   pub consumed : Consumes old new taken
   pub within : length taken ≤ n

@@ -2,7 +2,7 @@
 
 ghost use Rattle.std.specs.Prelude.{OnOk, IfErr, length};
 ghost use Rattle.std.specs.Io.KnownBytes.{Consumes};
-ghost use Rattle.wire_streams.specs.Transfers.{Gathers, IsCut, IsCutOrMemory};
+ghost use Rattle.wire_streams.specs.Transfers.{Gathers, FallsShort, FallsShortOrLacksMemory};
 
 use std::alloc::Allocator;
 use std::io::{ErrorKind, Read};
@@ -11,8 +11,8 @@ use wire_buf::WireFault;
 /// How many bytes are asked of a reader at once, where it isn't known that they come.
 const PIECE: usize = 1024;
 
-/// How many reads or writes a call makes at most: a device that is interrupted 2^63 - 1 times has failed.
-pub const MAX_TURNS: u64 = 0x7fff_ffff_ffff_ffff;
+/// How many reads a call makes at most: a device that is interrupted 2^63 - 1 times has failed.
+pub const MAX_READS: u64 = 0x7fff_ffff_ffff_ffff;
 
 /// Fills the buffer with the reader's next bytes. A read that is interrupted is tried again.
 ///
@@ -21,10 +21,10 @@ pub const MAX_TURNS: u64 = 0x7fff_ffff_ffff_ffff;
 pub fn read_exact<R: Read>(reader: &mut R, buf: &mut [u8]) -> Result<(), WireFault>
     ensures ok { OnOk result (Consumes (R.remaining reader.old) (R.remaining reader.new) buf.new) }
     ensures err { IfErr result
-        (λ e. IsCut e (length buf.old) (R.remaining reader.old) (R.remaining reader.new)) }
+        (λ e. FallsShort e (length buf.old) (R.remaining reader.old) (R.remaining reader.new)) }
 {
     let mut filled = 0;
-    'turns: for _turn in 0..MAX_TURNS {
+    'reads: for _read in 0..MAX_READS {
         if filled == buf.len() {
             return Ok(());
         }
@@ -53,12 +53,12 @@ pub fn read_more<R: Read, A: Allocator>(
     ensures ok { OnOk result (Gathers n (R.remaining reader.old) (R.remaining reader.new)
         out.old.items out.new.items) }
     ensures err { IfErr result
-        (λ e. IsCutOrMemory e n (R.remaining reader.old) (R.remaining reader.new)
+        (λ e. FallsShortOrLacksMemory e n (R.remaining reader.old) (R.remaining reader.new)
         out.old.items out.new.items) }
 {
     let mut piece = [0u8; PIECE];
     let mut left = n;
-    'turns: for _turn in 0..MAX_TURNS {
+    'reads: for _read in 0..MAX_READS {
         if left == 0 {
             return Ok(());
         }

@@ -5,9 +5,11 @@ ghost use Rattle.std.specs.Io.KnownBytes.{Appends};
 ghost use Rattle.wire_buf.specs.declared.fault.WireFault.TheVariants.{Write as WriteFault};
 ghost use Rattle.wire_streams.specs.Transfers.{WritesSome};
 
-use crate::reading::MAX_TURNS;
 use std::io::{ErrorKind, Write};
 use wire_buf::WireFault;
+
+/// How many writes a call makes at most: a device that is interrupted 2^63 - 1 times has failed.
+pub const MAX_WRITES: u64 = 0x7fff_ffff_ffff_ffff;
 
 /// Writes all of the bytes. A write that is interrupted is tried again.
 ///
@@ -19,7 +21,7 @@ pub fn write_all<W: Write>(writer: &mut W, bytes: &[u8]) -> Result<(), WireFault
         (W.contents writer.old) (W.contents writer.new)) }
 {
     let mut rest = bytes;
-    'turns: for _turn in 0..MAX_TURNS {
+    'writes: for _write in 0..MAX_WRITES {
         if rest.is_empty() {
             return Ok(());
         }

@@ -1,7 +1,7 @@
 //! Length-encoded integers.
 
 ghost use Rattle.std.specs.Prelude.{◌≡◌, IfSome, IfNone, option_map};
-ghost use Rattle.wire_buf.specs.Spelling.{Reads, Lacks, Stands, Alone, Equal};
+ghost use Rattle.wire_buf.specs.Spelling.{Reads, Lacks, BeginsWith, Alone, Equal};
 ghost use Rattle.wire_buf.specs.Numbers.{IsLenenc};
 ghost use Rattle.wire_buf.specs.Fronts.{lenenc_front};
 
@@ -29,7 +29,7 @@ impl<'a> ParseBuf<'a> {
 
     /// A length-encoded integer, which is known to stand there.
     pub fn eat_lenenc_int(&mut self) -> u64
-        requires { Stands (Alone IsLenenc) self.old.0.now }
+        requires { BeginsWith (Alone IsLenenc) self.old.0.now }
         ensures { Reads (Alone IsLenenc) Equal result self.old.0.now self.new.0.now }
     {
         self.checked_eat_lenenc_int().unwrap()

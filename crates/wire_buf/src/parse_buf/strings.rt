@@ -1,7 +1,7 @@
 //! Strings: behind a count of their bytes, or up to a zero.
 
 ghost use Rattle.std.specs.Prelude.{◌≡◌, IfSome, IfNone};
-ghost use Rattle.wire_buf.specs.Spelling.{Reads, Lacks, Stands, Alone, Equal};
+ghost use Rattle.wire_buf.specs.Spelling.{Reads, Lacks, BeginsWith, Alone, Equal};
 ghost use Rattle.wire_buf.specs.Numbers.{IsLenencString, IsShortString, IsLongString};
 ghost use Rattle.wire_buf.specs.Eating.{TakesToZero};
 
@@ -11,7 +11,7 @@ use memchr::memchr;
 impl<'a> ParseBuf<'a> {
     /// A length-encoded string, which is known to stand there.
     pub fn eat_lenenc_str(&mut self) -> &'a [u8]
-        requires { Stands (Alone IsLenencString) self.old.0.now }
+        requires { BeginsWith (Alone IsLenencString) self.old.0.now }
         ensures { Reads (Alone IsLenencString) Equal result.now self.old.0.now self.new.0.now }
     {
         self.checked_eat_lenenc_str().unwrap()
@@ -34,7 +34,7 @@ impl<'a> ParseBuf<'a> {
 
     /// A string behind its length in one byte, which is known to stand there.
     pub fn eat_u8_str(&mut self) -> &'a [u8]
-        requires { Stands (Alone IsShortString) self.old.0.now }
+        requires { BeginsWith (Alone IsShortString) self.old.0.now }
         ensures { Reads (Alone IsShortString) Equal result.now self.old.0.now self.new.0.now }
     {
         self.checked_eat_u8_str().unwrap()
@@ -56,7 +56,7 @@ impl<'a> ParseBuf<'a> {
 
     /// A string behind its length in four bytes, which is known to stand there.
     pub fn eat_u32_str(&mut self) -> &'a [u8]
-        requires { Stands (Alone IsLongString) self.old.0.now }
+        requires { BeginsWith (Alone IsLongString) self.old.0.now }
         ensures { Reads (Alone IsLongString) Equal result.now self.old.0.now self.new.0.now }
     {
         self.checked_eat_u32_str().unwrap()

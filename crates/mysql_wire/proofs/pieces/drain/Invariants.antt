@@ -1,11 +1,11 @@
 use Rattle.std.proofs.Common.{◌≡◌, ℕ, List, length}
-use Rattle.mysql_wire.specs.Standing.{Stands, limit_of}
+use Rattle.mysql_wire.specs.Standing.{HasRead, limit_of}
 use Rattle.mysql_wire.specs.Pieces.{lists}
 use Rattle.mysql_wire.proofs.pieces.drain.Given as goal
 
 abbrev pub invariant-loop-is_whole : goal.invariant-loop-is_whole
 invariant-loop-is_whole l = record {
-  stands : (k : ℕ) (s : List ℕ) → Stands l.fn.codec k s (lists l.fn.packets.items) l.fn.packet.items l.fn.src.items → Stands l.codec k s (lists l.packets.items) l.packet.items l.src.items;
+  stands : (k : ℕ) (s : List ℕ) → HasRead l.fn.codec k s (lists l.fn.packets.items) l.fn.packet.items l.fn.src.items → HasRead l.codec k s (lists l.packets.items) l.packet.items l.src.items;
   limit : limit_of l.codec ≡ limit_of l.fn.codec;
 }
 

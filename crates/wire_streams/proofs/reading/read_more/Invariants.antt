@@ -2,6 +2,6 @@ use Rattle.wire_streams.proofs.TransferLemmas.{GathersSome}
 use Rattle.wire_streams.proofs.reading.read_more.Given as goal
 
 -- what was taken so far, of the bytes that are not left to take
-abbrev pub invariant-turns : goal.invariant-turns
-invariant-turns g l =
+abbrev pub invariant-reads : goal.invariant-reads
+invariant-reads g l =
     GathersSome (g.R.Read.remaining l.initial.reader) (g.R.Read.remaining l.reader) l.n l.left l.initial.out.items l.out.items

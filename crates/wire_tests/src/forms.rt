@@ -2,44 +2,31 @@
 
 ghost use Rattle.std.specs.Prelude.{[], ◌∷◌};
 
-use crate::{
-    BareU8Bytes, BareU16Bytes, BytesRepr, Const, ConstBytes, ConstBytesValue, ConstU8, ConstU32,
-    Either, EofBytes, FixedLengthText, NullBytes, RawBytes, RawConst, RawFlags, Skip, U8Bytes,
-    U32Bytes, laws,
+use crate::helpers::{parsed, size_agrees, written};
+use mysql_wire::{
+    BareU8Bytes, BareU16Bytes, BytesRepr, ColumnFlags, ColumnType, Const, ConstBytes,
+    ConstBytesValue, ConstU8, ConstU32, Either, EofBytes, FixedLengthText, GeometryType,
+    ItemResult, LeU16, LenEnc, MySerialize, NullBytes, ParseBuf, RawBytes, RawConst, RawFlags,
+    RawInt, Skip, U8Bytes, U32Bytes, VarLen, WireFault, WireSize, laws,
 };
 use std::alloc::Global;
 use std::borrow::CowSlice;
 use std::test::Fail;
-use wire_buf::{MyDeserialize, MySerialize, ParseBuf, WireFault, WireSize};
-use wire_consts::{ColumnFlags, ColumnType, GeometryType, ItemResult};
-use wire_ints::{LeU16, LenEnc, RawInt, VarLen};
 
 /// The bytes that the representation writes for the text.
-fn written<T: BytesRepr>(alloc: Global, text: &[u8]) -> Result<Vec<u8>, WireFault> {
-    let mut out = Vec::new(alloc);
-    RawBytes::<T>::new(CowSlice::Borrowed(text)).serialize(&mut out)?;
-    Ok(out)
-}
-
-/// The value at the front of the bytes, and how many bytes are left.
-fn parsed<'a, V: MyDeserialize<'a, Ctx = ()> + Drop>(
-    alloc: Global,
-    bytes: &'a [u8],
-) -> Result<(V, usize), V::Fault> {
-    let mut buf = ParseBuf(bytes);
-    let value = buf.parse::<V>(alloc, ())?;
-    Ok((value, buf.len()))
+fn text_written<T: BytesRepr>(alloc: Global, text: &[u8]) -> Result<Vec<u8>, WireFault> {
+    written(alloc, &RawBytes::<T>::new(CowSlice::Borrowed(text)))
 }
 
 #[test]
 fn fixed_length_text(rt: HostRuntime) -> Result<(), Fail> {
     let alloc = rt.alloc();
     assert_eq!(rt;
-        written::<FixedLengthText<4>>(alloc, b"ab")?.as_slice(),
+        text_written::<FixedLengthText<4>>(alloc, b"ab")?.as_slice(),
         b"ab\x00\x00".as_slice()
     );
     assert_eq!(rt;
-        written::<FixedLengthText<4>>(alloc, b"abcde")?.as_slice(),
+        text_written::<FixedLengthText<4>>(alloc, b"abcde")?.as_slice(),
         b"abcd".as_slice()
     );
     let (text, left) = parsed::<RawBytes<'_, FixedLengthText<4>>>(alloc, b"ab\x00\x00c")?;
@@ -56,7 +43,7 @@ fn fixed_length_text(rt: HostRuntime) -> Result<(), Fail> {
 fn counted_texts(rt: HostRuntime) -> Result<(), Fail> {
     let alloc = rt.alloc();
     assert_eq!(rt;
-        written::<U8Bytes>(alloc, b"abc")?.as_slice(),
+        text_written::<U8Bytes>(alloc, b"abc")?.as_slice(),
         b"\x03abc".as_slice()
     );
     assert_eq!(rt;
@@ -70,7 +57,7 @@ fn counted_texts(rt: HostRuntime) -> Result<(), Fail> {
         Some(WireFault::Eof)
     );
     assert_eq!(rt;
-        written::<U32Bytes>(alloc, b"ab")?.as_slice(),
+        text_written::<U32Bytes>(alloc, b"ab")?.as_slice(),
         b"\x02\x00\x00\x00ab".as_slice()
     );
     assert_eq!(rt;
@@ -86,7 +73,7 @@ fn counted_texts(rt: HostRuntime) -> Result<(), Fail> {
 fn length_encoded_texts(rt: HostRuntime) -> Result<(), Fail> {
     let alloc = rt.alloc();
     assert_eq!(rt;
-        written::<LenEnc>(alloc, b"ab")?.as_slice(),
+        text_written::<LenEnc>(alloc, b"ab")?.as_slice(),
         b"\x02ab".as_slice()
     );
     assert_eq!(rt;
@@ -115,12 +102,12 @@ fn long_texts(rt: HostRuntime) -> Result<(), Fail> {
     let alloc = rt.alloc();
     let mut long = Vec::new(alloc);
     long.resize(300, b'x')?;
-    assert_eq!(rt; written::<BareU8Bytes>(alloc, &long)?.len(), 255);
-    assert_eq!(rt; written::<BareU16Bytes>(alloc, &long)?.len(), 300);
-    let short = written::<U8Bytes>(alloc, &long)?;
+    assert_eq!(rt; text_written::<BareU8Bytes>(alloc, &long)?.len(), 255);
+    assert_eq!(rt; text_written::<BareU16Bytes>(alloc, &long)?.len(), 300);
+    let short = text_written::<U8Bytes>(alloc, &long)?;
     assert_eq!(rt; short.len(), 256);
     assert_eq!(rt; short[0], 255);
-    let spelled = written::<VarLen>(alloc, &long)?;
+    let spelled = text_written::<VarLen>(alloc, &long)?;
     assert_eq!(rt; spelled.len(), 302);
     assert_eq!(rt; &spelled[..3], b"\xac\x02x".as_slice());
     assert!(rt;
@@ -143,7 +130,7 @@ fn long_texts(rt: HostRuntime) -> Result<(), Fail> {
 fn texts_without_a_count(rt: HostRuntime) -> Result<(), Fail> {
     let alloc = rt.alloc();
     assert_eq!(rt;
-        written::<NullBytes>(alloc, b"ab\x00c")?.as_slice(),
+        text_written::<NullBytes>(alloc, b"ab\x00c")?.as_slice(),
         b"ab\x00".as_slice()
     );
     let (text, left) = parsed::<RawBytes<'_, NullBytes>>(alloc, b"ab\x00c")?;
@@ -154,7 +141,7 @@ fn texts_without_a_count(rt: HostRuntime) -> Result<(), Fail> {
         Some(WireFault::Eof)
     );
     assert_eq!(rt;
-        written::<EofBytes>(alloc, b"ab")?.as_slice(),
+        text_written::<EofBytes>(alloc, b"ab")?.as_slice(),
         b"ab".as_slice()
     );
     let (text, left) = parsed::<RawBytes<'_, EofBytes>>(alloc, b"abc")?;
@@ -321,31 +308,26 @@ fn one_of_two_forms(rt: HostRuntime) -> Result<(), Fail> {
 }
 
 /// Whether the constant of a representation is the one that proofs see.
-fn bytes_size_agrees<T: BytesRepr>() -> bool {
-    T::SIZE == <T::Size as WireSize>::SIZE && field_size_agrees::<RawBytes<'_, T>>()
-}
-
-/// Whether the constant of a field is the one that proofs see.
-fn field_size_agrees<'de, T: MyDeserialize<'de>>() -> bool {
-    T::SIZE == <T::Size as WireSize>::SIZE
+fn text_size_agrees<T: BytesRepr>() -> bool {
+    T::SIZE == <T::Size as WireSize>::SIZE && size_agrees::<RawBytes<'_, T>>()
 }
 
 #[test]
 fn sizes_of_forms(rt: HostRuntime) {
-    assert!(rt; bytes_size_agrees::<LenEnc>());
-    assert!(rt; bytes_size_agrees::<VarLen>());
-    assert!(rt; bytes_size_agrees::<U8Bytes>());
-    assert!(rt; bytes_size_agrees::<U32Bytes>());
-    assert!(rt; bytes_size_agrees::<NullBytes>());
-    assert!(rt; bytes_size_agrees::<EofBytes>());
-    assert!(rt; bytes_size_agrees::<BareU8Bytes>());
-    assert!(rt; bytes_size_agrees::<FixedLengthText<4>>());
+    assert!(rt; text_size_agrees::<LenEnc>());
+    assert!(rt; text_size_agrees::<VarLen>());
+    assert!(rt; text_size_agrees::<U8Bytes>());
+    assert!(rt; text_size_agrees::<U32Bytes>());
+    assert!(rt; text_size_agrees::<NullBytes>());
+    assert!(rt; text_size_agrees::<EofBytes>());
+    assert!(rt; text_size_agrees::<BareU8Bytes>());
+    assert!(rt; text_size_agrees::<FixedLengthText<4>>());
     assert_eq!(rt; <FixedLengthText<4> as BytesRepr>::SIZE, Some(4));
-    assert!(rt; field_size_agrees::<Const<ColumnType, u8>>());
-    assert!(rt; field_size_agrees::<RawConst<LeU16, ColumnType>>());
-    assert!(rt; field_size_agrees::<RawFlags<ColumnFlags, LeU16>>());
-    assert!(rt; field_size_agrees::<ConstBytes<Magic, 4>>());
-    assert!(rt; field_size_agrees::<ConstU8<Magic, 7>>());
-    assert!(rt; field_size_agrees::<ConstU32<Magic, 7>>());
-    assert!(rt; field_size_agrees::<Skip<3>>());
+    assert!(rt; size_agrees::<Const<ColumnType, u8>>());
+    assert!(rt; size_agrees::<RawConst<LeU16, ColumnType>>());
+    assert!(rt; size_agrees::<RawFlags<ColumnFlags, LeU16>>());
+    assert!(rt; size_agrees::<ConstBytes<Magic, 4>>());
+    assert!(rt; size_agrees::<ConstU8<Magic, 7>>());
+    assert!(rt; size_agrees::<ConstU32<Magic, 7>>());
+    assert!(rt; size_agrees::<Skip<3>>());
 }

@@ -3,16 +3,16 @@
 ghost use Rattle.std.specs.Prelude.{◌≡◌, ◌+◌, ◌<◌, ◌≤◌, IsErr, OnOk, OnErr, true, false, length};
 ghost use Rattle.std.specs.Io.KnownBytes.{ReadConsumes, WriteAppends};
 ghost use Rattle.std.specs.Io.{ReadsAtMost, WritesAtMost};
-ghost use Rattle.mysql_wire.specs.Watched.{inner_of, turns_of, has_failed, IsTaken};
+ghost use Rattle.wire_streams.specs.Watched.{inner_of, reads_of, has_failed, IsTaken};
 
+use crate::reading::MAX_READS;
 use std::io::{self, ErrorKind, Read, Write};
-use wire_streams::MAX_TURNS;
 
 /// A reader or a writer that is watched: it counts its reads and keeps whether one of its calls failed.
 #[derive(Drop)]
 pub struct Watched<T> {
     inner: T,
-    turns: u64,
+    reads: u64,
     failed: bool,
 }
 
@@ -20,12 +20,12 @@ impl<T> Watched<T> {
     /// Watches a reader or a writer, which hasn't failed yet.
     pub fn new(inner: T) -> Watched<T>
         ensures inner { inner_of result ≡ inner }
-        ensures turns { turns_of result ≡ 0 }
+        ensures reads { reads_of result ≡ 0 }
         ensures failed { has_failed result ≡ false }
     {
         Watched {
             inner,
-            turns: 0,
+            reads: 0,
             failed: false,
         }
     }
@@ -43,7 +43,7 @@ impl<T> Watched<T> {
     {
         let Watched {
             inner,
-            turns: _,
+            reads: _,
             failed: _,
         } = self;
         inner
@@ -56,17 +56,17 @@ impl<R: Read> Watched<R> {
     pub fn pull(&mut self, buf: &mut [u8]) -> io::Result<usize>
         ensures bound { ReadsAtMost result buf.new }
         ensures bytes { ReadConsumes (R.remaining (inner_of self.old)) (R.remaining (inner_of self.new)) result buf.new }
-        ensures counted { turns_of self.old < MAX_TURNS → turns_of self.new ≡ turns_of self.old + 1 }
-        ensures limited { OnOk result (turns_of self.old < MAX_TURNS) }
-        ensures spent { MAX_TURNS ≤ turns_of self.old → (inner_of self.new ≡ inner_of self.old) × (turns_of self.new ≡ turns_of self.old) }
+        ensures counted { reads_of self.old < MAX_READS → reads_of self.new ≡ reads_of self.old + 1 }
+        ensures limited { OnOk result (reads_of self.old < MAX_READS) }
+        ensures spent { MAX_READS ≤ reads_of self.old → (inner_of self.new ≡ inner_of self.old) × (reads_of self.new ≡ reads_of self.old) }
         ensures err { OnErr result (has_failed self.new ≡ true) }
         ensures ok { OnOk result (has_failed self.new ≡ has_failed self.old) }
     {
-        if self.turns >= MAX_TURNS {
+        if self.reads >= MAX_READS {
             self.failed = true;
             return Err(io::Error::from(ErrorKind::Other));
         }
-        self.turns += 1;
+        self.reads += 1;
         let outcome = self.inner.read(buf);
         if outcome.is_err() {
             self.failed = true;
@@ -81,7 +81,7 @@ impl<W: Write> Watched<W> {
         ensures bound { WritesAtMost result bytes.now }
         ensures bytes { WriteAppends (W.contents (inner_of self.old)) (W.contents (inner_of self.new)) result bytes.now }
         ensures some { IsTaken result bytes.now }
-        ensures turns { turns_of self.new ≡ turns_of self.old }
+        ensures reads { reads_of self.new ≡ reads_of self.old }
         ensures err { OnErr result (has_failed self.new ≡ true) }
         ensures ok { OnOk result (has_failed self.new ≡ has_failed self.old) }
     {

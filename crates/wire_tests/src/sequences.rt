@@ -1,16 +1,14 @@
 //! Sequences read and written at concrete types, beside what the contracts say of them.
 
-use crate::{RawSeq, Seq, SeqRepr, Unknown};
+use crate::helpers::{size_agrees, written};
+use mysql_wire::{
+    BeU16, BeU24, BeU32, BeU40, BeU48, BeU56, BeU64, BeU128, ColumnType, LeU16, LeU24, LeU32,
+    LeU40, LeU48, LeU56, LeU64, LeU128, MySerialize, ParseBuf, RawBytes, RawInt, RawSeq, Seq,
+    SeqRepr, U8Bytes, Unknown, WireFault,
+};
 use std::alloc::Global;
 use std::borrow::CowSlice;
 use std::test::Fail;
-use wire_buf::{MyDeserialize, MySerialize, ParseBuf, WireFault, WireSize};
-use wire_consts::ColumnType;
-use wire_forms::{RawBytes, U8Bytes};
-use wire_ints::{
-    BeU16, BeU24, BeU32, BeU40, BeU48, BeU56, BeU64, BeU128, LeU16, LeU24, LeU32, LeU40, LeU48,
-    LeU56, LeU64, LeU128, RawInt,
-};
 
 type Numbers<'a, U> = Seq<'a, RawInt<LeU16>, U>;
 
@@ -19,9 +17,10 @@ fn two_numbers<U: SeqRepr>(alloc: Global) -> Result<Vec<u8>, WireFault> {
     let mut items = Vec::new(alloc);
     items.push(RawInt::<LeU16>::new(1))?;
     items.push(RawInt::<LeU16>::new(0x0302))?;
-    let mut out = Vec::new(alloc);
-    Seq::<'_, RawInt<LeU16>, U>::new(CowSlice::Owned(items)).serialize(&mut out)?;
-    Ok(out)
+    written(
+        alloc,
+        &Seq::<'_, RawInt<LeU16>, U>::new(CowSlice::Owned(items)),
+    )
 }
 
 /// How many numbers the bytes hold behind a count in the form `U`.
@@ -173,11 +172,6 @@ fn numbers_for_constants(rt: HostRuntime) -> Result<(), Fail> {
     RawSeq::<'_, LeU16, ColumnType>::new(CowSlice::Borrowed(&numbers)).serialize(&mut out)?;
     assert_eq!(rt; out.as_slice(), b"\x01\x02".as_slice());
     Ok(())
-}
-
-/// Whether the constant of a field is the one that proofs see.
-fn size_agrees<'de, T: MyDeserialize<'de>>() -> bool {
-    T::SIZE == <T::Size as WireSize>::SIZE
 }
 
 #[test]

@@ -1,21 +1,17 @@
 //! Bytes taken from a buffer, beside what the contracts say of them.
 
-use crate::{AnySize, Bytes, MyDeserialize, MySerialize, ParseBuf, WireFault, WireSize};
+use crate::helpers::size_agrees;
+use mysql_wire::{AnySize, FixedSize, MySerialize, ParseBuf, WireFault, WireSize};
 use std::io::Read;
 use std::test::Fail;
 
-/// Whether the constant of a type's impl is the one that proofs see.
-fn sizes_agree<'de, T: MyDeserialize<'de>>() -> bool {
-    T::SIZE == <T::Size as WireSize>::SIZE
-}
-
 #[test]
 fn sizes_of_fields(rt: HostRuntime) {
-    assert_eq!(rt; <Bytes<3> as WireSize>::SIZE, Some(3));
+    assert_eq!(rt; <FixedSize<3> as WireSize>::SIZE, Some(3));
     assert_eq!(rt; <AnySize as WireSize>::SIZE, None);
-    assert!(rt; sizes_agree::<&[u8]>());
-    assert!(rt; sizes_agree::<ParseBuf<'_>>());
-    assert!(rt; sizes_agree::<[u8; 4]>());
+    assert!(rt; size_agrees::<&[u8]>());
+    assert!(rt; size_agrees::<ParseBuf<'_>>());
+    assert!(rt; size_agrees::<[u8; 4]>());
 }
 
 #[test]

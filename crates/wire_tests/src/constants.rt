@@ -1,5 +1,12 @@
-use super::*;
+//! The constants of the protocol, and the texts of their refusals.
+
 use bitflags::Flags;
+use mysql_wire::{
+    ColumnFlags, ColumnType, Command, DEFAULT_MAX_ALLOWED_PACKET, Flags2, GeometryType, ItemResult,
+    MAX_PAYLOAD_LEN, SqlMode, UTF8_GENERAL_CI, UTF8MB4_GENERAL_CI, UnknownColumnType,
+    UnknownFlags2, UnknownGeometryType, UnknownItemResultType,
+};
+use std::test::Fail;
 
 // Each number from 0 to 255 that is a column type turns back into itself, and the others are refused with it.
 #[test]
@@ -111,7 +118,7 @@ fn named_numbers(rt: HostRuntime) {
 
 // The texts of the refusals.
 #[test]
-fn refusals_as_text(rt: HostRuntime) -> Result<(), std::test::Fail> {
+fn refusals_as_text(rt: HostRuntime) -> Result<(), Fail> {
     let alloc = rt.alloc();
     let texts = [
         (

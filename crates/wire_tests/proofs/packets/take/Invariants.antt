@@ -1,5 +1,5 @@
 use Rattle.std.proofs.Common.{length}
-use Rattle.mysql_wire.proofs.tests.take.Given as goal
+use Rattle.wire_tests.proofs.packets.take.Given as goal
 
 abbrev pub invariant-loop-packets : goal.invariant-loop-packets
 invariant-loop-packets l = Unit {0}

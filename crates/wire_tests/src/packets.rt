@@ -1,11 +1,12 @@
-use crate::{
-    ChunkDecoder, ChunkInfo, DEFAULT_MAX_ALLOWED_PACKET, EofBytes, LeU24, LenEnc, MySerialize,
-    PacketCodec, PacketCodecError, ParseBuf, RawBytes, RawInt, Skip, U8Bytes, Watched, WireFault,
-    decode_pieces, laws, packet_to_chunks, split_version,
-};
+//! Packets and chunks, and the examples of the documentation.
+
 use bytes::BytesMut;
+use mysql_wire::{
+    ChunkDecoder, ChunkInfo, DEFAULT_MAX_ALLOWED_PACKET, EofBytes, LeU24, LenEnc, MAX_PAYLOAD_LEN,
+    MySerialize, PacketCodec, PacketCodecError, ParseBuf, RawBytes, RawInt, Skip, U8Bytes,
+    WireFault, decode_pieces, packet_to_chunks, split_version,
+};
 use std::alloc::Global;
-use std::io::{Error, ErrorKind, Read, Result as IoResult, Write};
 use std::test::Fail;
 
 #[test]
@@ -171,76 +172,8 @@ fn packets_taken(rt: HostRuntime) -> Result<(), Fail> {
 }
 
 #[test]
-fn watched_reader_and_writer(rt: HostRuntime) -> Result<(), Fail> {
-    let bytes: [u8; 3] = [1, 2, 3];
-    let mut reader = Watched::new(bytes.as_slice());
-    let mut taken = [0; 2];
-    assert_eq!(rt; reader.pull(&mut taken)?, 2);
-    assert_eq!(rt; taken, [1, 2]);
-    assert!(rt; !reader.failed());
-    assert_eq!(rt; reader.into_inner(), [3].as_slice());
-
-    let mut writer = Watched::new(Vec::new(rt.alloc()));
-    assert_eq!(rt; writer.push(&taken)?, 2);
-    assert!(rt; !writer.failed());
-    assert_eq!(rt; writer.into_inner().as_slice(), [1, 2].as_slice());
-
-    let mut room = [0; 1];
-    let mut full = Watched::new(room.as_mut_slice());
-    assert_eq!(rt; full.push(&taken)?, 1);
-    assert!(rt; full.push(&taken[1..]).is_err());
-    assert!(rt; full.failed());
-    Ok(())
-}
-
-#[test]
 fn server_version_split(rt: HostRuntime) {
     assert_eq!(rt; split_version(b"8.0.32-log"), (8, 0, 32));
     assert_eq!(rt; split_version(b"8.256.1"), (0, 0, 0));
     assert_eq!(rt; split_version(b"5.7"), (0, 0, 0));
-}
-
-/// A device that always fails.
-#[derive(Drop)]
-struct Broken;
-
-impl Read for Broken {
-    fn read(&mut self, _buf: &mut [u8]) -> IoResult<usize> {
-        Err(Error::from(ErrorKind::Other))
-    }
-}
-
-impl Write for Broken {
-    fn write(&mut self, _buf: &[u8]) -> IoResult<usize> {
-        Err(Error::from(ErrorKind::Other))
-    }
-
-    fn flush(&mut self) -> IoResult<()> {
-        Ok(())
-    }
-}
-
-#[test]
-fn failing_reader_and_writer(rt: HostRuntime) {
-    let mut reader = Watched::new(Broken);
-    let mut taken = [0; 2];
-    assert!(rt; reader.pull(&mut taken).is_err());
-    assert!(rt; reader.failed());
-    let mut writer = Watched::new(Broken);
-    assert!(rt; writer.push(&[1]).is_err());
-    assert!(rt; writer.failed());
-}
-
-/// The laws are calls too, which do nothing.
-#[test]
-fn laws_hold() {
-    laws::framings_are_uniquely_read();
-    laws::packets_are_a_front();
-    laws::packets_are_longest();
-    laws::packets_end();
-    laws::framings_are_read_back();
-    laws::versions_are_their_numbers();
-    laws::worked_framings();
-    laws::worked_versions();
-    laws::worked_numbers();
 }
