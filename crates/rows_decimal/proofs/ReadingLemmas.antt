@@ -3,7 +3,7 @@ use Rattle.std.proofs.Common.{◌≡◌, inl, inr, ℕ, List, [], ◌∷◌, len
 use Rattle.std.proofs.lemmas.Result.{err_from_is_err_and, IfErr-weaker}
 use Rattle.std.specs.Io.KnownBytes.{Consumes}
 use Rattle.wire_buf.specs.declared.fault.WireFault.{WireFault}
-use Rattle.wire_streams.specs.Transfers.{Gathers, FallsShort, FallsShortOrLacksMemory}
+use Rattle.wire_streams.specs.Transfers.{Gathers, FallsShort, GathersFront}
 use Rattle.rows_values.specs.declared.fault.RowsError.{RowsError}
 use Rattle.rows_values.specs.Faults.{rows_error}
 use Rattle.rows_decimal.specs.declared.fields.Decimal.{Decimal}
@@ -41,17 +41,17 @@ read_err precision scale before bytes old new r at_most none g h =
     })) h
 
 pub read_cut : (precision scale : ℕ) (fault : WireFault) (before after : List ℕ) (old new : Option (List ℕ)) → scale ≤ precision
-    → FallsShortOrLacksMemory fault (packed_size (precision - scale) scale) old new before after → FailsDecimal precision scale (rows_error fault) old new
+    → GathersFront fault (packed_size (precision - scale) scale) old new before after → FailsDecimal precision scale (rows_error fault) old new
 read_cut precision scale fault before after old new at_most cut = ordered at_most (record {
   taken = cut.taken;
   consumed = cut.consumed;
   within = cut.within;
   cause = elim cut.cause [
-    | inl q ↦ subst (λ (f : WireFault). IsDecimalCause (precision - scale) scale (rows_error f) cut.taken new) (sym q.0) (q.2, q.1)
-    | inr q ↦ elim q [
-      | inl r ↦ subst (λ (f : WireFault). IsDecimalCause (precision - scale) scale (rows_error f) cut.taken new) (sym r) tt
-      | inr m ↦ subst (λ (f : WireFault). IsDecimalCause (precision - scale) scale (rows_error f) cut.taken new) (sym m) tt
+    | inl q ↦ elim q [
+      | inl r ↦ subst (λ (f : WireFault). IsDecimalCause (precision - scale) scale (rows_error f) cut.taken new) (sym r.0) (r.2, r.1)
+      | inr r ↦ subst (λ (f : WireFault). IsDecimalCause (precision - scale) scale (rows_error f) cut.taken new) (sym r) tt
     ]
+    | inr m ↦ subst (λ (f : WireFault). IsDecimalCause (precision - scale) scale (rows_error f) cut.taken new) (sym m) tt
   ];
 })
 

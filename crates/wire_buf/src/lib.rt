@@ -11,7 +11,9 @@ mod bytes;
 mod fault;
 mod parse_buf;
 mod traits;
+mod undo;
 
 pub use fault::WireFault;
 pub use parse_buf::ParseBuf;
 pub use traits::{AnySize, FixedSize, MyDeserialize, MySerialize, WireSize};
+pub use undo::whole_or_none;

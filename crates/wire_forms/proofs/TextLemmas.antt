@@ -119,12 +119,6 @@ counted_writes n t old new w =
       least = λ ctx other rest h are. w.least.least other h are;
     })
 
--- what a writer wrote is still there after its answer was looked at
-pub still_written : {E : Type 0} (P : List ℕ → Type 0) (Q : Type 0) (r w : Result (Unit {0}) E) (mid new : List ℕ) → r ≡ w → OnOk w (P mid)
-    → OnOk r (new ≡ mid) → (P new → Q) → OnOk r Q
-still_written P Q (Ok u) w mid new e h same last = last (subst P (sym same) (subst (λ v. OnOk v (P mid)) (sym e) h))
-still_written P Q (Err f) w mid new e h same last = tt
-
 module _ (counts : ℕ → List ℕ → Type 0) (fault_at : List ℕ → WireFault) where
   -- the fault of a length that isn't there
   pub count_refused : {T : Type 0} (x : List ℕ) (r : Result T WireFault) (e : WireFault) → IsErr r × IsErrAnd r (λ y. y ≡ e)

@@ -1,6 +1,6 @@
 //! Strings behind a count of their bytes.
 
-ghost use Rattle.std.specs.Prelude.{◌≡◌, take, OnOk, OnErr};
+ghost use Rattle.std.specs.Prelude.{◌≡◌, take};
 ghost use Rattle.wire_buf.specs.Spelling.{Alone};
 ghost use Rattle.wire_buf.specs.Numbers.{IsCounted, IsLenenc, IsLenencString, IsShortString, IsLongString};
 ghost use Rattle.wire_ints.specs.Strings.{lenenc_string_spelling, counted_bytes};
@@ -11,7 +11,7 @@ ghost use Rattle.wire_forms.specs.Texts.{varlen_string_spelling, CountedRefusal}
 use crate::bytes_repr::BytesRepr;
 use std::alloc::Allocator;
 use std::borrow::CowSlice;
-use wire_buf::{AnySize, ParseBuf, WireFault};
+use wire_buf::{AnySize, ParseBuf, WireFault, whole_or_none};
 use wire_ints::{BufMutExt, IntRepr, LenEnc, VarLen};
 
 /// A string behind its length in one byte. Of a longer one the first 255 bytes are written.
@@ -40,9 +40,7 @@ impl BytesRepr for U8Bytes {
     }
 
     fn serialize<A: Allocator>(text: &[u8], buf: &mut Vec<u8, A>) -> Result<(), WireFault> {
-        let start = buf.len();
-        let written = buf.put_u8_str(text);
-        whole_or_none(written, start, buf)
+        buf.put_u8_str(text)
     }
 
     ghost sized = { λ ctx v bytes rest h. tt };
@@ -67,9 +65,7 @@ impl BytesRepr for U32Bytes {
     }
 
     fn serialize<A: Allocator>(text: &[u8], buf: &mut Vec<u8, A>) -> Result<(), WireFault> {
-        let start = buf.len();
-        let written = buf.put_u32_str(text);
-        whole_or_none(written, start, buf)
+        buf.put_u32_str(text)
     }
 
     ghost sized = { λ ctx v bytes rest h. tt };
@@ -98,9 +94,7 @@ impl BytesRepr for LenEnc {
     }
 
     fn serialize<A: Allocator>(text: &[u8], buf: &mut Vec<u8, A>) -> Result<(), WireFault> {
-        let start = buf.len();
-        let written = buf.put_lenenc_str(text);
-        whole_or_none(written, start, buf)
+        buf.put_lenenc_str(text)
     }
 
     ghost sized = { λ ctx v bytes rest h. tt };
@@ -132,31 +126,13 @@ impl BytesRepr for VarLen {
     }
 
     fn serialize<A: Allocator>(text: &[u8], buf: &mut Vec<u8, A>) -> Result<(), WireFault> {
-        let start = buf.len();
         let text = &text[..text.len().min(0xffff_ffff)];
+        buf.reserve(5 + text.len())?;
+        let start = buf.len();
         <VarLen as IntRepr>::serialize(text.len() as u32, buf)?;
-        let Ok(()) = buf.extend_from_slice(text) else {
-            buf.truncate(start);
-            return Err(WireFault::Memory);
-        };
-        Ok(())
+        let written = buf.extend_from_slice(text).map_err(WireFault::from);
+        whole_or_none(written, start, buf)
     }
 
     ghost sized = { λ ctx v bytes rest h. tt };
-}
-
-/// The answer of a writer. Where it is a refusal, what was written past `start` is taken back.
-fn whole_or_none<A: Allocator>(
-    written: Result<(), WireFault>,
-    start: usize,
-    buf: &mut Vec<u8, A>,
-) -> Result<(), WireFault>
-    ensures answer { result ≡ written }
-    ensures ok { OnOk result (buf.new.items ≡ buf.old.items) }
-    ensures err { OnErr result (buf.new.items ≡ take start buf.old.items) }
-{
-    if written.is_err() {
-        buf.truncate(start);
-    }
-    written
 }

@@ -55,12 +55,10 @@ impl BytesRepr for NullBytes {
     }
 
     fn serialize<A: Allocator>(text: &[u8], buf: &mut Vec<u8, A>) -> Result<(), WireFault> {
-        let start = buf.len();
-        buf.extend_from_slice(before_first_zero(text))?;
-        let Ok(()) = buf.push(0) else {
-            buf.truncate(start);
-            return Err(WireFault::Memory);
-        };
+        let text = before_first_zero(text);
+        buf.reserve(text.len() + 1)?;
+        buf.extend_from_slice(text)?;
+        buf.push(0)?;
         Ok(())
     }
 
@@ -137,12 +135,10 @@ impl<const LEN: usize> BytesRepr for FixedLengthText<LEN> {
     }
 
     fn serialize<A: Allocator>(text: &[u8], buf: &mut Vec<u8, A>) -> Result<(), WireFault> {
-        let start = buf.len();
+        buf.reserve(LEN)?;
+        let end = buf.len() + LEN;
         buf.extend_from_slice(&text[..text.len().min(LEN)])?;
-        if let Err(fault) = append_zeros(LEN.saturating_sub(text.len()), buf) {
-            buf.truncate(start);
-            return Err(fault);
-        }
+        buf.resize(end, 0)?;
         Ok(())
     }
 

@@ -14,7 +14,7 @@ use Rattle.wire_buf.specs.Fronts.{lenenc_front, number_front}
 use Rattle.wire_buf.proofs.LenencLemmas.{lenenc_front-complete, lenenc_lacks}
 use Rattle.wire_buf.proofs.StringLemmas.{Lacks-count, Lacks-counted, Reads-counted}
 use Rattle.wire_ints.specs.Streams.{ReadsFrom, LacksIn, FailsFrom, IsCause, LacksMemory}
-use Rattle.wire_streams.specs.Transfers.{FallsShort, FallsShortOrLacksMemory, Gathers}
+use Rattle.wire_streams.specs.Transfers.{FallsShort, GathersFront, Gathers}
 use Rattle.wire_ints.proofs.StreamLemmas.{ReadsFrom-taken, lacks_taken, lacks_ended}
 
 -- a buffer of one byte
@@ -146,14 +146,14 @@ reads_string n text (Some x) (Some y) (Some z) r g =
     Reads-counted IsLenenc n x y text z r enough front back
 
 -- a string that is cut off behind its length
-pub fails_cut : (n : ℕ) (fault : WireFault) (old mid new : Option (List ℕ)) (before after : List ℕ) → ReadsFrom (Alone IsLenenc) Equal n old mid → FallsShortOrLacksMemory fault n mid new before after
+pub fails_cut : (n : ℕ) (fault : WireFault) (old mid new : Option (List ℕ)) (before after : List ℕ) → ReadsFrom (Alone IsLenenc) Equal n old mid → GathersFront fault n mid new before after
     → FailsFrom (Alone IsLenencString) fault old new ⊎ LacksMemory fault old new
 fails_cut n fault None mid new before after r cut = elim cut.cause [
-  | inl p ↦ inl (record { taken = []; consumed = tt; cause = subst (λ (f : WireFault). IsCause (Alone IsLenencString) f [] None new) (sym p.0) (tt, p.1) })
-  | inr q ↦ elim q [
-    | inl p ↦ inl (record { taken = []; consumed = tt; cause = subst (λ (f : WireFault). IsCause (Alone IsLenencString) f [] None new) (sym p) tt })
-    | inr p ↦ inr (record { is = p; taken = []; consumed = tt })
+  | inl q ↦ elim q [
+    | inl p ↦ inl (record { taken = []; consumed = tt; cause = subst (λ (f : WireFault). IsCause (Alone IsLenencString) f [] None new) (sym p.0) (tt, p.1) })
+    | inr p ↦ inl (record { taken = []; consumed = tt; cause = subst (λ (f : WireFault). IsCause (Alone IsLenencString) f [] None new) (sym p) tt })
   ]
+  | inr p ↦ inr (record { is = p; taken = []; consumed = tt })
 ]
 fails_cut n fault (Some x) None new before after r cut = absurd r
 fails_cut n fault (Some x) (Some y) None before after r cut = absurd cut.consumed
@@ -161,12 +161,12 @@ fails_cut n fault (Some x) (Some y) (Some z) before after r cut =
     let gone : List ℕ = r.begins.bytes ++ cut.taken in
     let lost : Consumes (Some x) (Some z) gone = r.begins.joined ∙ ap (λ l. r.begins.bytes ++ l) cut.consumed ∙ sym (append_assoc r.begins.bytes cut.taken z) in
     elim cut.cause [
-      | inl p ↦
-          let few = p.2 in
-          let short : length y < n = omega (arith, ap length cut.consumed, length-append cut.taken z, ap length p.1, few) in
-          inl (record { taken = gone; consumed = lost; cause = subst (λ (f : WireFault). IsCause (Alone IsLenencString) f gone (Some x) (Some z)) (sym p.0) (Lacks-counted IsLenenc n x y r short, p.1) })
-      | inr q ↦ elim q [
-        | inl p ↦ inl (record { taken = gone; consumed = lost; cause = subst (λ (f : WireFault). IsCause (Alone IsLenencString) f gone (Some x) (Some z)) (sym p) tt })
-        | inr p ↦ inr (record { is = p; taken = gone; consumed = lost })
+      | inl q ↦ elim q [
+        | inl p ↦
+            let few = p.2 in
+            let short : length y < n = omega (arith, ap length cut.consumed, length-append cut.taken z, ap length p.1, few) in
+            inl (record { taken = gone; consumed = lost; cause = subst (λ (f : WireFault). IsCause (Alone IsLenencString) f gone (Some x) (Some z)) (sym p.0) (Lacks-counted IsLenenc n x y r short, p.1) })
+        | inr p ↦ inl (record { taken = gone; consumed = lost; cause = subst (λ (f : WireFault). IsCause (Alone IsLenencString) f gone (Some x) (Some z)) (sym p) tt })
       ]
+      | inr p ↦ inr (record { is = p; taken = gone; consumed = lost })
     ]

@@ -1,13 +1,15 @@
 -- Reading seven bits a byte finds the spellings.
-use Rattle.std.proofs.Common.{◌≡◌, ◌≤◌, ◌<◌, ◌+◌, ◌*◌, ◌-◌, ◌^◌, ◌++◌, inl, inr, ℕ, zero, suc, List, [], ◌∷◌, arith, refl, sym, ap, ◌∙◌, subst, Option, Some, None, option_map, false, take, length, set, append_assoc, ◌/◌, ◌%◌}
+use Rattle.std.proofs.Common.{◌≡◌, ◌≤◌, ◌<◌, ◌+◌, ◌*◌, ◌-◌, ◌^◌, ◌++◌, inl, inr, ℕ, zero, suc, List, [], ◌∷◌, arith, refl, sym, ap, ◌∙◌, subst, Option, Some, None, option_map, false, take, length, set, append_assoc, add-one, slice_index, ◌/◌, ◌%◌}
 use Rattle.std.proofs.lemmas.Bool.Decides.{leb_tells}
 use Rattle.std.proofs.lemmas.List.{take_more_set}
+use Rattle.wire_buf.specs.Eating.{Eats, IsShort}
+use Rattle.std.proofs.Math.Nat.{pow-le-pow_right, pow-succ', mul-le-mul, mul-le-mul_left, mul-add, mul_assoc, add_assoc}
 use Rattle.wire_buf.specs.Spelling.{Begins, Reads, Lacks, Alone, Equal}
 use Rattle.wire_buf.proofs.SpellingLemmas.{same_parts}
 use Rattle.std.specs.Prelude.{nat_le}
 use Rattle.std.specs.List.{list_all}
 use Rattle.wire_buf.specs.declared.fault.WireFault.TheVariants.{BadNumber}
-use Rattle.wire_buf.specs.Spelling.{AreBytes}
+use Rattle.wire_buf.specs.Spelling.{AreBytes, IsShortest}
 use Rattle.wire_buf.specs.Writing.{Writes}
 use Rattle.wire_ints.specs.Faults.{varlen_fault}
 use Rattle.wire_ints.specs.Sevens.{IsSevens, IsVarLen, last, more, sevens_front, sevens_spelling, varlen_spelling}
@@ -50,22 +52,78 @@ sevens_front-sound (suc k) v (b ∷ x) r e = elim (leb_tells (suc b) 128) [
       }
 ]
 
--- at most five bytes of seven bits
-pub sevens_fit : (n left high : ℕ) → left ≡ suc n → left ≤ 5 → high < 128 ^ n → (127 < 128 ^ left) × (127 + 128 * high < 128 ^ left) × (127 + 128 * high < 2 ^ 64)
-sevens_fit zero left high e room h = rw e (omega arith, omega (arith, h), omega (arith, h))
-sevens_fit (suc zero) left high e room h = rw e (omega arith, omega (arith, h), omega (arith, h))
-sevens_fit (suc (suc zero)) left high e room h = rw e (omega arith, omega (arith, h), omega (arith, h))
-sevens_fit (suc (suc (suc zero))) left high e room h = rw e (omega arith, omega (arith, h), omega (arith, h))
-sevens_fit (suc (suc (suc (suc zero)))) left high e room h = rw e (omega arith, omega (arith, h), omega (arith, h))
-sevens_fit (suc (suc (suc (suc (suc n))))) left high e room h = absurd (omega (arith, e, room))
+-- the bytes that are left give the number, once those before it are added
+unfoldable pub LeavesSevens : ℕ → ℕ → ℕ → List ℕ → List ℕ → Type 0
+LeavesSevens value scale left all rest = sevens_front 5 all ≡ option_map (λ p. (value + scale * p.0, p.1)) (sevens_front left rest)
 
-pub sevens_one : (n left : ℕ) → left ≡ suc n → left ≤ 5 → 127 < 128 ^ left
-sevens_one zero left e room = rw e (omega arith)
-sevens_one (suc zero) left e room = rw e (omega arith)
-sevens_one (suc (suc zero)) left e room = rw e (omega arith)
-sevens_one (suc (suc (suc zero))) left e room = rw e (omega arith)
-sevens_one (suc (suc (suc (suc zero)))) left e room = rw e (omega arith)
-sevens_one (suc (suc (suc (suc (suc n))))) left e room = absurd (omega (arith, e, room))
+option_map-same : (o : Option (ℕ × List ℕ)) → o ≡ option_map (λ p. (0 + 1 * p.0, p.1)) o
+option_map-same None = refl
+option_map-same (Some p) = let same : p.0 ≡ 0 + 1 * p.0 = omega arith in ap (λ n. Some (n, p.1)) same
+
+pub sevens_begun : (x : List ℕ) → LeavesSevens 0 1 5 x x
+unfolding LeavesSevens
+sevens_begun x = option_map-same (sevens_front 5 x)
+
+grouped : (value scale low high : ℕ) → value + scale * (low + 128 * high) ≡ (value + scale * low) + (scale * 128) * high
+grouped value scale low high = ap (λ n. value + n) (mul-add scale low (128 * high) ∙ ap (λ n. scale * low + n) (sym (mul_assoc scale 128 high))) ∙ sym (add_assoc value (scale * low) ((scale * 128) * high))
+
+option_map-twice : (value scale low : ℕ) (o : Option (ℕ × List ℕ)) → option_map {U = ℕ × List ℕ} (λ p. (value + scale * p.0, p.1)) (option_map {U = ℕ × List ℕ} (λ p. (low + 128 * p.0, p.1)) o) ≡ option_map {U = ℕ × List ℕ} (λ p. ((value + scale * low) + (scale * 128) * p.0, p.1)) o
+option_map-twice value scale low None = refl
+option_map-twice value scale low (Some p) = ap (λ n. Some (n, p.1)) (grouped value scale low p.0)
+
+-- a byte that was eaten stood first
+eaten_byte : (b : ℕ) (x y : List ℕ) → Eats (λ z. slice_index z 0) 1 b x y → x ≡ b ∷ y
+eaten_byte b [] y e = let room = e.room in absurd (omega (arith, room))
+eaten_byte b (a ∷ x) y e = ap (λ n. n ∷ x) (sym e.value_is) ∙ ap (λ l. b ∷ l) (sym e.rest)
+
+-- no byte was there
+none_eaten : (x y : List ℕ) → IsShort 1 x y → x ≡ []
+none_eaten [] y e = refl
+none_eaten (a ∷ x) y e = let missing = e.missing in absurd (omega (arith, missing))
+
+-- one more byte that says that more follow
+pub sevens_gone_on : (value scale left n a b : ℕ) (all x y : List ℕ) → LeavesSevens value scale left all x → Eats (λ z. slice_index z 0) 1 a x y → b ≡ a → left ≡ suc n → 128 ≤ b
+    → LeavesSevens (value + scale * (b - 128)) (scale * 128) n all y
+unfolding LeavesSevens sevens_front
+sevens_gone_on value scale left n a b all x y h eaten same e big = elim (leb_tells (suc b) 128) [
+  | inl t ↦ absurd (omega (arith, t.1, big))
+  | inr t ↦
+      let f = rw (e, eaten_byte a x y eaten, ← same, t.0) at h in
+      f ∙ option_map-twice value scale (b - 128) (sevens_front n y)
+]
+
+-- the last byte
+pub sevens_ended : (value scale left n a b : ℕ) (all x y : List ℕ) → LeavesSevens value scale left all x → Eats (λ z. slice_index z 0) 1 a x y → b ≡ a → left ≡ suc n → b < 128
+    → ◌≡◌ {A = Option (ℕ × List ℕ)} (Some (value + scale * b, y)) (sevens_front 5 all)
+unfolding LeavesSevens sevens_front
+sevens_ended value scale left n a b all x y h eaten same e small = elim (leb_tells (suc b) 128) [
+  | inl t ↦ let f = rw (e, eaten_byte a x y eaten, ← same, t.0) at h in sym f
+  | inr t ↦ absurd (omega (arith, t.1, small))
+]
+
+-- no byte is left, or none may follow
+pub sevens_cut_off : (value scale left n : ℕ) (all x y : List ℕ) → LeavesSevens value scale left all x → IsShort 1 x y → left ≡ suc n → ◌≡◌ {A = Option (ℕ × List ℕ)} None (sevens_front 5 all)
+unfolding LeavesSevens sevens_front
+sevens_cut_off value scale left n all x y h short e = let f = rw (e, none_eaten x y short) at h in sym f
+
+pub sevens_run_out : (value scale left : ℕ) (all x : List ℕ) → LeavesSevens value scale left all x → left ≡ 0 → ◌≡◌ {A = Option (ℕ × List ℕ)} None (sevens_front 5 all)
+unfolding LeavesSevens sevens_front
+sevens_run_out value scale left all x h e = let f = rw e at h in sym f
+
+-- what a byte counts for, in the first five
+pub part_fits : (i scale b : ℕ) → scale ≡ 128 ^ i → i < 5 → b ≤ 255 → (scale ≤ 268435456) × (scale * b ≤ 268435456 * 255)
+part_fits i scale b e few small =
+    let most : 128 ^ i ≤ 128 ^ 4 = pow-le-pow_right {n = 128} (omega arith) {i = i} {j = 4} (omega arith) in
+    let at_most : scale ≤ 268435456 = omega (arith, e, most) in
+    (at_most, mul-le-mul at_most small)
+
+pub scale_more : (i scale : ℕ) → scale ≡ 128 ^ i → scale * 128 ≡ 128 ^ (i + 1)
+scale_more i scale e = let more = pow-succ' 128 i in rw add-one (omega (arith, e, more))
+
+pub below_more : (value scale b : ℕ) → value < scale → b ≤ 127 → value + scale * b < scale * 128
+below_more value scale b low small =
+    let part : scale * b ≤ scale * 127 = mul-le-mul_left scale small in
+    omega (arith, low, part)
 
 begins_varlen : (v : ℕ) (x r : List ℕ) → Begins (Alone IsVarLen) v x r → sevens_front 5 x ≡ Some (v, r)
 begins_varlen v x r t = rw t.joined (sevens_front-complete 5 v t.bytes r t.is.sevens)
@@ -199,13 +257,11 @@ sevens_least (suc k) j v other (more {k = i} {d = d} {v = w} {bytes = xs} big h)
           rw (sevens_step k n (omega (arith, t.1)), high) (omega (arith, shorter))
     ]
 
-pub varlen_writes : (v : ℕ) (old new : List ℕ) → v < 2 ^ 32 → new ≡ old ++ varlen_spelling v → Writes (λ w. Some (varlen_spelling w)) IsVarLen v old new
-varlen_writes v old new fits e = record {
-  bytes = varlen_spelling v;
-  is = refl;
-  appended = e;
-  least = record {
-    is = record { sevens = sevens_spelling-sound 4 v (omega (arith, fits)); fits = fits };
-    least = λ other h bytes. sevens_least 5 5 v other h.sevens bytes;
-  };
+pub varlen_least : (v : ℕ) → v < 2 ^ 32 → IsShortest IsVarLen v (varlen_spelling v)
+varlen_least v fits = record {
+  is = record { sevens = sevens_spelling-sound 4 v (omega (arith, fits)); fits = fits };
+  least = λ other h bytes. sevens_least 5 5 v other h.sevens bytes;
 }
+
+pub varlen_writes : (v : ℕ) (old new : List ℕ) → v < 2 ^ 32 → new ≡ old ++ varlen_spelling v → Writes (λ w. Some (varlen_spelling w)) IsVarLen v old new
+varlen_writes v old new fits e = record { bytes = varlen_spelling v; is = refl; appended = e; least = varlen_least v fits }

@@ -10,21 +10,10 @@ use Rattle.wire_buf.specs.Spelling.{AreBytes, IsShortest}
 use Rattle.wire_buf.specs.Numbers.{IsLenenc, IsLittle, IsCounted, IsLenencString, lenenc_spelling}
 use Rattle.wire_buf.specs.Writing.{Writes}
 use Rattle.wire_buf.proofs.LenencLemmas.{lenenc_least, little_bytes-sound}
-use Rattle.wire_ints.specs.Strings.{lenenc_string_spelling, counted_bytes, counted_spelling, WritesFront}
-
--- the one fault that a refusal is, and what holds beside it
-pub IfErr-and : {T E : Type 0} (r : Result T E) (Q : E → Type 0) (P : Type 0) → IsErr r × IsErrAnd r Q → P → IfErr r (λ e. Q e × P)
-IfErr-and r Q P h p = let e = err_from_is_err_and r h.1 in rw e.1 (e.2, p)
+use Rattle.wire_ints.specs.Strings.{lenenc_string_spelling, counted_bytes, counted_spelling}
 
 pub lenenc_writes : (n : ℕ) (old new : List ℕ) → n < 2 ^ 64 → new ≡ old ++ lenenc_spelling n → Writes (λ v. Some (lenenc_spelling v)) IsLenenc n old new
 lenenc_writes n old new fits e = record { bytes = lenenc_spelling n; is = refl; appended = e; least = lenenc_least n fits }
-
--- what a writer of two parts leaves
-pub front_of_none : (bytes old new : List ℕ) → new ≡ old → WritesFront bytes old new
-front_of_none bytes old new e = record { count = 0; appended = e ∙ sym (append-nil old) }
-
-pub front_of_first : (a b old mid new : List ℕ) → mid ≡ old ++ a → new ≡ mid → WritesFront (a ++ b) old new
-front_of_first a b old mid new first e = record { count = length a; appended = e ∙ first ∙ ap (λ l. old ++ l) (sym (take-append_seam a b)) }
 
 -- the first of two lists of bytes
 AreBytes-front : (a b : List ℕ) → AreBytes (a ++ b) → AreBytes a
@@ -50,41 +39,27 @@ counted_count n k fits = let is = little_bytes-sound n k fits in record {
   least = λ other h _. let size = is.size in let e = h.size in omega (arith, size, e);
 }
 
-pub lenenc_string_writes : (s old mid new : List ℕ) → length s < 2 ^ 64 → mid ≡ old ++ lenenc_spelling (length s) → new ≡ mid ++ s
+pub lenenc_string_writes : (s old new : List ℕ) → length s < 2 ^ 64 → new ≡ old ++ lenenc_string_spelling s
     → Writes (λ v. Some (lenenc_string_spelling v)) IsLenencString s old new
-lenenc_string_writes s old mid new fits first second = record {
+lenenc_string_writes s old new fits appended = record {
   bytes = lenenc_string_spelling s;
   is = refl;
-  appended = second ∙ ap (λ l. l ++ s) first ∙ append_assoc old (lenenc_spelling (length s)) s;
+  appended = appended;
   least = counted_least IsLenenc s (lenenc_spelling (length s)) (lenenc_least (length s) fits);
 }
 
-pub counted_writes : (n : ℕ) (s old mid new : List ℕ) → length s < 256 ^ n → mid ≡ old ++ little_bytes n (length s) → new ≡ mid ++ s
-    → Writes (counted_spelling n) (IsCounted (IsLittle n)) s old new
-counted_writes n s old mid new fits first second = elim (leb_tells (suc (length s)) (256 ^ n)) [
-  | inl t ↦ record {
+pub counted_writes : (n : ℕ) (s t old new : List ℕ) → s ≡ t → length s < 256 ^ n → new ≡ old ++ counted_bytes n s
+    → Writes (counted_spelling n) (IsCounted (IsLittle n)) t old new
+counted_writes n s t old new same fits appended = subst (λ (x : List ℕ). Writes (counted_spelling n) (IsCounted (IsLittle n)) x old new) same (elim (leb_tells (suc (length s)) (256 ^ n)) [
+  | inl u ↦ record {
     bytes = counted_bytes n s;
-    is = rw t.0 refl;
-    appended = second ∙ ap (λ l. l ++ s) first ∙ append_assoc old (little_bytes n (length s)) s;
+    is = rw u.0 refl;
+    appended = appended;
     least = counted_least (IsLittle n) s (little_bytes n (length s)) (counted_count n (length s) fits);
   }
-  | inr t ↦ absurd (omega (arith, t.1, fits))
-]
-
--- what was appended, where everything can be written
-pub Writes-appended : {A : Type 0} (f : A → List ℕ) (spells : A → List ℕ → Type 0) (v : A) (old new : List ℕ) → Writes (λ w. Some (f w)) spells v old new → new ≡ old ++ f v
-Writes-appended f spells v old new w =
-    let is = w.is in
-    let same : w.bytes ≡ f v = cc in
-    w.appended ∙ ap (λ l. old ++ l) same
-
--- the same for an equal string
-pub subst_writes : (n : ℕ) (s t old new : List ℕ) → s ≡ t → Writes (counted_spelling n) (IsCounted (IsLittle n)) s old new → Writes (counted_spelling n) (IsCounted (IsLittle n)) t old new
-subst_writes n s t old new e w = subst (λ (x : List ℕ). Writes (counted_spelling n) (IsCounted (IsLittle n)) x old new) e w
-
-pub subst_front : (n : ℕ) (s t old new : List ℕ) → s ≡ t → WritesFront (counted_bytes n s) old new → WritesFront (counted_bytes n t) old new
-subst_front n s t old new e w = subst (λ (x : List ℕ). WritesFront (counted_bytes n x) old new) e w
+  | inr u ↦ absurd (omega (arith, u.1, fits))
+])
 
 -- a count in one byte
-pub byte_counted : (k : ℕ) (old new : List ℕ) → k ≤ 255 → new ≡ old ++ (k ∷ []) → new ≡ old ++ little_bytes 1 k
-byte_counted k old new small e = let same : k ≡ k % 256 = omega (arith, small) in e ∙ ap (λ n. old ++ (n ∷ [])) same
+pub byte_counted : (k : ℕ) → k ≤ 255 → k ∷ [] ≡ little_bytes 1 k
+byte_counted k small = let same : k ≡ k % 256 = omega (arith, small) in ap (λ n. n ∷ []) same

@@ -1,5 +1,5 @@
--- What is written for a string behind a count of its bytes, and what a refused writer leaves.
-use Rattle.std.specs.Prelude.{◌≡◌, ◌++◌, ◌^◌, ℕ, List, length, take, Option, Some, None, nat_lt, if◌then◌else◌}
+-- What is written for a string behind a count of its bytes.
+use Rattle.std.specs.Prelude.{◌++◌, ◌^◌, ℕ, List, length, Option, Some, None, nat_lt, if◌then◌else◌}
 use Rattle.byteorder.specs.Endian.{little_bytes}
 use Rattle.wire_buf.specs.Numbers.{lenenc_spelling}
 
@@ -14,8 +14,3 @@ counted_bytes n s = little_bytes n (length s) ++ s
 -- the same, where the length fits
 abbrev pub counted_spelling : ℕ → List ℕ → Option (List ℕ)
 counted_spelling n s = if nat_lt (length s) (256 ^ n) then Some (counted_bytes n s) else None
-
--- a front of the bytes is appended: none, some or all of them
-pub record WritesFront (bytes old new : List ℕ) : Type 0 where
-  pub count : ℕ
-  pub appended : new ≡ old ++ take count bytes

@@ -1,11 +1,11 @@
 //! Numbers and counted strings at the end of a buffer.
 
-ghost use Rattle.std.specs.Prelude.{◌≡◌, ◌≤◌, Some, length, take, OnOk, IfErr};
+ghost use Rattle.std.specs.Prelude.{◌≡◌, ◌≤◌, ◌++◌, Some, length, take, OnOk, IfErr};
 ghost use Rattle.wire_buf.specs.Numbers.{IsLenenc, IsLittle, IsSignedLittle, IsLenencString, IsShortString, IsLongString, lenenc_spelling};
 ghost use Rattle.wire_buf.specs.Writing.{Writes, Refuses};
 ghost use Rattle.wire_buf.specs.declared.fault.WireFault.TheVariants.{Memory};
 ghost use Rattle.wire_ints.specs.Ints.{little_spelling, signed_little_spelling};
-ghost use Rattle.wire_ints.specs.Strings.{lenenc_string_spelling, counted_bytes, counted_spelling, WritesFront};
+ghost use Rattle.wire_ints.specs.Strings.{lenenc_string_spelling, counted_spelling};
 
 use crate::lenenc::lenenc_bytes;
 use bytes::BufMut;
@@ -28,18 +28,17 @@ pub trait BufMutExt: BufMut {
         Ok(())
     }
 
-    /// Appends a length-encoded string. A refusal may leave its length written.
+    /// Appends a length-encoded string, or nothing.
     final fn put_lenenc_str(&mut self, s: &[u8]) -> Result<(), WireFault>
     where
         Self: Sized,
         ensures ok { OnOk result (Writes (λ v. Some (lenenc_string_spelling v)) IsLenencString
             s.now (Self.written self.old) (Self.written self.new)) }
-        ensures err { IfErr result (λ e. (e ≡ Memory) × WritesFront
-            (lenenc_string_spelling s.now) (Self.written self.old) (Self.written self.new)) }
+        ensures err { IfErr result (λ e. (e ≡ Memory)
+            × (Self.written self.new ≡ Self.written self.old)) }
     {
-        self.put_lenenc_int(s.len() as u64)?;
-        self.put_slice(s)?;
-        Ok(())
+        let (bytes, len) = lenenc_bytes(s.len() as u64);
+        put_both(self, &bytes[..len], s)
     }
 
     /// Appends an unsigned number of three bytes, or nothing: `Form` for one past 24 bits.
@@ -122,40 +121,50 @@ pub trait BufMutExt: BufMut {
         Ok(())
     }
 
-    /// Appends a string behind its length in one byte, cut at 255 bytes. A refusal may leave its
-    /// length written.
+    /// Appends a string behind its length in one byte, cut at 255 bytes, or nothing.
     final fn put_u8_str(&mut self, s: &[u8]) -> Result<(), WireFault>
     where
         Self: Sized,
         ensures ok { OnOk result (Writes (counted_spelling 1) IsShortString (take 255 s.now)
             (Self.written self.old) (Self.written self.new)) }
-        ensures err { IfErr result (λ e. (e ≡ Memory) × WritesFront
-            (counted_bytes 1 (take 255 s.now)) (Self.written self.old) (Self.written self.new)) }
+        ensures err { IfErr result (λ e. (e ≡ Memory)
+            × (Self.written self.new ≡ Self.written self.old)) }
     {
         let text = cut(s, 255);
-        self.put_u8(text.len() as u8)?;
-        self.put_slice(text)?;
-        Ok(())
+        put_both(self, &[text.len() as u8], text)
     }
 
-    /// Appends a string behind its length in four bytes, cut at 4,294,967,295 bytes. A refusal may
-    /// leave its length written.
+    /// Appends a string behind its length in four bytes, cut at 4,294,967,295 bytes, or nothing.
     final fn put_u32_str(&mut self, s: &[u8]) -> Result<(), WireFault>
     where
         Self: Sized,
         ensures ok { OnOk result (Writes (counted_spelling 4) IsLongString
             (take 4294967295 s.now) (Self.written self.old) (Self.written self.new)) }
-        ensures err { IfErr result (λ e. (e ≡ Memory) × WritesFront
-            (counted_bytes 4 (take 4294967295 s.now)) (Self.written self.old) (Self.written self.new)) }
+        ensures err { IfErr result (λ e. (e ≡ Memory)
+            × (Self.written self.new ≡ Self.written self.old)) }
     {
         let text = cut(s, 0xffff_ffff);
-        self.put_slice(&(text.len() as u32).to_le_bytes())?;
-        self.put_slice(text)?;
-        Ok(())
+        put_both(self, &(text.len() as u32).to_le_bytes(), text)
     }
 }
 
 impl<T: BufMut> BufMutExt for T {}
+
+/// Appends both, or nothing: the room for both is made first, so that a buffer grows once.
+fn put_both<B: BufMut>(buf: &mut B, front: &[u8], back: &[u8]) -> Result<(), WireFault>
+    ensures ok { OnOk result
+        (B.written buf.new ≡ B.written buf.old ++ (front.now ++ back.now)) }
+    ensures err { IfErr result (λ e. (e ≡ Memory) × (B.written buf.new ≡ B.written buf.old)) }
+{
+    let room = front
+        .len()
+        .checked_add(back.len())
+        .ok_or(WireFault::Memory)?;
+    buf.reserve(room)?;
+    buf.put_slice(front)?;
+    buf.put_slice(back)?;
+    Ok(())
+}
 
 /// The first `max` bytes of the text, or all there are.
 fn cut(text: &[u8], max: usize) -> &[u8]

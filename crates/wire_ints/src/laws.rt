@@ -1,11 +1,12 @@
 //! Laws over all representations.
 
-ghost use Rattle.std.specs.Prelude.{◌≡◌, ◌⊎◌, ◌∷◌, [], ◌↔◌, ℕ, ℤ, List, IfOk, IfErr, None};
+ghost use Rattle.std.specs.Prelude.{◌≡◌, ◌<◌, ◌^◌, ◌⊎◌, ◌∷◌, [], ◌↔◌, ℕ, ℤ, List, IfOk, IfErr, None};
+ghost use Rattle.wire_buf.specs.Spelling.{IsShortest};
 ghost use Rattle.wire_buf.specs.Numbers.{IsLenenc, lenenc_spelling};
 ghost use Rattle.wire_buf.specs.declared.fault.WireFault.TheVariants.{Memory, Form, Eof, BadNumber};
 ghost use Rattle.wire_ints.specs.Faults.{lenenc_fault, varlen_fault};
 ghost use Rattle.wire_ints.specs.Sevens.{IsVarLen, varlen_spelling};
-ghost use Rattle.wire_ints.specs.TrailingOnes.{varlen_uint_spelling};
+ghost use Rattle.wire_ints.specs.TrailingOnes.{IsVarlenUint, varlen_uint_spelling};
 ghost use Rattle.wire_buf.specs.Numbers.{IsSignedLittle, IsBig};
 ghost use Rattle.wire_ints.specs.Ints.{little_spelling, big_spelling, signed_big_spelling};
 
@@ -27,6 +28,14 @@ pub fn read_back<T: IntRepr>(alloc: Global, value: T::Primitive) -> Result<T::Pr
     let raw = buf.parse::<RawInt<T>>(alloc, ())?;
     Ok(raw.0)
 }
+
+/// What is written for a number in a form of varying length is a shortest of its spellings.
+pub fn spellings_are_shortest()
+    ensures length_encoded { (v : ℕ) → v < 2 ^ 64 → IsShortest IsLenenc v (lenenc_spelling v) }
+    ensures seven_bits { (v : ℕ) → v < 2 ^ 32 → IsShortest IsVarLen v (varlen_spelling v) }
+    ensures trailing_ones { (v : ℕ) → v < 2 ^ 64
+        → IsShortest IsVarlenUint v (varlen_uint_spelling v) }
+{}
 
 /// Numbers that the definitions compute.
 pub fn worked_numbers()

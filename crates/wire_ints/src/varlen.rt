@@ -1,6 +1,6 @@
 //! Numbers of seven bits a byte, the lowest first, with the top bit set where more follow.
 
-ghost use Rattle.std.specs.Prelude.{◌≡◌, ◌≤◌, ◌<◌, ◌^◌, Some, option_map, IfSome, take, nat_le};
+ghost use Rattle.std.specs.Prelude.{◌≡◌, ◌≤◌, Some, option_map, take, nat_le};
 ghost use Rattle.std.specs.List.{list_all};
 ghost use Rattle.wire_ints.specs.Sevens.{IsVarLen, sevens_front, varlen_spelling};
 ghost use Rattle.wire_ints.specs.Faults.{varlen_fault};
@@ -27,7 +27,7 @@ impl IntRepr for VarLen {
     ghost fault_at = { varlen_fault };
 
     fn deserialize(buf: &mut ParseBuf<'_>) -> Result<u32, WireFault> {
-        let Some((value, rest)) = front_sevens(*buf, 5) else {
+        let Some((value, rest)) = front_sevens(*buf) else {
             return Err(fault_of(buf));
         };
         if value > 0xffff_ffff {
@@ -46,23 +46,22 @@ impl IntRepr for VarLen {
     ghost sized = { λ v bytes h. tt };
 }
 
-/// The number in at most `left` bytes of seven bits, and what follows.
-#[tactic(auto, unfolding(crate::specs::Sevens::sevens_front))]
-fn front_sevens<'a>(buf: ParseBuf<'a>, left: u8) -> Option<(u64, ParseBuf<'a>)>
-    requires { left ≤ 5 }
-    ensures value { option_map (λ p. (p.0, p.1.0.now)) result ≡ sevens_front left buf.entry.0.now }
-    ensures fits { IfSome result (λ p. p.0 < 128 ^ left) }
+/// The number in at most five bytes of seven bits, and what follows.
+fn front_sevens<'a>(buf: ParseBuf<'a>) -> Option<(u64, ParseBuf<'a>)>
+    ensures { option_map (λ p. (p.0, p.1.0.now)) result ≡ sevens_front 5 buf.entry.0.now }
 {
-    if left == 0 {
-        return None;
-    }
     let mut rest = buf;
-    let first = rest.checked_eat_u8()?;
-    if first < 128 {
-        return Some((u64::from(first), rest));
+    let mut value = 0;
+    let mut scale = 1;
+    'bytes: for i in 0..5u8 {
+        let byte = u64::from(rest.checked_eat_u8()?);
+        if byte < 128 {
+            return Some((value + scale * byte, rest));
+        }
+        value += scale * (byte - 128);
+        scale *= 128;
     }
-    let (high, rest) = front_sevens(rest, left - 1)?;
-    Some((u64::from(first - 128) + 128 * high, rest))
+    None
 }
 
 /// The number's shortest spelling, as the first bytes of an array and their count.

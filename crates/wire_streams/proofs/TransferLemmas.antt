@@ -1,16 +1,13 @@
 -- Bytes that a reader gave and a writer took.
-use Rattle.std.proofs.Common.{◌-◌, slice_range, le_refl, drop_at, length-take-le, ◌≡◌, ◌≤◌, ◌<◌, ◌+◌, ◌++◌, inl, inr, ℕ, List, [], length, take, drop, append_assoc, arith, refl, sym, ap, subst, ◌∙◌, Option, Some, None, Result, IsErr, IsErrAnd, IfErr}
-use Rattle.std.proofs.lemmas.List.{length-append, append-nil, take-append-drop, take_rest, take_all}
+use Rattle.std.proofs.Common.{◌-◌, slice_range, le_refl, drop_at, length-take-le, ◌≡◌, ◌≤◌, ◌+◌, ◌++◌, ℕ, List, [], length, take, drop, append_assoc, arith, refl, sym, ap, subst, ◌∙◌, Option, Some, None}
+use Rattle.std.proofs.lemmas.List.{append-nil, take-append-drop, take_rest}
 use Rattle.std.proofs.Math.Seq.{take-append_seam}
-use Rattle.std.proofs.lemmas.Result.{err_from_is_err_and}
-use Rattle.wire_buf.specs.declared.fault.WireFault.{WireFault}
-use Rattle.wire_buf.specs.declared.fault.WireFault.TheVariants.{Eof, Memory, Read}
-use Rattle.wire_streams.specs.Transfers.{FallsShortOrLacksMemory, WritesSome}
+use Rattle.wire_streams.specs.Transfers.{Fills, WritesSome}
 use Rattle.std.proofs.lemmas.Slice.{take-put_mid_below}
 use Rattle.std.proofs.KnownBytes.{Consumes-trans, Consumes-kept, Appends-nil, Appends-trans, Appends-kept}
 use borrow.Rule.Slice.PartMut.{put_mid, post_of}
 use lib.Seq.{take-add, take-append-le}
-use Rattle.std.specs.Io.KnownBytes.{Consumes, Appends, Keeps, IsAtEnd}
+use Rattle.std.specs.Io.KnownBytes.{Consumes, Appends, Keeps}
 
 -- bytes were taken so that `left` of the n are left to take
 pub record GathersSome (old new : Option (List ℕ)) (n left : ℕ) (before after : List ℕ) : Type 0 where
@@ -39,82 +36,53 @@ slice_range-put_mid a k n xs ys within fits =
     let after = post_of a k xs in
     ap (take ((a + n) - a)) (drop_at (take a xs) (ys ++ after) a (length-take-le a xs within)) ∙ ap (λ m. take m (ys ++ after)) same ∙ take-append-le n ys after fits
 
-pub fills_more : (a k n : ℕ) (xs ys : List ℕ) (old mid new : Option (List ℕ)) → a ≤ length xs → n ≤ length ys
-    → Consumes old mid (take a xs) → Consumes mid new (take n ys) → Consumes old new (take (a + n) (put_mid a k xs ys))
-fills_more a k n xs ys old mid new within fits first second =
+-- the place up to which a buffer is filled, once a part of it was written
+take-put_mid_part : (a k n : ℕ) (xs ys : List ℕ) → a ≤ length xs → n ≤ length ys → take (a + n) (put_mid a k xs ys) ≡ take a xs ++ take n ys
+take-put_mid_part a k n xs ys within fits =
     let part = slice_range-put_mid a k n xs ys within fits in
     let joined = take_split a (a + n) xs (put_mid a k xs ys) (omega arith) (take-put_mid_below a k xs ys a (le_refl a) within) in
-    subst (Consumes old new) (ap (λ l. take a xs ++ l) (sym part) ∙ joined) (Consumes-trans old mid new (take a xs) (take n ys) first second)
+    sym joined ∙ ap (λ l. take a xs ++ l) part
 
-pub fills_kept : (a k : ℕ) (xs ys : List ℕ) (old mid new : Option (List ℕ)) → a ≤ length xs
-    → Consumes old mid (take a xs) → Keeps mid new → Consumes old new (take a (put_mid a k xs ys))
-fills_kept a k xs ys old mid new within first kept =
-    subst (Consumes old new) (sym (take-put_mid_below a k xs ys a (le_refl a) within)) (Consumes-kept old mid new (take a xs) first kept)
-
--- n more bytes are appended
-pub gathers_more : (old mid new : Option (List ℕ)) (n left m : ℕ) (before middle part : List ℕ) → m ≤ left → length part ≡ m
-    → GathersSome old mid n left before middle → Consumes mid new part → GathersSome old new n (left - m) before (middle ++ part)
-gathers_more old mid new n left m before middle part few size g more =
-    let count = g.count in
-    record {
-      taken = g.taken ++ part;
-      consumed = Consumes-trans old mid new g.taken part g.consumed more;
-      count = omega (arith, count, size, few, length-append g.taken part);
-      appended = ap (λ l. l ++ part) g.appended ∙ append_assoc before g.taken part;
-    }
-
-pub gathers_kept : (old mid new : Option (List ℕ)) (n left : ℕ) (before middle : List ℕ) → GathersSome old mid n left before middle → Keeps mid new → GathersSome old new n left before middle
-gathers_kept old mid new n left before middle g kept = record {
-  taken = g.taken;
-  consumed = Consumes-kept old mid new g.taken g.consumed kept;
-  count = g.count;
-  appended = g.appended;
+pub fills_none : (at : ℕ) (a : Option (List ℕ)) (xs : List ℕ) → at ≤ length xs → Fills at at a a xs xs
+fills_none at a xs within = record {
+  taken = [];
+  consumed = Consumes-none a;
+  begun = le_refl at;
+  within = within;
+  joined = sym (append-nil (take at xs));
 }
 
--- the exit of a `?` on a growth
-pub IfErr-memory : {T : Type 0} (r : Result T WireFault) (P : WireFault → Type 0) → IsErr r × IsErrAnd r (λ e. e ≡ Memory) → P Memory → IfErr r P
-IfErr-memory r P h p = let e = err_from_is_err_and r h.1 in rw e.1 (subst P (sym e.2) p)
-
--- the piece that was read last found no memory
-pub cut_by_memory : (old mid new : Option (List ℕ)) (n left m : ℕ) (before middle part : List ℕ) → m ≤ left → length part ≡ m
-    → GathersSome old mid n left before middle → Consumes mid new part → FallsShortOrLacksMemory Memory n old new before middle
-cut_by_memory old mid new n left m before middle part few size g more =
-    let count = g.count in
+pub fills_more : (at a k n : ℕ) (zs xs ys : List ℕ) (old mid new : Option (List ℕ)) → Fills at a old mid zs xs → n ≤ length ys → a + n ≤ length (put_mid a k xs ys)
+    → Consumes mid new (take n ys) → Fills at (a + n) old new zs (put_mid a k xs ys)
+fills_more at a k n zs xs ys old mid new f fits within second =
+    let begun = f.begun in
     record {
-      taken = g.taken ++ part;
-      consumed = Consumes-trans old mid new g.taken part g.consumed more;
-      within = omega (arith, count, few, size, length-append g.taken part);
-      kept = length g.taken;
-      appended = g.appended ∙ ap (λ l. before ++ l) (sym (take-append_seam g.taken part));
-      cause = inr (inr refl);
+      taken = f.taken ++ take n ys;
+      consumed = Consumes-trans old mid new f.taken (take n ys) f.consumed second;
+      begun = omega arith;
+      within = within;
+      joined = take-put_mid_part a k n xs ys f.within fits ∙ ap (λ l. l ++ take n ys) f.joined ∙ append_assoc (take at zs) f.taken (take n ys);
     }
 
--- the reader is at its end short of the count
-pub cut_at_end : (old mid new : Option (List ℕ)) (n left : ℕ) (before middle : List ℕ) → 0 < left → GathersSome old mid n left before middle → Consumes mid new [] → IsAtEnd new
-    → FallsShortOrLacksMemory Eof n old new before middle
-cut_at_end old mid new n left before middle some g none end =
-    let count = g.count in
-    record {
-      taken = g.taken;
-      consumed = subst (Consumes old new) (append-nil g.taken) (Consumes-trans old mid new g.taken [] g.consumed none);
-      within = omega (arith, count);
-      kept = length g.taken;
-      appended = g.appended ∙ ap (λ l. before ++ l) (sym (take_all (length g.taken) g.taken (le_refl (length g.taken))));
-      cause = inl (refl, end, omega (arith, count, some));
-    }
+pub fills_kept : (at a k : ℕ) (zs xs ys : List ℕ) (old mid new : Option (List ℕ)) → Fills at a old mid zs xs → a ≤ length (put_mid a k xs ys) → Keeps mid new
+    → Fills at a old new zs (put_mid a k xs ys)
+fills_kept at a k zs xs ys old mid new f within kept = record {
+  taken = f.taken;
+  consumed = Consumes-kept old mid new f.taken f.consumed kept;
+  begun = f.begun;
+  within = within;
+  joined = take-put_mid_below a k xs ys a (le_refl a) f.within ∙ f.joined;
+}
 
--- the reader failed
-pub cut_by_reader : (old mid new : Option (List ℕ)) (n left : ℕ) (before middle : List ℕ) → GathersSome old mid n left before middle → Keeps mid new → FallsShortOrLacksMemory Read n old new before middle
-cut_by_reader old mid new n left before middle g kept =
-    let count = g.count in
-    record {
-      taken = g.taken;
-      consumed = Consumes-kept old mid new g.taken g.consumed kept;
-      within = omega (arith, count);
-      kept = length g.taken;
-      appended = g.appended ∙ ap (λ l. before ++ l) (sym (take_all (length g.taken) g.taken (le_refl (length g.taken))));
-      cause = inr (inl refl);
-    }
+pub fills_ended : (at a k n : ℕ) (zs xs ys : List ℕ) (old mid new : Option (List ℕ)) → Fills at a old mid zs xs → a ≤ length (put_mid a k xs ys) → n ≡ 0 → Consumes mid new (take n ys)
+    → Fills at a old new zs (put_mid a k xs ys)
+fills_ended at a k n zs xs ys old mid new f within zero none = record {
+  taken = f.taken;
+  consumed = subst (Consumes old new) (ap (λ m. f.taken ++ take m ys) zero ∙ append-nil f.taken) (Consumes-trans old mid new f.taken (take n ys) f.consumed none);
+  begun = f.begun;
+  within = within;
+  joined = take-put_mid_below a k xs ys a (le_refl a) f.within ∙ f.joined;
+}
 
 -- what is gone from the rest was written
 pub record HasWritten (old new : Option (List ℕ)) (all rest : List ℕ) : Type 0 where

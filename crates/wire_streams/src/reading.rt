@@ -1,15 +1,15 @@
 //! Bytes from a reader.
 
-ghost use Rattle.std.specs.Prelude.{OnOk, IfErr, length};
+ghost use Rattle.std.specs.Prelude.{◌≡◌, ◌≤◌, OnOk, IfErr, length};
 ghost use Rattle.std.specs.Io.KnownBytes.{Consumes};
-ghost use Rattle.wire_streams.specs.Transfers.{Gathers, FallsShort, FallsShortOrLacksMemory};
+ghost use Rattle.wire_streams.specs.Transfers.{Fills, IsEndOrFailure, Gathers, FallsShort, GathersFront};
 
 use std::alloc::Allocator;
 use std::io::{ErrorKind, Read};
 use wire_buf::WireFault;
 
-/// How many bytes are asked of a reader at once, where it isn't known that they come.
-const PIECE: usize = 1024;
+/// How many bytes are asked of a reader at once, where it isn't known that they come: 64 KiB.
+const PIECE: u64 = 0x1_0000;
 
 /// How many reads a call makes at most: a device that is interrupted 2^63 - 1 times has failed.
 pub const MAX_READS: u64 = 0x7fff_ffff_ffff_ffff;
@@ -23,28 +23,14 @@ pub fn read_exact<R: Read>(reader: &mut R, buf: &mut [u8]) -> Result<(), WireFau
     ensures err { IfErr result
         (λ e. FallsShort e (length buf.old) (R.remaining reader.old) (R.remaining reader.new)) }
 {
-    let mut filled = 0;
-    'reads: for _read in 0..MAX_READS {
-        if filled == buf.len() {
-            return Ok(());
-        }
-        match reader.read(&mut buf[filled..]) {
-            Ok(0) => return Err(WireFault::Eof),
-            Ok(n) => filled += n,
-            Err(error) => {
-                if error.kind() != ErrorKind::Interrupted {
-                    return Err(WireFault::Read);
-                }
-            }
-        }
-    }
-    Err(WireFault::Read)
+    fill(reader, buf, 0).1
 }
 
-/// Appends the reader's next `n` bytes to `out`, which grows with the bytes that come and never by the count alone.
+/// Appends the reader's next `n` bytes to `out`, which grows with the bytes that come and never by the count alone: by
+/// at most 64 KiB before the next bytes are read.
 ///
-/// The refusals are those of [`read_exact`], and `Memory` for want of memory; a front of the bytes that were
-/// taken is then appended.
+/// The refusals are those of [`read_exact`], and `Memory` for want of memory. The bytes that were taken are appended,
+/// also where fewer than `n` came.
 pub fn read_more<R: Read, A: Allocator>(
     reader: &mut R,
     n: u64,
@@ -53,29 +39,46 @@ pub fn read_more<R: Read, A: Allocator>(
     ensures ok { OnOk result (Gathers n (R.remaining reader.old) (R.remaining reader.new)
         out.old.items out.new.items) }
     ensures err { IfErr result
-        (λ e. FallsShortOrLacksMemory e n (R.remaining reader.old) (R.remaining reader.new)
+        (λ e. GathersFront e n (R.remaining reader.old) (R.remaining reader.new)
         out.old.items out.new.items) }
 {
-    let mut piece = [0u8; PIECE];
     let mut left = n;
-    'reads: for _read in 0..MAX_READS {
-        if left == 0 {
-            return Ok(());
+    while left > 0 {
+        let start = out.len();
+        let room = left.min(PIECE);
+        let end = start.checked_add(room as usize).ok_or(WireFault::Memory)?;
+        out.resize(end, 0)?;
+        let (filled, outcome) = fill(reader, out.as_mut_slice(), start);
+        if let Err(fault) = outcome {
+            out.truncate(filled);
+            return Err(fault);
         }
-        let room = left.min(PIECE as u64) as usize;
-        let part = &mut piece[..room];
-        match reader.read(part) {
-            Ok(0) => return Err(WireFault::Eof),
-            Ok(taken) => {
-                out.extend_from_slice(&part[..taken])?;
-                left -= taken as u64;
-            }
+        left -= room;
+    }
+    Ok(())
+}
+
+/// Fills the buffer from place `at` on with the reader's next bytes, and answers up to which place it is filled.
+fn fill<R: Read>(reader: &mut R, buf: &mut [u8], at: usize) -> (usize, Result<(), WireFault>)
+    requires { at ≤ length buf.old }
+    ensures bytes { Fills at result.0 (R.remaining reader.old) (R.remaining reader.new) buf.old buf.new }
+    ensures ok { OnOk result.1 (result.0 ≡ length buf.new) }
+    ensures err { IfErr result.1 (λ e. IsEndOrFailure e result.0 (length buf.new) (R.remaining reader.new)) }
+{
+    let mut filled = at;
+    'reads: for _read in 0..MAX_READS {
+        if filled == buf.len() {
+            return (filled, Ok(()));
+        }
+        match reader.read(&mut buf[filled..]) {
+            Ok(0) => return (filled, Err(WireFault::Eof)),
+            Ok(n) => filled += n,
             Err(error) => {
                 if error.kind() != ErrorKind::Interrupted {
-                    return Err(WireFault::Read);
+                    return (filled, Err(WireFault::Read));
                 }
             }
         }
     }
-    Err(WireFault::Read)
+    (filled, Err(WireFault::Read))
 }
