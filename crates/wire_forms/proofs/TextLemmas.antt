@@ -19,6 +19,7 @@ use Rattle.wire_buf.proofs.StringLemmas.{Lacks-count, Lacks-counted}
 use Rattle.wire_ints.specs.Sevens.{IsVarLen, varlen_spelling}
 use Rattle.wire_ints.specs.Strings.{counted_bytes, counted_spelling}
 use Rattle.wire_ints.proofs.WritingLemmas.{counted_least}
+use Rattle.wire_ints.proofs.SevenLemmas.{varlen_least}
 use Rattle.wire_forms.specs.Texts.{IsNullEnded, before_zero, WritesText, varlen_string_spelling, CountedRefusal}
 
 -- the bytes before the first zero
@@ -93,16 +94,15 @@ null_writes text b old mid new e first last = record {
 }
 
 -- a string behind a VarLen is written
-pub varlen_writes : (s t old mid new : List ℕ) → s ≡ t → Writes (λ v. Some (varlen_spelling v)) IsVarLen (length s) old mid → new ≡ mid ++ s
+pub varlen_writes : (s t count old new : List ℕ) → s ≡ t → length s < 2 ^ 32 → count ≡ varlen_spelling (length s) → new ≡ (old ++ count) ++ s
     → WritesText {C = Unit {0}} (λ ctx. Alone (IsCounted IsVarLen)) (λ ctx v rest. ⊤) (varlen_string_spelling t) t old new
-varlen_writes s t old mid new e w last =
-    let bytes : varlen_spelling (length s) ≡ w.bytes = cc w.is in
-    let shortest = counted_least IsVarLen s w.bytes w.least in
-    rw (← e) (rw bytes (record {
-      appended = last ∙ ap (λ (l : List ℕ). l ++ s) w.appended ∙ append_assoc old w.bytes s;
+varlen_writes s t count old new e fits spelled last =
+    let shortest = counted_least IsVarLen s (varlen_spelling (length s)) (varlen_least (length s) fits) in
+    rw (← e) (record {
+      appended = last ∙ append_assoc old count s ∙ ap (λ (l : List ℕ). old ++ (l ++ s)) spelled;
       is = λ ctx rest h. shortest.is;
       least = λ ctx other rest h are. shortest.least other h are;
-    }))
+    })
 
 some_if : {A : Type 0} (b : Bool) (x y : A) → (if b then Some x else None) ≡ Some y → x ≡ y
 some_if true x y e = cc e

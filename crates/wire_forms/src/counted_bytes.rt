@@ -11,8 +11,8 @@ ghost use Rattle.wire_forms.specs.Texts.{varlen_string_spelling, CountedRefusal}
 use crate::bytes_repr::BytesRepr;
 use std::alloc::Allocator;
 use std::borrow::CowSlice;
-use wire_buf::{AnySize, ParseBuf, WireFault, whole_or_none};
-use wire_ints::{BufMutExt, IntRepr, LenEnc, VarLen};
+use wire_buf::{AnySize, ParseBuf, WireFault};
+use wire_ints::{BufMutExt, IntRepr, LenEnc, VarLen, varlen_bytes};
 
 /// A string behind its length in one byte. Of a longer one the first 255 bytes are written.
 pub struct U8Bytes;
@@ -127,11 +127,11 @@ impl BytesRepr for VarLen {
 
     fn serialize<A: Allocator>(text: &[u8], buf: &mut Vec<u8, A>) -> Result<(), WireFault> {
         let text = &text[..text.len().min(0xffff_ffff)];
-        buf.reserve(5 + text.len())?;
-        let start = buf.len();
-        <VarLen as IntRepr>::serialize(text.len() as u32, buf)?;
-        let written = buf.extend_from_slice(text).map_err(WireFault::from);
-        whole_or_none(written, start, buf)
+        let (count, len) = varlen_bytes(text.len() as u32);
+        buf.reserve(len + text.len())?;
+        buf.extend_from_slice(&count[..len])?;
+        buf.extend_from_slice(text)?;
+        Ok(())
     }
 
     ghost sized = { λ ctx v bytes rest h. tt };

@@ -29,6 +29,6 @@ pub use int_repr::{IntRepr, RawInt};
 pub use lenenc::{InvalidLengthEncodedInteger, LenEnc, lenenc_int_len, lenenc_str_len};
 pub use number::{Number, Unsigned};
 pub use read_ext::ReadMysqlExt;
-pub use varlen::VarLen;
+pub use varlen::{VarLen, varlen_bytes};
 pub use varlen_uint::{read_varlen_uint, varlen_uint_size, write_varlen_uint};
 pub use write_ext::WriteMysqlExt;

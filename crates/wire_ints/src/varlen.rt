@@ -38,7 +38,7 @@ impl IntRepr for VarLen {
     }
 
     fn serialize<A: Allocator>(val: u32, buf: &mut Vec<u8, A>) -> Result<(), WireFault> {
-        let (bytes, len) = sevens(val);
+        let (bytes, len) = varlen_bytes(val);
         buf.extend_from_slice(&bytes[..len])?;
         Ok(())
     }
@@ -64,8 +64,8 @@ fn front_sevens<'a>(buf: ParseBuf<'a>) -> Option<(u64, ParseBuf<'a>)>
     None
 }
 
-/// The number's shortest spelling, as the first bytes of an array and their count.
-fn sevens(val: u32) -> ([u8; 5], usize)
+/// The number's shortest spelling as a [`VarLen`], as the first bytes of an array and their count.
+pub fn varlen_bytes(val: u32) -> ([u8; 5], usize)
     ensures size { result.1 ≤ 5 }
     ensures bytes { take result.1 result.0 ≡ varlen_spelling val }
 {

@@ -1,5 +1,5 @@
 -- Counted sequences at the front of bytes, and the bytes of values one after the other.
-use Rattle.std.proofs.Common.{◌≡◌, ◌++◌, ℕ, zero, suc, List, [], ◌∷◌, length, take, append_assoc, arith, refl, sym, ap, subst, ◌∙◌, Option, Some, None, Result, IsErr, IsErrAnd, IfErr, ◌⊎◌, inl, inr, ◌<◌, get_or, drop, drop-cons}
+use Rattle.std.proofs.Common.{Err, OnErr, ◌≡◌, ◌++◌, ℕ, zero, suc, List, [], ◌∷◌, length, take, append_assoc, arith, refl, sym, ap, subst, ◌∙◌, Option, Some, None, Result, IsErr, IsErrAnd, IfErr, ◌⊎◌, inl, inr, ◌<◌, get_or, drop, drop-cons}
 use Rattle.std.proofs.lemmas.List.{length-append, append-nil, take-append-drop}
 use Rattle.std.proofs.Math.Seq.{take-append_seam}
 use Rattle.wire_buf.specs.Writing.{Appends, Refuses, Writes}
@@ -186,3 +186,10 @@ Reads-equal spells vs x r p = record {
   begins = p.begins;
   only = λ ws s t. let e = p.only ws s t in (e.0, all_equal vs ws e.1);
 }
+
+-- the answer of a call that is passed on, where it is known to be a refusal
+pub IfErr-known : {T E : Type 0} (r : Result T E) (e : E) (P : E → Type 0) → r ≡ Err e → P e → IfErr r P
+IfErr-known r e P same h = rw same h
+
+pub OnErr-known : {T E : Type 0} (r : Result T E) (e : E) (P : Type 0) → r ≡ Err e → OnErr r P → P
+OnErr-known r e P same h = rw same at h

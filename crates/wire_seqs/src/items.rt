@@ -8,7 +8,7 @@ ghost use Rattle.wire_buf.specs.Refusals.{ParseRefusal};
 ghost use Rattle.wire_buf.specs.declared.fault.WireFault.TheVariants.{Eof, Memory};
 
 use std::alloc::{Allocator, Global};
-use wire_buf::{MyDeserialize, MySerialize, ParseBuf, WireFault};
+use wire_buf::{MyDeserialize, MySerialize, ParseBuf, WireFault, whole_or_none};
 
 /// Reads `count` values. Memory grows with what is read.
 pub(crate) fn read_items<'de, T: MyDeserialize<'de, Ctx = ()> + Drop>(
@@ -50,8 +50,7 @@ pub(crate) fn write_items<T: MySerialize, A: Allocator>(
     let start = buf.len();
     for item in items {
         if let Err(fault) = item.serialize(buf) {
-            buf.truncate(start);
-            return Err(fault);
+            return whole_or_none(Err(fault), start, buf);
         }
     }
     Ok(())

@@ -7,7 +7,7 @@ ghost use Rattle.wire_seqs.specs.Sequences.{joined_spelling, NumberRefusal, Numb
 use std::alloc::{AllocError, Allocator, Global};
 use std::borrow::CowSlice;
 use std::marker::PhantomData;
-use wire_buf::{AnySize, MyDeserialize, MySerialize, ParseBuf, WireFault, WireSize};
+use wire_buf::{AnySize, MyDeserialize, MySerialize, ParseBuf, WireFault, WireSize, whole_or_none};
 use wire_forms::RawConst;
 use wire_ints::IntRepr;
 
@@ -115,8 +115,7 @@ impl<'a, T: IntRepr, U> MySerialize for RawSeq<'a, T, U> {
         let start = buf.len();
         for number in self.0.as_slice() {
             if let Err(fault) = T::serialize(*number, buf) {
-                buf.truncate(start);
-                return Err(fault);
+                return whole_or_none(Err(fault), start, buf);
             }
         }
         Ok(())

@@ -11,7 +11,7 @@ use std::alloc::{AllocError, Allocator, Global};
 use std::borrow::CowSlice;
 use std::marker::PhantomData;
 use std::ops::DerefSlice;
-use wire_buf::{AnySize, MyDeserialize, MySerialize, ParseBuf, WireFault};
+use wire_buf::{AnySize, MyDeserialize, MySerialize, ParseBuf, WireFault, whole_or_none};
 
 /// A sequence of elements, whose number is said in the form `U`.
 #[derive(Drop)]
@@ -147,10 +147,7 @@ impl<'a, T: MySerialize, U: SeqRepr> MySerialize for Seq<'a, T, U> {
         let start = buf.len();
         let items = &self.0[..self.0.len().min(U::MAX_LEN)];
         U::write_count(items.len(), buf)?;
-        if let Err(fault) = write_items(items, buf) {
-            buf.truncate(start);
-            return Err(fault);
-        }
-        Ok(())
+        let written = write_items(items, buf);
+        whole_or_none(written, start, buf)
     }
 }

@@ -1,12 +1,15 @@
 use Rattle.std.proofs.Common.{add-one, rules}
-use Rattle.wire_seqs.proofs.SequenceLemmas.{appends_more, refuses_more}
+use Rattle.wire_seqs.proofs.SequenceLemmas.{appends_more, refuses_more, IfErr-known, OnErr-known}
+use Rattle.wire_buf.specs.Writing.{Refuses}
+use Rattle.wire_seqs.specs.Sequences.{joined_spelling}
 use Rattle.wire_seqs.proofs.ShortestLemmas.{each_more}
 use Rattle.wire_seqs.proofs.items.write_items.Goals as goal
 
 pub returns-in-Err-clause-err : goal.returns-in-Err-clause-err
 returns-in-Err-clause-err g c =
-    refuses_more g.T.MySerialize.spelling c.args.items.now c.loop-item.item-index c.item-item.result c.loop-item-test.true c.item-item.is
-    _ _ _ _ _ _ c.loop-item.invariant.0 c.in-Err.ensures.err (search rules) c.truncate.ensures.items
+    IfErr-known _ c.in-Err.fault (λ e. Refuses (joined_spelling g.T.MySerialize.spelling) c.args.items.now e _ _) c.whole_or_none.ensures.answer
+    (refuses_more g.T.MySerialize.spelling c.args.items.now c.loop-item.item-index c.item-item.result c.loop-item-test.true c.item-item.is
+    _ _ _ _ _ _ c.loop-item.invariant.0 c.in-Err.ensures.err (search rules) (OnErr-known _ c.in-Err.fault _ c.whole_or_none.ensures.answer c.whole_or_none.ensures.err))
 
 pub loop-item-preserved : goal.loop-item-preserved
 loop-item-preserved g c =

@@ -1,7 +1,8 @@
 use Rattle.std.proofs.Common.{add-one, refl, rules}
 use Rattle.std.specs.Cow.{cow_slice_items}
 use Rattle.wire_seqs.specs.Sequences.{joined_spelling}
-use Rattle.wire_seqs.proofs.SequenceLemmas.{appends_more, refuses_more, kept_appends, refuses_through}
+use Rattle.wire_seqs.proofs.SequenceLemmas.{appends_more, refuses_more, kept_appends, refuses_through, IfErr-known, OnErr-known}
+use Rattle.wire_buf.specs.Writing.{Refuses}
 use Rattle.wire_buf.specs.Spelling.{IsShortest}
 use Rattle.wire_buf.proofs.SpellingLemmas.{writes_shortest}
 use Rattle.wire_seqs.proofs.ShortestLemmas.{each_more}
@@ -21,8 +22,9 @@ loop-number-preserved g c =
 pub returns-in-Err-clause-err : goal.returns-in-Err-clause-err
 returns-in-Err-clause-err g c =
     let t = g.T.IntRepr in
-    refuses_through (λ v. cow_slice_items v.0) (joined_spelling (λ n. t.spelling (t.kept n))) c.args.self.now c.as_slice-number-items.result.now _ _ _
+    IfErr-known _ c.in-Err.fault (λ e. Refuses (λ v. joined_spelling (λ n. t.spelling (t.kept n)) (cow_slice_items v.0)) c.args.self.now e _ _) c.whole_or_none.ensures.answer
+    (refuses_through (λ v. cow_slice_items v.0) (joined_spelling (λ n. t.spelling (t.kept n))) c.args.self.now c.as_slice-number-items.result.now _ _ _
     c.as_slice-number-items.ensures.value
     (refuses_more (λ n. t.spelling (t.kept n)) c.as_slice-number-items.result.now c.loop-number.number-index c.number-item.result
     c.loop-number-test.true c.number-item.is _ _ _ _ _ _ c.loop-number.invariant.0
-    (refuses_through t.kept t.spelling _ _ _ _ _ refl c.in-Err.ensures.err) (search rules) c.truncate.ensures.items)
+    (refuses_through t.kept t.spelling _ _ _ _ _ refl c.in-Err.ensures.err) (search rules) (OnErr-known _ c.in-Err.fault _ c.whole_or_none.ensures.answer c.whole_or_none.ensures.err)))

@@ -1,6 +1,6 @@
 use Rattle.std.proofs.Common.{◌≡◌, ◌≤◌, ◌<◌, ◌-◌, ◌^◌, ◌++◌, length, take}
 use Rattle.wire_ints.specs.Sevens.{sevens_spelling}
-use Rattle.wire_ints.proofs.varlen.sevens.Given as goal
+use Rattle.wire_ints.proofs.varlen.varlen_bytes.Given as goal
 
 -- what stands in the array is followed by the spelling of the rest
 abbrev pub invariant-loop-rest : goal.invariant-loop-rest

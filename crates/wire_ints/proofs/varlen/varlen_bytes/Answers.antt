@@ -1,7 +1,7 @@
 use Rattle.std.proofs.Common.{◌∙◌, arith}
 use Rattle.std.proofs.Math.ListN.{length-set}
 use Rattle.wire_ints.proofs.SevenLemmas.{room_for_more, sevens_more, sevens_last}
-use Rattle.wire_ints.proofs.varlen.sevens.Goals as goal
+use Rattle.wire_ints.proofs.varlen.varlen_bytes.Goals as goal
 
 pub loop-rest-preserved : goal.loop-rest-preserved
 loop-rest-preserved c =
