@@ -5,3 +5,4 @@ pub mod PacketLemmas
 pub mod PieceLemmas
 pub mod ChunkLemmas
 pub mod VersionLemmas
+pub mod SplitLemmas

@@ -1,5 +1,6 @@
 -- Laws of framings and packets, and of server versions.
 use Rattle.std.specs.Prelude.{◌≡◌, ℕ, ◌<◌, ◌≤◌, slice_index, Option, None, Some, ◌↔◌, List, ◌++◌, length, All}
+use Rattle.wire_buf.specs.Spelling.{AreBytes}
 use Rattle.mysql_wire.specs.Framing.{framing, framings}
 use Rattle.mysql_wire.specs.Packets.{packets, packet_fault}
 use Rattle.mysql_wire.specs.Version.{numbers_at, IsVersion}
@@ -29,6 +30,19 @@ FramingsAreReadBack = (limit k : ℕ) (ps : List (List ℕ)) → All (λ p. leng
 abbrev pub PacketsEnd : Type 0
 PacketsEnd = (limit k : ℕ) (s : List ℕ) (ps : List (List ℕ)) (g u : List ℕ) (fault : Option PacketCodecError) → SplitsInto limit k s ps g u → Halts limit k ps g u fault
     → (packets limit k s ≡ ps) × (packet_fault limit k s ≡ fault)
+
+-- a stream is the framings of payloads, whole chunks of a payload that has more, and bytes of which nothing can be taken, with this fault or with none
+pub record HasSplit (limit k : ℕ) (s : List ℕ) : Type 0 where
+  pub packets : List (List ℕ)
+  pub gathered : List ℕ
+  pub left : List ℕ
+  pub fault : Option PacketCodecError
+  pub splits : SplitsInto limit k s packets gathered left
+  pub halts : Halts limit k packets gathered left fault
+
+-- every stream of bytes is that for some of them
+abbrev pub StreamsHaveASplit : Type 0
+StreamsHaveASplit = (limit k : ℕ) (s : List ℕ) → AreBytes s → HasSplit limit k s
 
 -- a text has three numbers exactly where they stand at its front, with points between, and no digit behind
 abbrev pub VersionsAreTheirNumbers : Type 0

@@ -2,14 +2,14 @@
 //! representations of numbers and strings.
 
 ghost use Rattle.std.specs.Prelude.{◌≡◌, ◌∷◌, [], codes, Some, None, ℕ, List};
-ghost use Rattle.mysql_wire.specs.Laws.{FramingsAreUniquelyRead, PacketsAreAFront, PacketsAreLongest, PacketsEnd, FramingsAreReadBack, VersionsAreTheirNumbers};
+ghost use Rattle.mysql_wire.specs.Laws.{FramingsAreUniquelyRead, PacketsAreAFront, PacketsAreLongest, PacketsEnd, StreamsHaveASplit, FramingsAreReadBack, VersionsAreTheirNumbers};
 ghost use Rattle.mysql_wire.specs.Framing.{framing, next_number};
 ghost use Rattle.mysql_wire.specs.Packets.{packets, packet_fault};
 ghost use Rattle.mysql_wire.specs.Version.{version_of};
 ghost use Rattle.mysql_wire.specs.declared.error.PacketCodecError.TheVariants.{PacketTooLarge, PacketsOutOfSync};
 
 pub use wire_forms::laws::read_back_bytes;
-pub use wire_ints::laws::{read_back, worked_numbers};
+pub use wire_ints::laws::{read_back, spellings_are_shortest, worked_numbers, worked_widths};
 
 /// Framings from one number, each followed by anything, are equal only if the payloads and what follows
 /// them are.
@@ -32,6 +32,12 @@ pub fn packets_are_longest()
 /// nothing can be taken, these payloads are its packets, and the fault of these bytes is its fault.
 pub fn packets_end()
     ensures { PacketsEnd }
+{}
+
+/// Every stream of bytes is the framings of payloads, whole chunks of a payload that has more, and bytes of which nothing
+/// can be taken. By `packets_end` these payloads are its packets.
+pub fn streams_have_a_split()
+    ensures { StreamsHaveASplit }
 {}
 
 /// Framings of payloads within the limit are read back as these payloads, with no fault, from the number

@@ -22,9 +22,9 @@ pub struct PacketCodec {
 }
 
 impl Default for PacketCodec {
-    ghost use Rattle.mysql_wire.specs.Standing.{IsFresh};
+    ghost use Rattle.mysql_wire.specs.Standing.{IsFresh, IsBeforeStreams};
 
-    ghost is_default = { λ codec. IsFresh 4194304 0 codec };
+    ghost is_default = { λ codec. IsFresh 4194304 0 codec × IsBeforeStreams codec };
 
     /// A codec with the limit `DEFAULT_MAX_ALLOWED_PACKET` that counts from 0.
     fn default() -> PacketCodec {
@@ -33,12 +33,12 @@ impl Default for PacketCodec {
 }
 
 impl PacketCodec {
-    ghost use Rattle.mysql_wire.specs.Standing.{IsFresh, HasRead, Decodes, limit_of, number_of, gathered_of, fault_of};
+    ghost use Rattle.mysql_wire.specs.Standing.{IsFresh, IsBetweenPackets, IsBeforeStreams, HasRead, Decodes, limit_of, number_of, gathered_of, fault_of};
 
     /// A codec with this limit, in bytes, whose first chunk has this number.
     pub fn with_number(max_allowed_packet: usize, number: u8) -> PacketCodec
         ensures fresh { IsFresh max_allowed_packet number result }
-        ensures stands { HasRead result number [] [] [] [] }
+        ensures before { IsBeforeStreams result }
     {
         PacketCodec {
             max_allowed_packet,
@@ -54,6 +54,7 @@ impl PacketCodec {
         ensures limit { limit_of self.new ≡ limit_of self.old }
         ensures gathered { gathered_of self.new ≡ gathered_of self.old }
         ensures fault { fault_of self.new ≡ fault_of self.old }
+        ensures before { IsBetweenPackets self.old → IsBeforeStreams self.new }
     {
         self.seq_id = 0;
     }
@@ -126,6 +127,7 @@ impl PacketCodec {
         ensures err { OnErr result ((self.new ≡ self.old) × (dst.new.items ≡ dst.old.items)) }
         ensures too_large { IsErrOf result PacketCodecError.PacketTooLarge ↔ (limit_of self.old < length src.now) }
         ensures kinds { IfErr result (λ e. (e ≡ PacketCodecError.PacketTooLarge) ⊎ (e ≡ PacketCodecError.Memory)) }
+        ensures before { IsBetweenPackets self.old → IsBeforeStreams self.new }
     {
         if src.len() > self.max_allowed_packet {
             return Err(PacketCodecError::PacketTooLarge);

@@ -1,7 +1,9 @@
 ghost use Rattle.std.specs.Prelude.{◌≡◌};
+ghost use Rattle.std.proofs.Common.{rules};
 ghost use Rattle.wire_consts.specs.Numbering.{IsConstantOf};
 ghost use Rattle.wire_consts.specs.ColumnTypes.{column_type_number, is_numeric, is_character, is_enum, is_set, is_enum_or_set, is_geometry, is_vector};
 
+use crate::constant::Constant;
 use thiserror::Error;
 
 /// The type of a column, as column definitions and table maps number it.
@@ -213,4 +215,18 @@ impl From<UnknownColumnType> for u8 {
     fn from(unknown: UnknownColumnType) -> u8 {
         unknown.0
     }
+}
+
+impl Constant<u8> for ColumnType {
+    ghost number = { column_type_number };
+
+    fn to_number(self) -> u8 {
+        self as u8
+    }
+
+    ghost takes = { λ n v h. h };
+
+    ghost refuses = { λ n e h. h.1 };
+
+    ghost its_own = { Prim.search rules };
 }

@@ -1,7 +1,9 @@
 ghost use Rattle.std.specs.Prelude.{◌≡◌};
+ghost use Rattle.std.proofs.Common.{rules};
 ghost use Rattle.wire_consts.specs.Numbering.{IsConstantOf};
 ghost use Rattle.wire_consts.specs.Constants.{geometry_type_number};
 
+use crate::constant::Constant;
 use thiserror::Error;
 
 /// The real type of a `GEOMETRY` column, as the optional metadata of a table map numbers it.
@@ -57,4 +59,18 @@ impl From<UnknownGeometryType> for u8 {
     fn from(unknown: UnknownGeometryType) -> u8 {
         unknown.0
     }
+}
+
+impl Constant<u8> for GeometryType {
+    ghost number = { geometry_type_number };
+
+    fn to_number(self) -> u8 {
+        self as u8
+    }
+
+    ghost takes = { λ n v h. h };
+
+    ghost refuses = { λ n e h. h.1 };
+
+    ghost its_own = { Prim.search rules };
 }

@@ -1,7 +1,9 @@
 ghost use Rattle.std.specs.Prelude.{◌≡◌};
+ghost use Rattle.std.proofs.Common.{rules};
 ghost use Rattle.wire_consts.specs.Constants.{item_result_number};
 ghost use Rattle.wire_consts.specs.Numbering.{IsConstantOf};
 
+use crate::constant::Constant;
 use thiserror::Error;
 
 /// The type of an expression's result, as the value of a user variable numbers it.
@@ -51,4 +53,18 @@ impl From<UnknownItemResultType> for i8 {
     fn from(unknown: UnknownItemResultType) -> i8 {
         unknown.0
     }
+}
+
+impl Constant<i8> for ItemResult {
+    ghost number = { item_result_number };
+
+    fn to_number(self) -> i8 {
+        self as i8
+    }
+
+    ghost takes = { λ n v h. h };
+
+    ghost refuses = { λ n e h. h.1 };
+
+    ghost its_own = { Prim.search rules };
 }

@@ -7,6 +7,7 @@
 mod column_flags;
 mod column_type;
 mod command;
+mod constant;
 mod geometry_type;
 mod item_result;
 mod limits;
@@ -15,6 +16,7 @@ mod query_flags;
 pub use column_flags::{ColumnFlags, UnknownColumnFlags};
 pub use column_type::{ColumnType, UnknownColumnType};
 pub use command::Command;
+pub use constant::Constant;
 pub use geometry_type::{GeometryType, UnknownGeometryType};
 pub use item_result::{ItemResult, UnknownItemResultType};
 pub use limits::{

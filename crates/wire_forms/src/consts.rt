@@ -1,6 +1,6 @@
 //! Constants as their numbers: kept raw, or taken as the constant.
 
-ghost use Rattle.std.specs.Prelude.{◌≡◌, Ok, Err, MatchOption};
+ghost use Rattle.std.specs.Prelude.{◌≡◌, MatchOption};
 ghost use Rattle.std.specs.Borrow.{Lends, sem};
 ghost use Rattle.wire_forms.specs.contracts.consts.Const.{the_row as const_row};
 ghost use Rattle.wire_forms.specs.contracts.consts.RawConst.{the_row as raw_const_row};
@@ -13,24 +13,8 @@ use std::alloc::{Allocator, Global};
 use std::marker::PhantomData;
 use std::ops::{Deref, DerefMut};
 use wire_buf::{MyDeserialize, MySerialize, ParseBuf, WireFault};
+use wire_consts::Constant;
 use wire_ints::IntRepr;
-
-/// A type whose values have numbers of the type `P`, each its own: a number is taken as the value
-/// that has it, and refused where none has it.
-pub trait Constant<P>: TryFrom<P> + Copy {
-    /// The number of a value.
-    ghost number: { Self → P };
-
-    /// The number of the value.
-    fn to_number(self) -> P
-        ensures { result ≡ number self };
-
-    /// `TryFrom` answers the value that has the number.
-    ghost takes: { (n : P) (v : Self) → Self.TryFrom.try_from_gives n (Ok v) → number v ≡ n };
-
-    /// `TryFrom` refuses a number that no value has.
-    ghost refuses: { (n : P) (e : Self.Error) → Self.TryFrom.try_from_gives n (Err e) → (v : Self) → number v ≡ n → ⊥ };
-}
 
 /// A number in the representation `T`, for a constant of the type `U`. It is kept also where no
 /// constant has it.

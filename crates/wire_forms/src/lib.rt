@@ -8,7 +8,6 @@
 #![tactic(auto)]
 
 mod bytes_repr;
-mod constants;
 mod consts;
 mod counted_bytes;
 mod either;
@@ -19,7 +18,7 @@ mod plain_bytes;
 mod raw_bytes;
 
 pub use bytes_repr::BytesRepr;
-pub use consts::{Const, Constant, RawConst};
+pub use consts::{Const, RawConst};
 pub use counted_bytes::{U8Bytes, U32Bytes};
 pub use either::Either;
 pub use fixed::{ConstBytes, ConstBytesValue, ConstU8, ConstU32, Skip};
