@@ -156,11 +156,7 @@ fn put_both<B: BufMut>(buf: &mut B, front: &[u8], back: &[u8]) -> Result<(), Wir
         (B.written buf.new ≡ B.written buf.old ++ (front.now ++ back.now)) }
     ensures err { IfErr result (λ e. (e ≡ Memory) × (B.written buf.new ≡ B.written buf.old)) }
 {
-    let room = front
-        .len()
-        .checked_add(back.len())
-        .ok_or(WireFault::Memory)?;
-    buf.reserve(room)?;
+    buf.reserve(front.len() + back.len())?;
     buf.put_slice(front)?;
     buf.put_slice(back)?;
     Ok(())

@@ -177,3 +177,49 @@ fn server_version_split(rt: HostRuntime) {
     assert_eq!(rt; split_version(b"8.256.1"), (0, 0, 0));
     assert_eq!(rt; split_version(b"5.7"), (0, 0, 0));
 }
+
+#[test]
+fn full_chunk_goes_on(rt: HostRuntime) -> Result<(), Fail> {
+    let alloc = rt.alloc();
+    let mut payload = Vec::new(alloc);
+    payload.resize(MAX_PAYLOAD_LEN, 7)?;
+    let mut stream = BytesMut::new(alloc);
+    PacketCodec::with_number(MAX_PAYLOAD_LEN, 0).encode(&payload, &mut stream)?;
+    assert_eq!(rt; stream.len(), MAX_PAYLOAD_LEN + 8);
+    assert_eq!(rt; &stream.as_slice()[..4], [255, 255, 255, 0].as_slice());
+    assert_eq!(rt;
+        &stream.as_slice()[MAX_PAYLOAD_LEN + 4..],
+        [0, 0, 0, 1].as_slice()
+    );
+
+    let mut codec = PacketCodec::with_number(MAX_PAYLOAD_LEN, 0);
+    let mut front = BytesMut::new(alloc);
+    front.extend_from_slice(&stream.as_slice()[..MAX_PAYLOAD_LEN + 4])?;
+    let mut packet = Vec::new(alloc);
+    assert!(rt; !codec.decode(&mut front, &mut packet)?);
+    assert!(rt; front.is_empty());
+    front.extend_from_slice(&stream.as_slice()[MAX_PAYLOAD_LEN + 4..])?;
+    assert!(rt; codec.decode(&mut front, &mut packet)?);
+    assert!(rt; packet == payload);
+    Ok(())
+}
+
+#[test]
+fn decode_asked_again_after_a_fault(rt: HostRuntime) -> Result<(), Fail> {
+    let mut codec = PacketCodec::with_number(1, 0);
+    let mut src = BytesMut::new(rt.alloc());
+    let mut packet = Vec::new(rt.alloc());
+    src.extend_from_slice(&[2, 0, 0, 0])?;
+    assert_eq!(rt;
+        codec.decode(&mut src, &mut packet),
+        Err(PacketCodecError::PacketTooLarge)
+    );
+    src.extend_from_slice(&[8, 9, 0, 0, 0, 1])?;
+    assert_eq!(rt;
+        codec.decode(&mut src, &mut packet),
+        Err(PacketCodecError::PacketTooLarge)
+    );
+    assert_eq!(rt; src.len(), 10);
+    assert!(rt; packet.is_empty());
+    Ok(())
+}

@@ -250,3 +250,32 @@ fn failing_reader_and_writer(rt: HostRuntime) {
     assert!(rt; writer.push(&[1]).is_err());
     assert!(rt; writer.failed());
 }
+
+#[test]
+fn interrupted_calls_are_tried_again(rt: HostRuntime) -> Result<(), Fail> {
+    let steps = [
+        Some(ErrorKind::Interrupted),
+        Some(ErrorKind::Interrupted),
+        None,
+    ];
+    let mut reader = Watched::new(Device::new(b"ab", &steps));
+    let mut two = [0; 2];
+    assert_eq!(rt; reader.pull(&mut two)?, 1);
+    assert_eq!(rt; two, *b"a\0");
+    assert!(rt; !reader.failed());
+    let mut writer = Watched::new(Device::new(b"", &steps));
+    assert_eq!(rt; writer.push(b"xy")?, 1);
+    assert!(rt; !writer.failed());
+    Ok(())
+}
+
+#[test]
+fn memory_grows_with_the_bytes_that_come(rt: HostRuntime) {
+    let mut more = Vec::new(rt.alloc());
+    assert_eq!(rt;
+        read_more(&mut b"ab".as_slice(), u64::MAX, &mut more),
+        Err(WireFault::Eof)
+    );
+    assert_eq!(rt; more.as_slice(), b"ab".as_slice());
+    assert!(rt; more.capacity() <= 0x2_0000);
+}
