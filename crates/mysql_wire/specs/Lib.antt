@@ -27,9 +27,11 @@ pub use Rattle.wire_consts.specs.Constants
 pub use Rattle.wire_consts.specs.Flags
 pub use Rattle.wire_ints.specs.Raw
 pub use Rattle.wire_ints.specs.Bits
+pub use Rattle.wire_ints.specs.Bytewise
 pub use Rattle.wire_forms.specs.Texts
 pub use Rattle.wire_forms.specs.Eithers
 pub use Rattle.wire_forms.specs.Consts
 pub use Rattle.wire_forms.specs.Overwritten
 pub use Rattle.wire_forms.specs.RawTexts
 pub use Rattle.wire_seqs.specs.Sequences
+pub use Rattle.wire_seqs.specs.Counts

@@ -4,3 +4,4 @@ pub mod OnesLemmas
 pub mod StreamLemmas
 pub mod LenencStreamLemmas
 pub mod FixedLemmas
+pub mod BytewiseLemmas

@@ -1,4 +1,4 @@
--- The bits of a number of n bytes give it back.
+-- The bits of a number of n bytes give it back: lemmas, which stand here since the laws of the trait `Number` cite definitions alone.
 use Rattle.std.proofs.Common.{◌≡◌, ◌≤◌, ◌<◌, ◌-◌, ◌*◌, ◌^◌, ◌%◌, ◌∙◌, ℕ, suc, arith, refl, ap, Option, Some, None, inl, inr}
 use Rattle.std.specs.Prelude.{ℤ, pos, negsuc, neg_ℤ, ◌+ℤ◌, ◌⊎◌, Bool, true, false, if◌then◌else◌, option_map, ◌≤ℤ◌, ◌<ℤ◌}
 use Rattle.std.proofs.Math.Nat.{pow-le-pow_right, pow-succ'}

@@ -6,3 +6,4 @@ pub mod TrailingOnes
 pub mod Streams
 pub mod Raw
 pub mod Bits
+pub mod Bytewise

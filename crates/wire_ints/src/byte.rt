@@ -27,6 +27,14 @@ impl IntRepr for u8 {
         Ok(())
     }
 
+    fn from_bytes(bytes: &[u8]) -> Option<&[u8]> {
+        Some(bytes)
+    }
+
+    fn as_bytes(numbers: &[u8]) -> Option<&[u8]> {
+        Some(numbers)
+    }
+
     ghost sized = { λ v bytes h. h.size };
 }
 

@@ -1,10 +1,11 @@
-ghost use Rattle.std.specs.Prelude.{◌≡◌, List, ℕ, length, OnOk, IfOk, IfErr, Option};
+ghost use Rattle.std.specs.Prelude.{◌≡◌, List, ℕ, length, OnOk, IfOk, IfErr, IfSome, Option};
 ghost use Rattle.wire_buf.specs.Spelling.{Reads, Lacks, IsShortest, HasSize, HasRoom, Alone, Equal, Holding, SameBy};
 ghost use Rattle.wire_buf.specs.Writing.{Writes, Refuses};
 ghost use Rattle.wire_buf.specs.declared.fault.WireFault.TheVariants.{Eof, Memory};
 ghost use Rattle.wire_buf.specs.declared.fault.WireFault.{WireFault};
 ghost use Rattle.std.specs.Borrow.{Lends, sem};
 ghost use Rattle.wire_ints.specs.contracts.int_repr.RawInt.{the_row as raw_int_row};
+ghost use Rattle.wire_ints.specs.Bytewise.{AreBytewise, AreWrittenBytewise};
 ghost use Rattle.wire_ints.specs.Raw.{with_number};
 
 use std::alloc::{Allocator, Global};
@@ -51,6 +52,22 @@ pub trait IntRepr {
     fn serialize<A: Allocator>(val: Self::Primitive, buf: &mut Vec<u8, A>) -> Result<(), WireFault>
         ensures ok { OnOk result (Writes spelling spells (kept val) buf.old.items buf.new.items) }
         ensures err { IfErr result (λ e. Refuses spelling (kept val) e buf.old.items buf.new.items) };
+
+    /// The numbers that the bytes spell, each byte one, where the representation is that of bytes; else None.
+    fn from_bytes(bytes: &[u8]) -> Option<&[Self::Primitive]>
+        ensures { IfSome result (λ numbers. AreBytewise spells numbers.now bytes.now) }
+    {
+        let _ = bytes;
+        None
+    }
+
+    /// The bytes that are written for the numbers, each one byte, where the representation is that of bytes; else None.
+    fn as_bytes(numbers: &[Self::Primitive]) -> Option<&[u8]>
+        ensures { IfSome result (λ bytes. AreWrittenBytewise spelling spells kept numbers.now bytes.now) }
+    {
+        let _ = numbers;
+        None
+    }
 
     /// A spelling has the size.
     ghost sized: { (v : Self.Primitive) (bytes : List ℕ) → spells v bytes → HasSize Self.Size.SIZE (length bytes) };

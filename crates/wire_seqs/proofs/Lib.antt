@@ -1,3 +1,4 @@
 pub mod SequenceLemmas
 pub mod ShortestLemmas
 pub mod CountLemmas
+pub mod BytewiseLemmas

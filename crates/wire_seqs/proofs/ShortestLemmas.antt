@@ -9,7 +9,7 @@ use Rattle.wire_seqs.proofs.SequenceLemmas.{take_more}
 
 module _ {A : Type 0} (fact : A → List ℕ → Type 0) where
   -- whether values stand one after the other doesn't hang on what follows
-  before_any : (n : ℕ) (vs : List A) (bytes r s : List ℕ) → IsSequence n (Alone fact) vs bytes r → IsSequence n (Alone fact) vs bytes s
+  pub before_any : (n : ℕ) (vs : List A) (bytes r s : List ℕ) → IsSequence n (Alone fact) vs bytes r → IsSequence n (Alone fact) vs bytes s
   before_any zero vs bytes r s h = h
   before_any (suc n) vs bytes r s h = record {
     front = h.front;

@@ -1,6 +1,7 @@
-ghost use Rattle.std.specs.Prelude.{◌≡◌, ◌⊎◌, ◌↔◌, [], length, slice_get, option_map, IfOk, IfErr, OnErr, IsTrue};
+ghost use Rattle.std.specs.Prelude.{◌≡◌, ◌⊎◌, ◌↔◌, [], length, slice_get, option_map, IfOk, IfErr, IfSome, IfNone, OnOk, OnErr, IsTrue};
 ghost use Rattle.std.specs.Cow.{cow_slice_items, IsOwnedSlice};
 ghost use Rattle.wire_buf.specs.Spelling.{Reads, Lacks, Alone, Equal, Holding, SameBy, SameAll, IsSequence, IsShortest};
+ghost use Rattle.wire_buf.specs.Writing.{Appends, AppendsOf, Refuses};
 ghost use Rattle.wire_buf.specs.declared.fault.WireFault.TheVariants.{Memory};
 ghost use Rattle.wire_seqs.specs.Sequences.{joined_spelling, NumberRefusal, NumbersRefusal};
 
@@ -96,8 +97,8 @@ impl<'de, T: IntRepr, U> MyDeserialize<'de> for RawSeq<'de, T, U> {
         ctx: usize,
         buf: &mut ParseBuf<'de>,
     ) -> Result<RawSeq<'de, T, U>, WireFault> {
-        let numbers = read_numbers::<T>(alloc, ctx, buf)?;
-        Ok(RawSeq::new(CowSlice::Owned(numbers)))
+        let numbers = take_numbers::<T>(alloc, ctx, buf)?;
+        Ok(RawSeq::new(numbers))
     }
 
     ghost sized = { λ ctx v bytes rest h. tt };
@@ -112,14 +113,71 @@ impl<'a, T: IntRepr, U> MySerialize for RawSeq<'a, T, U> {
         (Alone (λ n. IsShortest T.spells (T.kept n))) (cow_slice_items v.0) bytes [] };
 
     fn serialize<A: Allocator>(&self, buf: &mut Vec<u8, A>) -> Result<(), WireFault> {
-        let start = buf.len();
-        for number in self.0.as_slice() {
-            if let Err(fault) = T::serialize(*number, buf) {
-                return whole_or_none(Err(fault), start, buf);
-            }
-        }
-        Ok(())
+        write_numbers::<T, A>(self.0.as_slice(), buf)
     }
+}
+
+/// Appends the bytes of the numbers, or nothing where one of them is refused.
+fn write_numbers<T: IntRepr, A: Allocator>(
+    numbers: &[T::Primitive],
+    buf: &mut Vec<u8, A>,
+) -> Result<(), WireFault>
+    ensures ok { OnOk result (Appends (joined_spelling (λ n. T.spelling (T.kept n))) numbers.now
+        buf.old.items buf.new.items) }
+    ensures shortest { OnOk result (AppendsOf (λ bytes. IsSequence (length numbers.now)
+        (Alone (λ n. IsShortest T.spells (T.kept n))) numbers.now bytes [])
+        buf.old.items buf.new.items) }
+    ensures err { IfErr result (λ e. Refuses (joined_spelling (λ n. T.spelling (T.kept n)))
+        numbers.now e buf.old.items buf.new.items) }
+{
+    if let Some(bytes) = T::as_bytes(numbers) {
+        buf.extend_from_slice(bytes)?;
+        return Ok(());
+    }
+    let start = buf.len();
+    for number in numbers {
+        if let Err(fault) = T::serialize(*number, buf) {
+            return whole_or_none(Err(fault), start, buf);
+        }
+    }
+    Ok(())
+}
+
+/// Takes `count` numbers: as a part of the source where each of them is a byte and all are there, else read one by one.
+fn take_numbers<'de, T: IntRepr>(
+    alloc: Global,
+    count: usize,
+    buf: &mut ParseBuf<'de>,
+) -> Result<CowSlice<'de, T::Primitive>, WireFault>
+    ensures ok { IfOk result (λ v. Reads (IsSequence count (Alone T.spells)) (SameAll Equal)
+        (cow_slice_items v) buf.old.0.now buf.new.0.now) }
+    ensures err { IfErr result (λ e. (e ≡ Memory)
+        ⊎ Lacks (IsSequence count (Alone T.spells)) buf.old.0.now) }
+    ensures why { IfErr result
+        (NumbersRefusal count T.Size.SIZE T.spells T.fault_at buf.old.0.now) }
+{
+    if let Some(numbers) = borrow_numbers::<T>(count, buf) {
+        return Ok(CowSlice::Borrowed(numbers));
+    }
+    let numbers = read_numbers::<T>(alloc, count, buf)?;
+    Ok(CowSlice::Owned(numbers))
+}
+
+/// The next `count` numbers as a part of the source, where each of them is a byte and all are there; else None, and
+/// nothing is eaten.
+fn borrow_numbers<'de, T: IntRepr>(
+    count: usize,
+    buf: &mut ParseBuf<'de>,
+) -> Option<&'de [T::Primitive]>
+    ensures some { IfSome result (λ numbers. Reads (IsSequence count (Alone T.spells)) (SameAll Equal)
+        numbers.now buf.old.0.now buf.new.0.now) }
+    ensures none { IfNone result (buf.new.0.now ≡ buf.old.0.now) }
+{
+    let mut rest = *buf;
+    let bytes = rest.checked_eat(count)?;
+    let numbers = T::from_bytes(bytes)?;
+    *buf = rest;
+    Some(numbers)
 }
 
 /// Reads `count` numbers. Memory grows with what is read.
