@@ -8,6 +8,7 @@ pub use rows_decimal::laws::{
     packed_forms_are_uniquely_read, packed_forms_are_unpacked, texts_are_taken_back,
     worked_decimals, worked_unpacking,
 };
+pub use rows_jsonb::laws::{worked_budget, worked_depth, worked_objects, worked_pointer};
 pub use rows_values::laws::{
     equal_columns_and_times_are_the_same, equal_rows_are_the_same, equal_values_are_the_same,
     fields_stand_at_their_places, times_by_cases, worked_bits, worked_date_and_time, worked_time,

@@ -2,8 +2,9 @@
 //! that their cells hold, columns and bits.
 //!
 //! Each thing is made in a part of its own, which is re-exported whole: `rows_consts` and `rows_flags` have
-//! the constants, `rows_values` times, values, columns, bits and the faults of rows, and `rows_decimal` the
-//! decimals. The parts stand on those of `mysql_wire`.
+//! the constants, `rows_values` times, values, columns, bits and the faults of rows, `rows_decimal` the
+//! decimals, and `rows_jsonb` JSON documents, whose values are `jsonb::Value`. The parts stand on those of
+//! `mysql_wire`.
 #![tactic(auto)]
 
 pub mod laws;
@@ -26,6 +27,13 @@ pub use rows_decimal::{
 pub use rows_flags::{
     EventFlags, GtidFlags, RowsEventFlags, SemiSyncFlags, UnknownEventFlags, UnknownGtidFlags,
     UnknownRowsEventFlags, UnknownSemiSyncFlags, UnknownUserVarFlags, UserVarFlags,
+};
+pub use rows_jsonb as jsonb;
+pub use rows_jsonb::{
+    Array, ArrayIter, ComplexType, ComplexValue, JsonContainer, JsonDiff, JsonDiffOperation,
+    JsonDom, JsonNumber, JsonOpaque, JsonScalar, JsonbString, JsonbType, Large, LiteralType,
+    Object, ObjectIter, ObjectKey, ObjectKeys, OpaqueValue, Small, StorageFormat,
+    UnknownJsonDiffOperation, UnknownJsonbType, UnknownLiteralType,
 };
 pub use rows_values::{
     Bits, BitsIter, Column, DATETIMEF_INT_OFS, JsonbError, MysqlTime, MysqlTimestampType, Row,

@@ -17,6 +17,8 @@ mod faults;
 #[cfg(test)]
 mod flags;
 #[cfg(test)]
+mod jsonb;
+#[cfg(test)]
 mod laws;
 #[cfg(test)]
 mod packed_decimals;

@@ -1,0 +1,11 @@
+pub mod KnownLemmas
+pub mod FormLemmas
+pub mod VarLenLemmas
+pub mod Utf8Lemmas
+pub mod Building
+pub mod DomLemmas
+pub mod SoundLemmas
+pub mod TypeLemmas
+pub mod DocumentLemmas
+pub mod FieldLemmas
+pub mod DiffLemmas

@@ -1,0 +1,9 @@
+use Rattle.std.proofs.Common.{sym, ◌∙◌}
+use Rattle.std.proofs.lemmas.Result.{on_ok_weaker}
+use Rattle.rows_jsonb.proofs.DocumentLemmas.{document_eaten}
+use Rattle.rows_jsonb.proofs.value.Value.read_document.Goals as goal
+
+pub returns-in-Some-of_byte-clause-rest : goal.returns-in-Some-of_byte-clause-rest
+returns-in-Some-of_byte-clause-rest c =
+    let eats = c.in-Some.ensures.some in
+    on_ok_weaker c.read.result (document_eaten _ _ _ _ _ eats.room eats.value_is eats.rest (sym c.of_byte.ensures ∙ c.in-Some-of_byte.is)) c.read.ensures.rest

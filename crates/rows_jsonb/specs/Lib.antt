@@ -1,0 +1,14 @@
+pub mod JsonbTypes
+pub mod JsonbLayout
+pub mod AllColumnTypes
+pub mod JsonbValues
+pub mod JsonbFields
+pub mod JsonDiffs
+pub mod JsonDiffViews
+pub mod JsonbViews
+pub mod JsonTrees
+pub mod DocumentTrees
+pub mod JsonTreeViews
+pub mod JsonOpaqueText
+pub mod JsonParsing
+pub mod WorkedDocuments

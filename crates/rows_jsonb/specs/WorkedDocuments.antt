@@ -1,0 +1,26 @@
+-- Worked documents of arrays within arrays.
+use Rattle.std.specs.Prelude.{ℕ, zero, suc, List, [], ◌∷◌, ◌++◌, ◌+◌, length}
+use Rattle.byteorder.specs.Endian.{little_bytes}
+use Rattle.rows_jsonb.specs.JsonTrees.{Tree, array, item, no_items}
+
+-- A small array, from its count on, of two entries that both point to what follows the header; n such arrays within one another, the last of which points to an empty array.
+abbrev pub doubled : ℕ → List ℕ
+doubled zero = 0 ∷ 0 ∷ 4 ∷ 0 ∷ []
+doubled (suc n) =
+    let inner = doubled n in
+    2 ∷ 0 ∷ (little_bytes 2 (10 + length inner) ++ (2 ∷ 10 ∷ 0 ∷ 2 ∷ 10 ∷ 0 ∷ inner))
+
+abbrev pub doubled_tree : ℕ → Tree
+doubled_tree zero = array no_items
+doubled_tree (suc n) = let t = doubled_tree n in array (item t (item t no_items))
+
+-- n small arrays within one another, each but the last with one entry
+abbrev pub nested : ℕ → List ℕ
+nested zero = 0 ∷ 0 ∷ 4 ∷ 0 ∷ []
+nested (suc n) =
+    let inner = nested n in
+    1 ∷ 0 ∷ (little_bytes 2 (7 + length inner) ++ (2 ∷ 7 ∷ 0 ∷ inner))
+
+abbrev pub nested_tree : ℕ → Tree
+nested_tree zero = array no_items
+nested_tree (suc n) = array (item (nested_tree n) no_items)

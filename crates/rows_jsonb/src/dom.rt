@@ -1,0 +1,85 @@
+//! Documents as trees: each value apart from the bytes that it was read from.
+
+ghost use Rattle.std.specs.Prelude.{◌≡◌, Some};
+
+use base64::display::Base64Display;
+use base64::engine::general_purpose::STANDARD;
+use rows_decimal::Decimal;
+use rows_values::MysqlTime;
+use std::collections::BTreeMap;
+use std::fmt;
+use wire_consts::ColumnType;
+
+/// A document as a tree.
+#[derive(PartialEq, Drop)]
+#[cycle(dom)]
+pub enum JsonDom {
+    Container(JsonContainer),
+    Scalar(JsonScalar),
+}
+
+/// An array or an object.
+#[derive(PartialEq, Drop)]
+#[cycle(dom)]
+pub enum JsonContainer {
+    Array(Vec<JsonDom>),
+    Object(BTreeMap<String, JsonDom>),
+}
+
+/// A value that holds no others.
+#[derive(PartialEq, Drop)]
+pub enum JsonScalar {
+    Boolean(bool),
+    Null,
+    DateTime(MysqlTime),
+    Number(JsonNumber),
+    Opaque(JsonOpaque),
+    String(String),
+}
+
+/// A number.
+#[derive(PartialEq, Drop)]
+pub enum JsonNumber {
+    /// A decimal, without leading groups of zeros.
+    Decimal(Decimal),
+    /// The bits of a double.
+    Double(u64),
+    Int(i64),
+    Uint(u64),
+}
+
+/// A value of a column's type, as its bytes.
+#[derive(PartialEq, Drop)]
+pub struct JsonOpaque {
+    pub(crate) field_type: ColumnType,
+    pub(crate) value: Vec<u8>,
+}
+
+impl JsonOpaque {
+    /// The column's type.
+    pub fn field_type(&self) -> ColumnType
+        ensures { result ≡ self.now.field_type }
+    {
+        self.field_type
+    }
+
+    /// The bytes.
+    pub fn value(&self) -> &[u8]
+        ensures { result.now ≡ self.now.value.items }
+    {
+        &self.value
+    }
+}
+
+impl fmt::Display for JsonOpaque {
+    ghost use Rattle.rows_jsonb.specs.JsonOpaqueText.{opaque_text};
+
+    ghost output = { λ o. Some (opaque_text o) };
+
+    /// `base64:type`, the number of the column's type, `:` and the bytes in base64.
+    fn fmt<W: fmt::Write>(&self, f: &mut fmt::Formatter<W>) -> fmt::Result {
+        let number = u8::from(self.field_type);
+        let bytes = Base64Display::new(&self.value, &STANDARD);
+        write!(f, "base64:type{number}:{bytes}")
+    }
+}

@@ -1,0 +1,153 @@
+//! The elements and keys of containers: one proof for the four forms.
+
+ghost use Rattle.std.specs.Prelude.{◌≡◌, ◌<◌, option_map, true, false};
+ghost use Rattle.std.specs.Cow.{cow_slice_items};
+ghost use Rattle.wire_forms.specs.RawTexts.{text_of};
+ghost use Rattle.rows_jsonb.specs.JsonbLayout.{form as form_of};
+ghost use Rattle.rows_jsonb.specs.JsonbValues.{elem, key, member, elem_up_to, key_up_to, elem_in, key_of, count_in, is_object_in};
+ghost use Rattle.rows_jsonb.specs.JsonbViews.{shown, jsonb_value};
+
+use crate::complex::ComplexValue;
+use crate::format::{ComplexType, Object, StorageFormat};
+use crate::text::ObjectKey;
+use crate::types::JsonbType;
+use crate::value::Value;
+use rows_values::{JsonbError, RowsError};
+use std::borrow::CowSlice;
+use wire_buf::ParseBuf;
+
+impl<'a, T: StorageFormat, U: ComplexType> ComplexValue<'a, T, U> {
+    /// The element number `pos`, or None where there are not so many.
+    pub fn elem_at(&self, pos: u32) -> Result<Option<Value<'_>>, RowsError>
+        ensures { shown (option_map jsonb_value) result
+            ≡ elem_up_to (form_of T.IS_LARGE U.IS_ARRAY) self.now.element_count (cow_slice_items self.now.bytes) pos }
+    {
+        if pos >= self.element_count {
+            return Ok(None);
+        }
+        match self.elem(pos) {
+            Ok(value) => Ok(Some(value)),
+            Err(fault) => Err(fault),
+        }
+    }
+
+    /// The element number `pos`.
+    #[tactic(auto, using(crate::proofs::FormLemmas::entry_within, crate::proofs::FormLemmas::offset_least))]
+    pub(crate) fn elem(&self, pos: u32) -> Result<Value<'_>, RowsError>
+        requires { pos < self.now.element_count }
+        ensures { shown jsonb_value result
+            ≡ elem (form_of T.IS_LARGE U.IS_ARRAY) self.now.element_count (cow_slice_items self.now.bytes) pos }
+    {
+        let at = U::value_entry_offset::<T>(self.element_count, pos);
+        let Some(value_type) = JsonbType::of_byte(self.bytes[at]) else {
+            return Err(RowsError::Jsonb(None));
+        };
+        let entry = &self.bytes[at + 1..];
+        if value_type.is_inlined::<T>() {
+            return Value::read(
+                value_type,
+                &mut ParseBuf(&entry[..usize::from(T::OFFSET_SIZE)]),
+            );
+        }
+        let offset = T::eat_offset(&mut ParseBuf(entry)) as usize;
+        if self.bytes.len() < offset || offset < at + usize::from(T::VALUE_ENTRY_SIZE) {
+            return Err(RowsError::Jsonb(Some(JsonbError::InvalidValueOffsetPointer)));
+        }
+        Value::read(value_type, &mut ParseBuf(&self.bytes[offset..]))
+    }
+}
+
+impl<'a, T: StorageFormat> ComplexValue<'a, T, Object> {
+    /// The key number `pos`, or None where there are not so many.
+    pub fn key_at(&self, pos: u32) -> Result<Option<ObjectKey<'_>>, RowsError>
+        ensures { shown (option_map (λ k. text_of k.0)) result
+            ≡ key_up_to (form_of T.IS_LARGE false) self.now.element_count (cow_slice_items self.now.bytes) pos }
+    {
+        if pos >= self.element_count {
+            return Ok(None);
+        }
+        match self.key(pos) {
+            Ok(bytes) => Ok(Some(ObjectKey::new(CowSlice::Borrowed(bytes)))),
+            Err(fault) => Err(fault),
+        }
+    }
+
+    /// The bytes of the key number `pos`.
+    #[tactic(auto, using(crate::proofs::FormLemmas::key_entry_within, crate::proofs::FormLemmas::offset_least))]
+    pub(crate) fn key(&self, pos: u32) -> Result<&[u8], RowsError>
+        requires { pos < self.now.element_count }
+        ensures { shown (λ s. s.now) result
+            ≡ key (form_of T.IS_LARGE false) self.now.element_count (cow_slice_items self.now.bytes) pos }
+    {
+        let at = 2 * usize::from(T::OFFSET_SIZE) + usize::from(T::KEY_ENTRY_SIZE) * pos as usize;
+        let mut entry = ParseBuf(&self.bytes[at..]);
+        let offset = T::eat_offset(&mut entry) as usize;
+        let len = usize::from(entry.eat_u16_le());
+        if offset < Object::header_size::<T>(self.element_count)
+            || self.bytes.len() < offset + len
+        {
+            return Err(RowsError::Jsonb(Some(JsonbError::InvalidKeyOffsetPointer)));
+        }
+        Ok(&self.bytes[offset..offset + len])
+    }
+}
+
+impl<T: StorageFormat> ComplexValue<'_, T, Object> {
+    /// The member number `pos`: its key, and its value.
+    pub(crate) fn member(&self, pos: u32) -> Result<(ObjectKey<'_>, Value<'_>), RowsError>
+        requires { pos < self.now.element_count }
+        ensures { shown (λ m. (text_of m.0.0, jsonb_value m.1)) result
+            ≡ member (form_of T.IS_LARGE false) self.now.element_count (cow_slice_items self.now.bytes) pos }
+    {
+        let bytes = match self.key(pos) {
+            Ok(bytes) => bytes,
+            Err(fault) => return Err(fault),
+        };
+        match self.elem(pos) {
+            Ok(value) => Ok((ObjectKey::new(CowSlice::Borrowed(bytes)), value)),
+            Err(fault) => Err(fault),
+        }
+    }
+}
+
+impl<'a> Value<'a> {
+    /// How many elements it has; what is no container has none.
+    pub(crate) fn count(&self) -> u32
+        ensures { result ≡ count_in (jsonb_value self.now) }
+    {
+        match self {
+            Value::SmallArray(container) => container.element_count(),
+            Value::LargeArray(container) => container.element_count(),
+            Value::SmallObject(container) => container.element_count(),
+            Value::LargeObject(container) => container.element_count(),
+            _ => 0,
+        }
+    }
+
+    /// The element number `pos`.
+    pub(crate) fn elem(&self, pos: u32) -> Result<Value<'_>, RowsError>
+        requires { pos < count_in (jsonb_value self.now) }
+        ensures { shown jsonb_value result ≡ elem_in (jsonb_value self.now) pos }
+    {
+        match self {
+            Value::SmallArray(container) => container.elem(pos),
+            Value::LargeArray(container) => container.elem(pos),
+            Value::SmallObject(container) => container.elem(pos),
+            Value::LargeObject(container) => container.elem(pos),
+            _ => Err(RowsError::Jsonb(None)),
+        }
+    }
+
+    /// The bytes of the key number `pos` of an object.
+    pub(crate) fn key(&self, pos: u32) -> Result<&[u8], RowsError>
+        requires object { is_object_in (jsonb_value self.now) ≡ true }
+        requires below { pos < count_in (jsonb_value self.now) }
+        ensures { shown (λ s. s.now) result ≡ key_of (jsonb_value self.now) pos }
+    {
+        match self {
+            Value::SmallObject(container) => container.key(pos),
+            Value::LargeObject(container) => container.key(pos),
+            _ => Err(RowsError::Jsonb(None)),
+        }
+    }
+}

@@ -1,0 +1,40 @@
+//! Worked documents. Each is a function that does nothing, whose contract is computed.
+
+ghost use Rattle.std.specs.Prelude.{◌≡◌, ◌∷◌, [], pos, length};
+ghost use Rattle.rows_jsonb.specs.JsonTrees as tree;
+ghost use Rattle.rows_jsonb.specs.JsonTrees.{scalar, object, member, no_members};
+ghost use Rattle.rows_jsonb.specs.JsonbValues.{bad};
+ghost use Rattle.rows_jsonb.specs.DocumentTrees.{document_tree};
+ghost use Rattle.rows_jsonb.specs.WorkedDocuments.{doubled, doubled_tree, nested, nested_tree};
+ghost use Rattle.rows_values.specs.declared.fault.RowsError.TheVariants.{Jsonb};
+ghost use Rattle.rows_values.specs.declared.fault.JsonbError.TheVariants.{InvalidValueOffsetPointer};
+
+/// Documents that are objects of one member, the second with a key that stands twice; and no bytes.
+pub fn worked_objects()
+    ensures null_member { document_tree (0 ∷ 1 ∷ 0 ∷ 12 ∷ 0 ∷ 11 ∷ 0 ∷ 1 ∷ 0 ∷ 4 ∷ 0 ∷ 0 ∷ 97 ∷ [])
+        ≡ Ok (object (member (97 ∷ []) (scalar tree.null) no_members)) }
+    ensures last_wins { document_tree (0 ∷ 2 ∷ 0 ∷ 19 ∷ 0 ∷ 18 ∷ 0 ∷ 1 ∷ 0 ∷ 18 ∷ 0 ∷ 1 ∷ 0 ∷ 5 ∷ 1 ∷ 0 ∷ 5 ∷ 2 ∷ 0 ∷ 97 ∷ [])
+        ≡ Ok (object (member (97 ∷ []) (scalar (tree.int (pos 2))) no_members)) }
+    ensures no_bytes { document_tree [] ≡ Ok (scalar tree.null) }
+{}
+
+/// An array of one string whose offset lies within its own entry.
+pub fn worked_pointer()
+    ensures { document_tree (2 ∷ 1 ∷ 0 ∷ 7 ∷ 0 ∷ 12 ∷ 3 ∷ 0 ∷ [])
+        ≡ Err (Jsonb (Some InvalidValueOffsetPointer)) }
+{}
+
+/// Arrays of two entries that point to the same array: the values double, and the bytes don't.
+pub fn worked_budget()
+    ensures four_bytes { length (doubled 4) ≡ 44 }
+    ensures four { document_tree (2 ∷ doubled 4) ≡ Ok (doubled_tree 4) }
+    ensures five_bytes { length (doubled 5) ≡ 54 }
+    ensures five { document_tree (2 ∷ doubled 5) ≡ Err bad }
+{}
+
+/// A hundred arrays within one another, and one more.
+pub fn worked_depth()
+    ensures hundred_bytes { length (nested 99) ≡ 697 }
+    ensures hundred { document_tree (2 ∷ nested 99) ≡ Ok (nested_tree 99) }
+    ensures more { document_tree (2 ∷ nested 100) ≡ Err bad }
+{}

@@ -1,0 +1,195 @@
+//! From a value in a document to its tree.
+
+ghost use Rattle.std.specs.Prelude.{◌≡◌, true, string_bytes};
+ghost use Rattle.wire_consts.specs.ColumnTypes.{column_type_number};
+ghost use Rattle.rows_jsonb.specs.JsonTrees.{scalar, no_members};
+ghost use Rattle.rows_jsonb.specs.JsonbValues.{elem_in, key_of, count_in, is_object_in};
+ghost use Rattle.rows_jsonb.specs.DocumentTrees.{items, members, tree_of, tree_in, size_of, bare_tree, opaque_tree, utf8};
+ghost use Rattle.rows_jsonb.specs.JsonbViews.{jsonb_value};
+ghost use Rattle.rows_jsonb.specs.JsonTreeViews.{view, scalar_view, items_view, members_view};
+ghost use Rattle.rows_jsonb.specs.JsonParsing.{Gives, Meets, Parses};
+
+use crate::dom::{JsonContainer, JsonDom, JsonNumber, JsonOpaque, JsonScalar};
+use crate::value::Value;
+use rows_decimal::Decimal;
+use rows_values::{MysqlTime, RowsError};
+use std::alloc::Global;
+use std::collections::BTreeMap;
+use std::str;
+use wire_buf::ParseBuf;
+use wire_consts::ColumnType;
+
+/// The text of a string or a key.
+fn text(alloc: Global, bytes: &[u8]) -> Result<String, RowsError>
+    ensures { Gives string_bytes result (utf8 bytes.now) }
+{
+    match str::from_utf8(bytes) {
+        Ok(text) => Ok(String::from_str(alloc, text)?),
+        Err(_) => Err(RowsError::Jsonb(None)),
+    }
+}
+
+/// A value of a column's type: dates and times are taken apart.
+fn parse_opaque(
+    alloc: Global,
+    value_type: ColumnType,
+    bytes: &[u8],
+) -> Result<JsonScalar, RowsError>
+    ensures { Gives (λ s. (scalar (scalar_view s), 1)) result
+        (opaque_tree (column_type_number value_type) bytes.now) }
+{
+    match value_type {
+        ColumnType::MYSQL_TYPE_DATE => match ParseBuf(bytes).checked_eat_i64_le() {
+            Some(packed) => Ok(JsonScalar::DateTime(MysqlTime::from_int64_date_packed(packed))),
+            None => Err(RowsError::Jsonb(None)),
+        },
+        ColumnType::MYSQL_TYPE_TIME => match ParseBuf(bytes).checked_eat_i64_le() {
+            Some(packed) => Ok(JsonScalar::DateTime(MysqlTime::from_int64_time_packed(packed))),
+            None => Err(RowsError::Jsonb(None)),
+        },
+        ColumnType::MYSQL_TYPE_DATETIME => match ParseBuf(bytes).checked_eat_i64_le() {
+            Some(packed) => Ok(JsonScalar::DateTime(MysqlTime::from_int64_datetime_packed(packed))),
+            None => Err(RowsError::Jsonb(None)),
+        },
+        ColumnType::MYSQL_TYPE_TIMESTAMP => match ParseBuf(bytes).checked_eat_i64_le() {
+            Some(packed) => Ok(JsonScalar::DateTime(MysqlTime::from_int64_datetime_packed(packed))),
+            None => Err(RowsError::Jsonb(None)),
+        },
+        ColumnType::MYSQL_TYPE_NEWDECIMAL => match Decimal::from_packed(alloc, bytes, false) {
+            Ok(decimal) => Ok(JsonScalar::Number(JsonNumber::Decimal(decimal))),
+            Err(RowsError::Memory) => Err(RowsError::Memory),
+            Err(_) => Err(RowsError::Jsonb(None)),
+        },
+        _ => {
+            let mut value = Vec::new(alloc);
+            value.extend_from_slice(bytes)?;
+            Ok(JsonScalar::Opaque(JsonOpaque {
+                field_type: value_type,
+                value,
+            }))
+        }
+    }
+}
+
+/// A value that is no container; a container is refused.
+fn parse_scalar(alloc: Global, value: &Value<'_>) -> Result<JsonScalar, RowsError>
+    ensures { Gives (λ s. (scalar (scalar_view s), 1)) result (bare_tree (jsonb_value value.now)) }
+{
+    match value {
+        Value::Null => Ok(JsonScalar::Null),
+        Value::Bool(b) => Ok(JsonScalar::Boolean(*b)),
+        Value::I16(x) => Ok(JsonScalar::Number(JsonNumber::Int(i64::from(*x)))),
+        Value::U16(x) => Ok(JsonScalar::Number(JsonNumber::Uint(u64::from(*x)))),
+        Value::I32(x) => Ok(JsonScalar::Number(JsonNumber::Int(i64::from(*x)))),
+        Value::U32(x) => Ok(JsonScalar::Number(JsonNumber::Uint(u64::from(*x)))),
+        Value::I64(x) => Ok(JsonScalar::Number(JsonNumber::Int(*x))),
+        Value::U64(x) => Ok(JsonScalar::Number(JsonNumber::Uint(*x))),
+        Value::F64(bits) => Ok(JsonScalar::Number(JsonNumber::Double(*bits))),
+        Value::String(string) => Ok(JsonScalar::String(text(alloc, string.str_raw())?)),
+        Value::Opaque(opaque) => parse_opaque(alloc, opaque.value_type(), opaque.data_raw()),
+        _ => Err(RowsError::Jsonb(None)),
+    }
+}
+
+/// The tree of a value in which `depth` containers may nest and which may count `budget` values; what
+/// it counts is taken from the budget.
+#[cycle(parse)]
+fn parse_in(
+    alloc: Global,
+    value: &Value<'_>,
+    depth: usize,
+    budget: &mut usize,
+) -> Result<JsonDom, RowsError>
+    ensures { Meets view budget.old budget.new result (tree_of depth (jsonb_value value.now)) }
+{
+    if *budget == 0 {
+        return Err(RowsError::Jsonb(None));
+    }
+    *budget -= 1;
+    if depth == 0 {
+        let leaf = parse_scalar(alloc, value)?;
+        return Ok(JsonDom::Scalar(leaf));
+    }
+    if value.is_array() {
+        let items = parse_items(alloc, value, depth - 1, budget)?;
+        return Ok(JsonDom::Container(JsonContainer::Array(items)));
+    }
+    if value.is_object() {
+        let members = parse_members(alloc, value, depth - 1, budget)?;
+        return Ok(JsonDom::Container(JsonContainer::Object(members)));
+    }
+    let leaf = parse_scalar(alloc, value)?;
+    Ok(JsonDom::Scalar(leaf))
+}
+
+/// The trees of an array's elements.
+#[cycle(parse)]
+fn parse_items(
+    alloc: Global,
+    array: &Value<'_>,
+    depth: usize,
+    budget: &mut usize,
+) -> Result<Vec<JsonDom>, RowsError>
+    ensures { Meets (λ v. items_view v.items) budget.old budget.new result
+        (items (tree_of depth) (elem_in (jsonb_value array.now)) 0 (count_in (jsonb_value array.now))) }
+{
+    let mut found = Vec::new(alloc);
+    'items: for pos in 0..array.count() {
+        let value = array.elem(pos)?;
+        let item = parse_in(alloc, &value, depth, budget)?;
+        found.push(item)?;
+    }
+    Ok(found)
+}
+
+/// The trees of an object's members; the last of equal keys stays.
+#[cycle(parse)]
+fn parse_members(
+    alloc: Global,
+    object: &Value<'_>,
+    depth: usize,
+    budget: &mut usize,
+) -> Result<BTreeMap<String, JsonDom>, RowsError>
+    requires { is_object_in (jsonb_value object.now) ≡ true }
+    ensures { Meets (λ m. members_view m.entries) budget.old budget.new result
+        (members (tree_of depth) (key_of (jsonb_value object.now)) (elem_in (jsonb_value object.now))
+        0 (count_in (jsonb_value object.now)) no_members) }
+{
+    let mut found = BTreeMap::new(alloc);
+    'members: for pos in 0..object.count() {
+        let bytes = object.key(pos)?;
+        let value = object.elem(pos)?;
+        let name = text(alloc, bytes)?;
+        let member = parse_in(alloc, &value, depth, budget)?;
+        drop(found.insert(name, member)?);
+    }
+    Ok(found)
+}
+
+/// How many containers may nest.
+const MAX_DEPTH: usize = 100;
+
+impl Value<'_> {
+    /// The bytes of a container.
+    fn size(&self) -> usize
+        ensures { result ≡ size_of (jsonb_value self.now) }
+    {
+        match self {
+            Value::SmallArray(container) => container.bytes.len(),
+            Value::LargeArray(container) => container.bytes.len(),
+            Value::SmallObject(container) => container.bytes.len(),
+            Value::LargeObject(container) => container.bytes.len(),
+            _ => 0,
+        }
+    }
+
+    /// The tree of this value: at most 100 containers nest, and it counts at most one value more
+    /// than the outermost container has bytes.
+    pub fn parse(self, alloc: Global) -> Result<JsonDom, RowsError>
+        ensures { Parses view result (tree_in (jsonb_value self.entry)) }
+    {
+        let mut budget = 1 + self.size();
+        let tree = parse_in(alloc, &self, MAX_DEPTH, &mut budget)?;
+        Ok(tree)
+    }
+}

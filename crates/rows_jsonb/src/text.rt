@@ -1,0 +1,142 @@
+//! Strings, keys and opaque values, as they lie in a document.
+
+ghost use Rattle.std.specs.Prelude.{◌≡◌, IfOk};
+ghost use Rattle.std.specs.Cow.{cow_slice_items, cow_str_bytes, IsOwnedSlice};
+ghost use Rattle.std.specs.Str.Lossy.{utf8_lossy};
+ghost use Rattle.wire_forms.specs.RawTexts.{text_of};
+
+use std::alloc::{AllocError, Global};
+use std::borrow::{CowSlice, CowStr};
+use wire_consts::ColumnType;
+use wire_forms::{BareU16Bytes, RawBytes};
+use wire_ints::VarLen;
+
+/// The bytes of a string of a document, which may not be UTF-8.
+#[derive(PartialEq, Eq, Drop)]
+pub struct JsonbString<'a>(pub(crate) RawBytes<'a, VarLen>);
+
+impl<'a> JsonbString<'a> {
+    /// A string of these bytes.
+    pub fn new(string: CowSlice<'a, u8>) -> JsonbString<'a>
+        ensures { result.0.0 ≡ string.entry }
+    {
+        JsonbString(RawBytes::new(string))
+    }
+
+    /// The bytes.
+    pub fn str_raw(&self) -> &[u8]
+        ensures { result.now ≡ text_of self.now.0 }
+    {
+        self.0.as_bytes()
+    }
+
+    /// The string as text, with replacement characters where it isn't UTF-8.
+    pub fn str(&self, alloc: Global) -> Result<CowStr<'_>, AllocError>
+        ensures { IfOk result (λ t. cow_str_bytes t ≡ utf8_lossy (text_of self.now.0)) }
+    {
+        self.0.as_str(alloc)
+    }
+
+    /// The same string, borrowed from nothing.
+    pub fn into_owned(self, alloc: Global) -> Result<JsonbString<'static>, AllocError>
+        ensures text { IfOk result (λ t. text_of t.0 ≡ text_of self.entry.0) }
+        ensures owned { IfOk result (λ t. IsOwnedSlice t.0.0) }
+    {
+        Ok(JsonbString(self.0.into_owned(alloc)?))
+    }
+
+    /// The bytes, borrowed or owned as they are.
+    pub fn into_raw(self) -> CowSlice<'a, u8>
+        ensures { result ≡ self.entry.0.0 }
+    {
+        self.0.0
+    }
+}
+
+/// The key of a member, which may not be UTF-8.
+#[derive(PartialEq, Eq, Drop)]
+pub struct ObjectKey<'a>(pub(crate) RawBytes<'a, BareU16Bytes>);
+
+impl<'a> ObjectKey<'a> {
+    /// A key of these bytes.
+    pub fn new(key: CowSlice<'a, u8>) -> ObjectKey<'a>
+        ensures { result.0.0 ≡ key.entry }
+    {
+        ObjectKey(RawBytes::new(key))
+    }
+
+    /// The bytes.
+    pub fn value_raw(&self) -> &[u8]
+        ensures { result.now ≡ text_of self.now.0 }
+    {
+        self.0.as_bytes()
+    }
+
+    /// The key as text, with replacement characters where it isn't UTF-8.
+    pub fn value(&self, alloc: Global) -> Result<CowStr<'_>, AllocError>
+        ensures { IfOk result (λ t. cow_str_bytes t ≡ utf8_lossy (text_of self.now.0)) }
+    {
+        self.0.as_str(alloc)
+    }
+}
+
+/// A value of a column's type that JSON has not, as its bytes.
+#[derive(PartialEq, Drop)]
+pub struct OpaqueValue<'a> {
+    pub(crate) value_type: ColumnType,
+    pub(crate) data: RawBytes<'a, VarLen>,
+}
+
+impl<'a> OpaqueValue<'a> {
+    /// A value of this type with these bytes.
+    pub fn new(value_type: ColumnType, data: CowSlice<'a, u8>) -> OpaqueValue<'a>
+        ensures value_type { result.value_type ≡ value_type }
+        ensures bytes { result.data.0 ≡ data.entry }
+    {
+        OpaqueValue {
+            value_type,
+            data: RawBytes::new(data),
+        }
+    }
+
+    /// The column's type.
+    pub fn value_type(&self) -> ColumnType
+        ensures { result ≡ self.now.value_type }
+    {
+        self.value_type
+    }
+
+    /// The bytes.
+    pub fn data_raw(&self) -> &[u8]
+        ensures { result.now ≡ text_of self.now.data }
+    {
+        self.data.as_bytes()
+    }
+
+    /// The bytes as text, with replacement characters where they aren't UTF-8.
+    pub fn data(&self, alloc: Global) -> Result<CowStr<'_>, AllocError>
+        ensures { IfOk result (λ t. cow_str_bytes t ≡ utf8_lossy (text_of self.now.data)) }
+    {
+        self.data.as_str(alloc)
+    }
+
+    /// The same value, borrowed from nothing.
+    pub fn into_owned(self, alloc: Global) -> Result<OpaqueValue<'static>, AllocError>
+        ensures value_type { IfOk result (λ o. o.value_type ≡ self.entry.value_type) }
+        ensures bytes { IfOk result (λ o. text_of o.data ≡ text_of self.entry.data) }
+        ensures owned { IfOk result (λ o. IsOwnedSlice o.data.0) }
+    {
+        let OpaqueValue { value_type, data } = self;
+        Ok(OpaqueValue {
+            value_type,
+            data: data.into_owned(alloc)?,
+        })
+    }
+
+    /// The bytes, borrowed or owned as they are.
+    pub fn into_data(self) -> CowSlice<'a, u8>
+        ensures { result ≡ self.entry.data.0 }
+    {
+        self.data.0
+    }
+}
