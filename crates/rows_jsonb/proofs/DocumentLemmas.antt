@@ -1,5 +1,5 @@
 -- What a document takes of its bytes.
-use Rattle.std.proofs.Common.{◌≡◌, ◌≤◌, ◌+◌, ℕ, suc, List, [], ◌∷◌, length, drop, arith, refl, sym, ◌∙◌, ap, Option, Some}
+use Rattle.std.proofs.Common.{◌≡◌, ◌≤◌, ◌+◌, ℕ, suc, List, [], ◌∷◌, length, drop, arith, refl, sym, ◌∙◌, Some}
 use Rattle.std.specs.Prelude.{slice_index}
 use Rattle.rows_jsonb.specs.JsonbTypes.{type_of}
 use Rattle.rows_jsonb.specs.JsonbViews.{IsEaten}

@@ -1,12 +1,12 @@
 -- A value that was taken from the front of bytes is the one that is spelled there.
-use Rattle.std.proofs.Common.{◌≡◌, ◌++◌, ◌≤◌, ℕ, List, length, take, drop, refl, sym, ◌∙◌, ap}
+use Rattle.std.proofs.Common.{◌≡◌, ◌++◌, ℕ, List, take, drop, sym, ◌∙◌, ap}
 use Rattle.std.proofs.lemmas.List.{take-append-drop, length-take-le}
 use Rattle.std.proofs.Math.Seq.{drop-append_seam}
 use Rattle.std.specs.Result.{OnOk, IfOk}
 use Rattle.std.specs.declared.result.Result.{Result}
 use Rattle.std.specs.declared.result.Result.TheVariants.{Ok, Err}
 use Rattle.rows_values.specs.declared.fault.RowsError.{RowsError}
-use Rattle.wire_buf.specs.Spelling.{Begins, Reads, Lacks, Holding, SameBy, Equal}
+use Rattle.wire_buf.specs.Spelling.{Reads, Lacks, Holding, SameBy, Equal}
 use Rattle.rows_jsonb.specs.JsonbValues.{Reading}
 use Rattle.rows_jsonb.specs.JsonbFields.{IsTaken}
 use Rattle.rows_jsonb.specs.JsonbViews.{IsEaten, shown}

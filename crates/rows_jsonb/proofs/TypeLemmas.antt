@@ -1,5 +1,5 @@
 -- The type and the literal that a number has, found in a table.
-use Rattle.std.proofs.Common.{◌≡◌, ℕ, List, [], ◌∷◌, true, false, refl, subst, inl, inr, Option, Some, None}
+use Rattle.std.proofs.Common.{◌≡◌, ℕ, List, [], ◌∷◌, refl, subst, inl, inr, Some, None}
 use Rattle.std.specs.Prelude.{◌==◌, find}
 use Rattle.std.proofs.lemmas.Bool.Decides.{eqb_tells}
 use Rattle.rows_jsonb.specs.JsonbTypes.{jsonb_type_number, jsonb_types, type_of, literal_type_number, literal_types, literal_of}

@@ -1,4 +1,4 @@
-use Rattle.std.proofs.Common.{inr, sym, refl, ap}
+use Rattle.std.proofs.Common.{inr, ap}
 use Rattle.std.specs.Prelude.{option_map}
 use Rattle.std.specs.Cow.{cow_slice_items}
 use Rattle.wire_buf.specs.Spelling.{Equal}
