@@ -1,12 +1,12 @@
 -- Every stream of bytes has a split into packets and where they halt.
-use Rattle.std.proofs.Common.{◌≡◌, inl, inr, ℕ, zero, suc, ◌+◌, ◌<◌, ◌≤◌, ◌++◌, Bool, true, false, List, [], ◌∷◌, length, drop, slice_index, refl, arith, length-drop}
+use Rattle.std.proofs.Common.{◌≡◌, inl, inr, ℕ, zero, suc, ◌+◌, ◌<◌, ◌≤◌, ◌++◌, false, List, [], ◌∷◌, length, refl, arith, length-drop}
 use Rattle.std.proofs.lemmas.List.{get_or-drop}
 use Rattle.std.proofs.lemmas.Bool.{cases_Bool}
 use Rattle.byteorder.specs.Numbers.{little_from-lt}
 use Rattle.wire_buf.specs.Spelling.{AreBytes}
 use Rattle.mysql_wire.specs.Framing.{longest}
 use Rattle.mysql_wire.specs.Reading.{len_at, takes, fault_at, bytes_at, behind, IsHeader}
-use Rattle.mysql_wire.specs.Standing.{SplitsInto, Halts, next_after}
+use Rattle.mysql_wire.specs.Standing.{SplitsInto, next_after}
 use Rattle.mysql_wire.specs.Laws.{HasSplit}
 use Rattle.mysql_wire.proofs.PacketLemmas.{order}
 use Rattle.mysql_wire.proofs.ReadingLemmas.{Taken, taken_parts}

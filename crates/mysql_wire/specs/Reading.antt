@@ -1,5 +1,5 @@
 -- What a chunk's header at the front of bytes says: length in three bytes, then the number.
-use Rattle.std.specs.Prelude.{ℕ, ◌+◌, ◌<◌, ◌*◌, ◌%◌, Bool, ◌&&◌, List, length, take, drop, slice_index, Option, Some, None, nat_le, ◌==◌, if◌then◌else◌}
+use Rattle.std.specs.Prelude.{ℕ, ◌+◌, ◌<◌, ◌%◌, Bool, ◌&&◌, List, length, take, drop, slice_index, Option, Some, None, nat_le, ◌==◌, if◌then◌else◌}
 use Rattle.byteorder.specs.Endian.{little_number}
 use Rattle.mysql_wire.specs.declared.error.PacketCodecError.{PacketCodecError}
 use Rattle.mysql_wire.specs.declared.error.PacketCodecError.TheVariants.{PacketTooLarge, PacketsOutOfSync}

@@ -1,5 +1,5 @@
 -- Byte strings that end in a zero, and strings behind a VarLen.
-use Rattle.std.proofs.Common.{◌≡◌, ◌≢◌, ◌≤◌, ◌<◌, ◌++◌, ℕ, List, [], ◌∷◌, length, take, drop, slice_index, get_or, zero, suc, drop-cons, arith, refl, sym, ap, subst, ◌∙◌, ◌^◌, inl, inr, Some, None, Result, Ok, Err, OnOk, Bool, true, false, nat_lt, if◌then◌else◌, IsErr, IsErrAnd, IfErr}
+use Rattle.std.proofs.Common.{◌≡◌, ◌≢◌, ◌≤◌, ◌<◌, ◌++◌, ℕ, List, [], ◌∷◌, length, take, drop, slice_index, get_or, zero, suc, drop-cons, arith, refl, sym, ap, ◌∙◌, ◌^◌, inl, inr, Some, None, Result, Bool, true, false, nat_lt, if◌then◌else◌, IsErr, IsErrAnd, IfErr}
 use Rattle.std.specs.Bool.{⊤}
 use Rattle.std.proofs.lemmas.List.{take-append-drop, length-take-le, append_assoc}
 use Rattle.std.proofs.lemmas.Result.{err_from_is_err_and}

@@ -1,5 +1,5 @@
 -- Bytes are numbers of one byte each.
-use Rattle.std.proofs.Common.{◌≡◌, ◌<◌, ◌%◌, ◌^◌, inl, inr, ℕ, suc, List, [], ◌∷◌, length, slice_index, add-zero, arith, refl, sym, ap, ◌∙◌}
+use Rattle.std.proofs.Common.{◌≡◌, ◌<◌, ◌%◌, ◌^◌, inl, inr, ℕ, suc, List, [], ◌∷◌, length, slice_index, add-zero, arith, refl, sym}
 use Rattle.std.proofs.lemmas.Bool.Decides.{leb_tells}
 use Rattle.wire_buf.specs.Numbers.{IsLittle}
 use Rattle.wire_buf.proofs.NumberLemmas.{byte_reads}

@@ -1,10 +1,8 @@
 -- Writing numbers and counted strings appends their shortest spellings.
-use Rattle.std.proofs.Common.{◌≡◌, ◌≤◌, ◌<◌, ◌^◌, ◌++◌, inl, inr, ℕ, suc, List, [], ◌∷◌, length, ◌%◌, append_assoc, arith, refl, sym, ap, subst, ◌∙◌, Some, Result, IsErr, IsErrAnd, IfErr}
-use Rattle.std.proofs.lemmas.List.{length-append, append-nil, get_or_past}
+use Rattle.std.proofs.Common.{◌≡◌, ◌≤◌, ◌<◌, ◌^◌, ◌++◌, inl, inr, ℕ, suc, List, [], ◌∷◌, length, ◌%◌, arith, refl, ap, subst, Some}
+use Rattle.std.proofs.lemmas.List.{length-append, get_or_past}
 use Rattle.std.proofs.lemmas.Bool.Decides.{leb_tells}
-use Rattle.std.proofs.lemmas.Result.{err_from_is_err_and}
 use Rattle.std.proofs.Math.ListN.{get_or-append}
-use Rattle.std.proofs.Math.Seq.{take-append_seam}
 use Rattle.byteorder.specs.Endian.{little_bytes}
 use Rattle.wire_buf.specs.Spelling.{AreBytes, IsShortest}
 use Rattle.wire_buf.specs.Numbers.{IsLenenc, IsLittle, IsCounted, IsLenencString, lenenc_spelling}

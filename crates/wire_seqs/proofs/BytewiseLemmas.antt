@@ -1,5 +1,5 @@
 -- Sequences of numbers of one byte each, read and written at once.
-use Rattle.std.proofs.Common.{◌≡◌, ◌++◌, ◌+◌, ◌<◌, ℕ, zero, suc, List, [], ◌∷◌, length, take, drop, append_assoc, add-zero, arith, refl, sym, ap, subst, ◌∙◌, Option, Some}
+use Rattle.std.proofs.Common.{◌≡◌, ◌++◌, ◌+◌, ℕ, zero, suc, List, [], ◌∷◌, length, take, drop, append_assoc, add-zero, arith, refl, sym, ap, subst, ◌∙◌, Option, Some}
 use Rattle.std.proofs.lemmas.List.{append-nil, take-append-drop, length-take-le}
 use Rattle.wire_buf.specs.Spelling.{Reads, Alone, Equal, IsSequence, SameAll, IsShortest}
 use Rattle.wire_buf.specs.Eating.{Eats}

@@ -1,4 +1,4 @@
-use Rattle.std.proofs.Common.{◌≡◌, ◌≤◌, ◌<◌, ◌-◌, ◌+◌, ◌*◌, ◌^◌, ◌∙◌, suc, arith, refl, ap, rules, option_map}
+use Rattle.std.proofs.Common.{◌-◌, ◌+◌, arith, refl}
 use Rattle.wire_ints.proofs.SevenLemmas.{sevens_begun, sevens_gone_on, sevens_ended, sevens_cut_off, sevens_run_out, part_fits, scale_more, below_more}
 use Rattle.wire_ints.proofs.varlen.front_sevens.Goals as goal
 

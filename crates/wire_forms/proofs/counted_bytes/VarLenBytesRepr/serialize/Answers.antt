@@ -1,4 +1,4 @@
-use Rattle.std.proofs.Common.{take, ap, arith, ◌∙◌, ◌++◌, ◌<◌, ◌^◌, ◌≡◌, ◌≤◌, length}
+use Rattle.std.proofs.Common.{take, ap, arith, ◌∙◌, ◌++◌}
 use Rattle.std.proofs.Math.Nat.{min_comm}
 use Rattle.std.proofs.lemmas.List.{take_min, length-take}
 use Rattle.wire_forms.proofs.TextLemmas.{varlen_writes}

@@ -1,4 +1,4 @@
-use Rattle.std.proofs.Common.{◌≡◌, ◌∙◌, ◌++◌, ◌≤◌, length, ap, arith}
+use Rattle.std.proofs.Common.{◌∙◌, ◌++◌, ◌≤◌, length, ap, arith}
 use Rattle.std.proofs.lemmas.Result.{on_ok_weaker}
 use Rattle.wire_ints.proofs.WritingLemmas.{counted_writes, byte_counted}
 use Rattle.wire_ints.proofs.buf_mut_ext.BufMutExt.put_u8_str.Goals as goal
