@@ -282,16 +282,16 @@ bytes_behind : (n : ℕ) (s : List ℕ) → ((i : ℕ) → get_or s i 0 < 256) �
 bytes_behind n s h i = rw (get_or-drop n s i 0) (h (n + i))
 
 -- what the reader takes stands there
-payload_stands : (n limit k before : ℕ) (s p : List ℕ) → ((i : ℕ) → get_or s i 0 < 256) → payload_in n limit k before s ≡ Some p → (r : List ℕ) × (s ≡ framing k p ++ r) × (before + length p ≤ limit)
-payload_stands zero limit k before s p h e = absurd (differ p (sym (payload_zero limit k before s) ∙ e))
+payload_in-sound : (n limit k before : ℕ) (s p : List ℕ) → ((i : ℕ) → get_or s i 0 < 256) → payload_in n limit k before s ≡ Some p → (r : List ℕ) × (s ≡ framing k p ++ r) × (before + length p ≤ limit)
+payload_in-sound zero limit k before s p h e = absurd (differ p (sym (payload_zero limit k before s) ∙ e))
   where
     differ : (p : List ℕ) → None ≡ Some p → ⊥
     differ p h = cc
-payload_stands (suc n) limit k before s p h e =
+payload_in-sound (suc n) limit k before s p h e =
     elim (cases_Bool (takes k limit before s)) [
       | inl t ↦ elim (order (len_at s) longest) [
         | inl short ↦ last t short
-        | inr long ↦ more t (full_at t long) (λ b q. payload_stands n limit (k + 1) (before + longest) (behind s) b (bytes_behind (4 + len_at s) s h) q) (payload_in n limit (k + 1) (before + longest) (behind s)) refl
+        | inr long ↦ more t (full_at t long) (λ b q. payload_in-sound n limit (k + 1) (before + longest) (behind s) b (bytes_behind (4 + len_at s) s h) q) (payload_in n limit (k + 1) (before + longest) (behind s)) refl
       ]
       | inr f ↦ absurd (differ p (sym (payload_none (suc n) limit k before s f) ∙ e))
     ]
@@ -337,17 +337,17 @@ payload_stands (suc n) limit k before s p h e =
 bytes_of_front : (s a r : List ℕ) → s ≡ a ++ r → ((i : ℕ) → get_or s i 0 < 256) → (i : ℕ) → get_or r i 0 < 256
 bytes_of_front s a r is h i = subst (λ (t : List ℕ). get_or t i 0 < 256) (ap (λ (t : List ℕ). drop (length a) t) is ∙ drop_at a r (length a) refl) (bytes_behind (length a) s h i)
 
-none_stand : (limit k : ℕ) (s : List ℕ) (ps : List (List ℕ)) → ps ≡ [] → (r : List ℕ) × (s ≡ framings k ps ++ r) × All (λ p. length p ≤ limit) ps
+front_none : (limit k : ℕ) (s : List ℕ) (ps : List (List ℕ)) → ps ≡ [] → (r : List ℕ) × (s ≡ framings k ps ++ r) × All (λ p. length p ≤ limit) ps
 unfolding framings
-none_stand limit k s ps e = (s, ap (λ (q : List (List ℕ)). framings k q ++ s) (sym e), subst (λ (q : List (List ℕ)). All (λ p. length p ≤ limit) q) (sym e) (search rules))
+front_none limit k s ps e = (s, ap (λ (q : List (List ℕ)). framings k q ++ s) (sym e), subst (λ (q : List (List ℕ)). All (λ p. length p ≤ limit) q) (sym e) (search rules))
 
 packets_zero : (limit k : ℕ) (s : List ℕ) → packets_in 0 limit k s ≡ []
 unfolding packets_in
 packets_zero limit k s = refl
 
-cons_stand : (limit k : ℕ) (s p r t : List ℕ) (ps qs : List (List ℕ)) → qs ≡ p ∷ ps → s ≡ framing k p ++ r → r ≡ framings (next_number k p) ps ++ t → length p ≤ limit → All (λ q. length q ≤ limit) ps → (t : List ℕ) × (s ≡ framings k qs ++ t) × All (λ q. length q ≤ limit) qs
+front_cons : (limit k : ℕ) (s p r t : List ℕ) (ps qs : List (List ℕ)) → qs ≡ p ∷ ps → s ≡ framing k p ++ r → r ≡ framings (next_number k p) ps ++ t → length p ≤ limit → All (λ q. length q ≤ limit) ps → (t : List ℕ) × (s ≡ framings k qs ++ t) × All (λ q. length q ≤ limit) qs
 unfolding framings
-cons_stand limit k s p r t ps qs e a b short all = (
+front_cons limit k s p r t ps qs e a b short all = (
   t,
   a ∙ ap (λ (x : List ℕ). framing k p ++ x) b ∙ sym (append_assoc (framing k p) (framings (next_number k p) ps) t) ∙ ap (λ (q : List (List ℕ)). framings k q ++ t) (sym e),
   subst (λ (q : List (List ℕ)). All (λ x. length x ≤ limit) q) (sym e) (cons_all p ps limit short all),
@@ -358,22 +358,22 @@ cons_stand limit k s p r t ps qs e a b short all = (
     cons_all p ps limit h all (suc i) d lt = all i d (omega arith)
 
 -- the packets' framings are a front
-pub packets_stand : (n limit k : ℕ) (s : List ℕ) → ((i : ℕ) → get_or s i 0 < 256) → (r : List ℕ) × (s ≡ framings k (packets_in n limit k s) ++ r) × All (λ p. length p ≤ limit) (packets_in n limit k s)
-packets_stand zero limit k s h = nothing limit k s
+pub packets_in-sound : (n limit k : ℕ) (s : List ℕ) → ((i : ℕ) → get_or s i 0 < 256) → (r : List ℕ) × (s ≡ framings k (packets_in n limit k s) ++ r) × All (λ p. length p ≤ limit) (packets_in n limit k s)
+packets_in-sound zero limit k s h = nothing limit k s
   where
     nothing : (limit k : ℕ) (s : List ℕ) → (r : List ℕ) × (s ≡ framings k (packets_in 0 limit k s) ++ r) × All (λ p. length p ≤ limit) (packets_in 0 limit k s)
-    nothing limit k s = none_stand limit k s (packets_in 0 limit k s) (packets_zero limit k s)
-packets_stand (suc n) limit k s h =
-    go (λ p r. packets_stand n limit (next_number k p) r) (payload_in (suc (limit / longest)) limit k 0 s) refl
+    nothing limit k s = front_none limit k s (packets_in 0 limit k s) (packets_zero limit k s)
+packets_in-sound (suc n) limit k s h =
+    go (λ p r. packets_in-sound n limit (next_number k p) r) (payload_in (suc (limit / longest)) limit k 0 s) refl
   where
     go : ((p r : List ℕ) → ((i : ℕ) → get_or r i 0 < 256) → (t : List ℕ) × (r ≡ framings (next_number k p) (packets_in n limit (next_number k p) r) ++ t) × All (λ q. length q ≤ limit) (packets_in n limit (next_number k p) r)) → (o : Option (List ℕ)) → payload_in (suc (limit / longest)) limit k 0 s ≡ o → (r : List ℕ) × (s ≡ framings k (packets_in (suc n) limit k s) ++ r) × All (λ p. length p ≤ limit) (packets_in (suc n) limit k s)
-    go rec None q = none_stand limit k s (packets_in (suc n) limit k s) (packets_nil (suc n) limit k s q)
+    go rec None q = front_none limit k s (packets_in (suc n) limit k s) (packets_nil (suc n) limit k s q)
     go rec (Some p) q =
-        let x = payload_stands (suc (limit / longest)) limit k 0 s p h q in
+        let x = payload_in-sound (suc (limit / longest)) limit k 0 s p h q in
         let y = rec p x.0 (bytes_of_front s (framing k p) x.0 x.1 h) in
         let e : packets_in (suc n) limit k s ≡ p ∷ packets_in n limit (next_number k p) x.0 =
         packets_cons n limit k s p q ∙ ap (λ (t : List ℕ). p ∷ packets_in n limit (next_number k p) t) (ap (λ (t : List ℕ). drop (length (framing k p)) t) x.1 ∙ drop_at (framing k p) x.0 (length (framing k p)) refl) in
-        cons_stand limit k s p x.0 y.0 (packets_in n limit (next_number k p) x.0) (packets_in (suc n) limit k s) e x.1 y.1 (omega (arith, x.2)) y.2
+        front_cons limit k s p x.0 y.0 (packets_in n limit (next_number k p) x.0) (packets_in (suc n) limit k s) e x.1 y.1 (omega (arith, x.2)) y.2
 
 -- framings alone are read as the payloads
 pub framings_read : (limit k : ℕ) (ps : List (List ℕ)) → All (λ p. length p ≤ limit) ps → (packets limit k (framings k ps) ≡ ps) × (packet_fault limit k (framings k ps) ≡ None)

@@ -64,9 +64,9 @@ same_three : (p q : ℕ × ℕ × ℕ) → Some p ≡ Some q → (p.0 ≡ q.0) �
 same_three p q h = let all : p ≡ q = cc h in (ap (λ r. r.0) all, ap (λ r. r.1) all, ap (λ r. r.2) all)
 
 -- a number at the front is that of the digits there
-number_found : (n : ℕ) (x r : List ℕ) → number_at x ≡ Some (n, r) → IsVersionNumber n (leading_digits x) × (x ≡ leading_digits x ++ r) × (leading_digits r ≡ [])
+number_at-sound : (n : ℕ) (x r : List ℕ) → number_at x ≡ Some (n, r) → IsVersionNumber n (leading_digits x) × (x ≡ leading_digits x ++ r) × (leading_digits r ≡ [])
 unfolding number_at
-number_found n x r = elim (leb_tells 1 (length (leading_digits x))) [
+number_at-sound n x r = elim (leb_tells 1 (length (leading_digits x))) [
   | inl some ↦ rw some.0 (elim (leb_tells (suc (decimal (leading_digits x))) 256) [
     | inl few ↦ rw few.0 (λ h.
         let parts = same_pair (decimal (leading_digits x), drop (length (leading_digits x)) x) (n, r) h in
@@ -81,9 +81,9 @@ number_found n x r = elim (leb_tells 1 (length (leading_digits x))) [
   | inr none ↦ rw none.0 (λ h. absurd (cc h))
 ]
 
-number_stands : (n : ℕ) (ds r : List ℕ) → IsVersionNumber n ds → leading_digits r ≡ [] → number_at (ds ++ r) ≡ Some (n, r)
+number_at-complete : (n : ℕ) (ds r : List ℕ) → IsVersionNumber n ds → leading_digits r ≡ [] → number_at (ds ++ r) ≡ Some (n, r)
 unfolding number_at
-number_stands n ds r is stop =
+number_at-complete n ds r is stop =
     let few : decimal ds < 256 = subst (λ k. k < 256) (sym is.value_is) is.fits in
     rw (lead_append is_ascii_digit ds r is.all_digits stop)
     (elim (leb_tells 1 (length ds)) [
@@ -94,10 +94,10 @@ number_stands n ds r is stop =
       | inr t ↦ let some = is.some in absurd (omega (arith, t.1, some))
     ])
 
-point_found : (x r : List ℕ) → behind_point x ≡ Some r → x ≡ 46 ∷ r
+behind_point-sound : (x r : List ℕ) → behind_point x ≡ Some r → x ≡ 46 ∷ r
 unfolding behind_point
-point_found [] r = λ h. absurd (cc h)
-point_found (c ∷ x) r = elim (eqb_tells c 46) [
+behind_point-sound [] r = λ h. absurd (cc h)
+behind_point-sound (c ∷ x) r = elim (eqb_tells c 46) [
   | inl e ↦ rw e.0 (λ h. let rest : x ≡ r = cc h in ap (λ k. k ∷ x) e.1 ∙ ap (λ l. 46 ∷ l) rest)
   | inr e ↦ rw e.0 (λ h. absurd (cc h))
 ]
@@ -106,35 +106,35 @@ and_then_some : {T U : Type 0} (f : T → Option U) (o : Option T) (u : U) → o
 and_then_some f None u h = absurd (cc h)
 and_then_some f (Some t) u h = (t, refl, h)
 
-version_found : (major minor patch : ℕ) (text : List ℕ) → numbers_at text ≡ Some (major, minor, patch) → IsVersion major minor patch text
+numbers_at-sound : (major minor patch : ℕ) (text : List ℕ) → numbers_at text ≡ Some (major, minor, patch) → IsVersion major minor patch text
 unfolding numbers_at
-version_found major minor patch text h =
+numbers_at-sound major minor patch text h =
     let a = and_then_some _ (number_at text) _ h in
     let b = and_then_some _ (behind_point a.0.1) _ a.2 in
     let c = and_then_some _ (number_at b.0) _ b.2 in
     let d = and_then_some _ (behind_point c.0.1) _ c.2 in
     let e = and_then_some _ (number_at d.0) _ d.2 in
-    let p = number_found a.0.0 text a.0.1 a.1 in
-    let q = number_found c.0.0 b.0 c.0.1 c.1 in
-    let s = number_found e.0.0 d.0 e.0.1 e.1 in
+    let p = number_at-sound a.0.0 text a.0.1 a.1 in
+    let q = number_at-sound c.0.0 b.0 c.0.1 c.1 in
+    let s = number_at-sound e.0.0 d.0 e.0.1 e.1 in
     let values = same_three (a.0.0, c.0.0, e.0.0) (major, minor, patch) e.2 in
     record {
       first = leading_digits text;
       second = leading_digits b.0;
       third = leading_digits d.0;
       rest = e.0.1;
-      joined = p.1 ∙ ap (λ l. leading_digits text ++ l) (point_found a.0.1 b.0 b.1 ∙ ap (λ l. 46 ∷ l)
-          (q.1 ∙ ap (λ l. leading_digits b.0 ++ l) (point_found c.0.1 d.0 d.1 ∙ ap (λ l. 46 ∷ l) s.1)));
+      joined = p.1 ∙ ap (λ l. leading_digits text ++ l) (behind_point-sound a.0.1 b.0 b.1 ∙ ap (λ l. 46 ∷ l)
+          (q.1 ∙ ap (λ l. leading_digits b.0 ++ l) (behind_point-sound c.0.1 d.0 d.1 ∙ ap (λ l. 46 ∷ l) s.1)));
       first_is = subst (λ k. IsVersionNumber k (leading_digits text)) values.0 p.0;
       second_is = subst (λ k. IsVersionNumber k (leading_digits b.0)) values.1 q.0;
       third_is = subst (λ k. IsVersionNumber k (leading_digits d.0)) values.2 s.0;
       ends = s.2;
     }
 
-version_stands : (major minor patch : ℕ) (text : List ℕ) → IsVersion major minor patch text → numbers_at text ≡ Some (major, minor, patch)
+numbers_at-complete : (major minor patch : ℕ) (text : List ℕ) → IsVersion major minor patch text → numbers_at text ≡ Some (major, minor, patch)
 unfolding numbers_at behind_point
-version_stands major minor patch text v =
-    rw (v.joined, number_stands major v.first _ v.first_is refl, number_stands minor v.second _ v.second_is refl, number_stands patch v.third v.rest v.third_is v.ends) refl
+numbers_at-complete major minor patch text v =
+    rw (v.joined, number_at-complete major v.first _ v.first_is refl, number_at-complete minor v.second _ v.second_is refl, number_at-complete patch v.third v.rest v.third_is v.ends) refl
 
 pub version_numbers : VersionsAreTheirNumbers
-version_numbers major minor patch text = (version_found major minor patch text, version_stands major minor patch text)
+version_numbers major minor patch text = (numbers_at-sound major minor patch text, numbers_at-complete major minor patch text)
