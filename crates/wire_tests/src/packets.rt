@@ -10,7 +10,7 @@ use std::alloc::Global;
 use std::test::Fail;
 
 #[test]
-fn codec_framings_and_crc(rt: HostRuntime) -> Result<(), Fail> {
+fn framings_of_payloads(rt: HostRuntime) -> Result<(), Fail> {
     let mut dst = BytesMut::new(rt.alloc());
     PacketCodec::default().encode(&[0x31, 0x32, 0x33], &mut dst)?;
     assert_eq!(rt; dst.as_slice(), [3, 0, 0, 0, 0x31, 0x32, 0x33].as_slice());
@@ -183,24 +183,23 @@ fn full_chunk_goes_on(rt: HostRuntime) -> Result<(), Fail> {
     let alloc = rt.alloc();
     let mut payload = Vec::new(alloc);
     payload.resize(MAX_PAYLOAD_LEN, 7)?;
-    let mut stream = BytesMut::new(alloc);
-    PacketCodec::with_number(MAX_PAYLOAD_LEN, 0).encode(&payload, &mut stream)?;
-    assert_eq!(rt; stream.len(), MAX_PAYLOAD_LEN + 8);
-    assert_eq!(rt; &stream.as_slice()[..4], [255, 255, 255, 0].as_slice());
-    assert_eq!(rt;
-        &stream.as_slice()[MAX_PAYLOAD_LEN + 4..],
-        [0, 0, 0, 1].as_slice()
-    );
-
     let mut codec = PacketCodec::with_number(MAX_PAYLOAD_LEN, 0);
-    let mut front = BytesMut::new(alloc);
-    front.extend_from_slice(&stream.as_slice()[..MAX_PAYLOAD_LEN + 4])?;
+    let mut src = BytesMut::new(alloc);
     let mut packet = Vec::new(alloc);
-    assert!(rt; !codec.decode(&mut front, &mut packet)?);
-    assert!(rt; front.is_empty());
-    front.extend_from_slice(&stream.as_slice()[MAX_PAYLOAD_LEN + 4..])?;
-    assert!(rt; codec.decode(&mut front, &mut packet)?);
+    src.extend_from_slice(&[255, 255, 255, 0])?;
+    src.extend_from_slice(&payload)?;
+    assert!(rt; !codec.decode(&mut src, &mut packet)?);
+    assert!(rt; src.is_empty());
+    src.extend_from_slice(&[0, 0, 0, 1])?;
+    assert!(rt; codec.decode(&mut src, &mut packet)?);
     assert!(rt; packet == payload);
+
+    let mut framed = BytesMut::new(alloc);
+    PacketCodec::with_number(MAX_PAYLOAD_LEN, 0).encode(&payload, &mut framed)?;
+    src.extend_from_slice(&[255, 255, 255, 0])?;
+    src.extend_from_slice(&payload)?;
+    src.extend_from_slice(&[0, 0, 0, 1])?;
+    assert!(rt; framed.as_slice() == src.as_slice());
     Ok(())
 }
 
