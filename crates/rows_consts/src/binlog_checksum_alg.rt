@@ -1,8 +1,10 @@
 ghost use Rattle.std.specs.Prelude.{◌≡◌};
+ghost use Rattle.std.proofs.Common.{rules};
 ghost use Rattle.wire_consts.specs.Numbering.{IsConstantOf};
 ghost use Rattle.rows_consts.specs.Constants.{binlog_checksum_alg_number};
 
 use thiserror::Error;
+use wire_consts::Constant;
 
 /// The algorithm of the checksums of a log, as its description says it.
 #[derive(Clone, Copy, Debug, PartialEq, Eq, Hash)]
@@ -31,6 +33,21 @@ impl TryFrom<u8> for BinlogChecksumAlg {
             _ => Err(UnknownChecksumAlg(number)),
         }
     }
+}
+
+impl Constant<u8> for BinlogChecksumAlg {
+    ghost number = { binlog_checksum_alg_number };
+
+    /// The number of the constant.
+    fn to_number(self) -> u8 {
+        self as u8
+    }
+
+    ghost takes = { λ n v h. h };
+
+    ghost refuses = { λ n e h. h.1 };
+
+    ghost its_own = { Prim.search rules };
 }
 
 impl From<UnknownChecksumAlg> for u8 {

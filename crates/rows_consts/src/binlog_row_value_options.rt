@@ -1,8 +1,10 @@
 ghost use Rattle.std.specs.Prelude.{◌≡◌};
+ghost use Rattle.std.proofs.Common.{rules};
 ghost use Rattle.wire_consts.specs.Numbering.{IsConstantOf};
 ghost use Rattle.rows_consts.specs.Constants.{binlog_row_value_options_number};
 
 use thiserror::Error;
+use wire_consts::Constant;
 
 /// How JSON documents stand in updated rows: a bit of the options in a row's shared part.
 #[derive(Clone, Copy, Debug, PartialEq, Eq, Hash)]
@@ -28,6 +30,21 @@ impl TryFrom<u64> for BinlogRowValueOptions {
             _ => Err(UnknownBinlogRowValueOptions(number)),
         }
     }
+}
+
+impl Constant<u64> for BinlogRowValueOptions {
+    ghost number = { binlog_row_value_options_number };
+
+    /// The number of the constant.
+    fn to_number(self) -> u64 {
+        self as u64
+    }
+
+    ghost takes = { λ n v h. h };
+
+    ghost refuses = { λ n e h. h.1 };
+
+    ghost its_own = { Prim.search rules };
 }
 
 impl From<UnknownBinlogRowValueOptions> for u64 {

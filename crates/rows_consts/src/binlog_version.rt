@@ -1,8 +1,10 @@
 ghost use Rattle.std.specs.Prelude.{◌≡◌};
+ghost use Rattle.std.proofs.Common.{rules};
 ghost use Rattle.wire_consts.specs.Numbering.{IsConstantOf};
 ghost use Rattle.rows_consts.specs.Constants.{binlog_version_number};
 
 use thiserror::Error;
+use wire_consts::Constant;
 
 /// The version of the format of a binary log, as its description says it.
 #[derive(Clone, Copy, Debug, PartialEq, Eq, PartialOrd, Ord, Hash)]
@@ -37,6 +39,21 @@ impl TryFrom<u16> for BinlogVersion {
             _ => Err(UnknownBinlogVersion(number)),
         }
     }
+}
+
+impl Constant<u16> for BinlogVersion {
+    ghost number = { binlog_version_number };
+
+    /// The number of the constant.
+    fn to_number(self) -> u16 {
+        self as u16
+    }
+
+    ghost takes = { λ n v h. h };
+
+    ghost refuses = { λ n e h. h.1 };
+
+    ghost its_own = { Prim.search rules };
 }
 
 impl From<BinlogVersion> for u16 {

@@ -1,8 +1,10 @@
 ghost use Rattle.std.specs.Prelude.{◌≡◌};
+ghost use Rattle.std.proofs.Common.{rules};
 ghost use Rattle.wire_consts.specs.Numbering.{IsConstantOf};
 ghost use Rattle.rows_consts.specs.Constants.{incident_type_number};
 
 use thiserror::Error;
+use wire_consts::Constant;
 
 /// What went wrong in the source of a log.
 #[derive(Clone, Copy, Debug, PartialEq, Eq, Hash)]
@@ -31,6 +33,21 @@ impl TryFrom<u16> for IncidentType {
             _ => Err(UnknownIncidentType(number)),
         }
     }
+}
+
+impl Constant<u16> for IncidentType {
+    ghost number = { incident_type_number };
+
+    /// The number of the constant.
+    fn to_number(self) -> u16 {
+        self as u16
+    }
+
+    ghost takes = { λ n v h. h };
+
+    ghost refuses = { λ n e h. h.1 };
+
+    ghost its_own = { Prim.search rules };
 }
 
 impl From<IncidentType> for u16 {

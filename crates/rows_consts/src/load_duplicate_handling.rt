@@ -1,8 +1,10 @@
 ghost use Rattle.std.specs.Prelude.{◌≡◌};
+ghost use Rattle.std.proofs.Common.{rules};
 ghost use Rattle.wire_consts.specs.Numbering.{IsConstantOf};
 ghost use Rattle.rows_consts.specs.Constants.{load_duplicate_handling_number};
 
 use thiserror::Error;
+use wire_consts::Constant;
 
 /// What `LOAD DATA` does with a row whose key stands in the table.
 #[derive(Clone, Copy, Debug, PartialEq, Eq, Hash)]
@@ -34,6 +36,21 @@ impl TryFrom<u8> for LoadDuplicateHandling {
             _ => Err(UnknownDuplicateHandling(number)),
         }
     }
+}
+
+impl Constant<u8> for LoadDuplicateHandling {
+    ghost number = { load_duplicate_handling_number };
+
+    /// The number of the constant.
+    fn to_number(self) -> u8 {
+        self as u8
+    }
+
+    ghost takes = { λ n v h. h };
+
+    ghost refuses = { λ n e h. h.1 };
+
+    ghost its_own = { Prim.search rules };
 }
 
 impl From<LoadDuplicateHandling> for u8 {

@@ -1,8 +1,10 @@
 ghost use Rattle.std.specs.Prelude.{◌≡◌};
+ghost use Rattle.std.proofs.Common.{rules};
 ghost use Rattle.wire_consts.specs.Numbering.{IsConstantOf};
 ghost use Rattle.rows_consts.specs.MetadataTypes.{optional_metadata_field_type_number};
 
 use thiserror::Error;
+use wire_consts::Constant;
 
 /// The type of a field of the optional metadata of a table map.
 #[derive(Clone, Copy, Debug, PartialEq, Eq, Hash)]
@@ -64,6 +66,21 @@ impl TryFrom<u8> for OptionalMetadataFieldType {
             _ => Err(UnknownOptionalMetadataFieldType(number)),
         }
     }
+}
+
+impl Constant<u8> for OptionalMetadataFieldType {
+    ghost number = { optional_metadata_field_type_number };
+
+    /// The number of the constant.
+    fn to_number(self) -> u8 {
+        self as u8
+    }
+
+    ghost takes = { λ n v h. h };
+
+    ghost refuses = { λ n e h. h.1 };
+
+    ghost its_own = { Prim.search rules };
 }
 
 impl From<UnknownOptionalMetadataFieldType> for u8 {

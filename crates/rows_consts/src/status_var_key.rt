@@ -1,7 +1,9 @@
+ghost use Rattle.std.proofs.Common.{rules};
 ghost use Rattle.wire_consts.specs.Numbering.{IsConstantOf};
 ghost use Rattle.rows_consts.specs.StatusVarKeys.{status_var_key_number};
 
 use thiserror::Error;
+use wire_consts::Constant;
 
 /// The key of a status variable of a query event.
 #[derive(Clone, Copy, Debug, PartialEq, Eq, Hash)]
@@ -87,4 +89,19 @@ impl TryFrom<u8> for StatusVarKey {
             _ => Err(UnknownStatusVarKey(number)),
         }
     }
+}
+
+impl Constant<u8> for StatusVarKey {
+    ghost number = { status_var_key_number };
+
+    /// The number of the constant.
+    fn to_number(self) -> u8 {
+        self as u8
+    }
+
+    ghost takes = { λ n v h. h };
+
+    ghost refuses = { λ n e h. h.1 };
+
+    ghost its_own = { Prim.search rules };
 }

@@ -1,8 +1,10 @@
+ghost use Rattle.std.proofs.Common.{rules};
 ghost use Rattle.wire_consts.specs.Numbering.{IsConstantOf};
 ghost use Rattle.rows_consts.specs.Constants.{transaction_payload_compression_type_number};
 ghost use Rattle.rows_consts.specs.Refusals.{IsByteConstantOf};
 
 use thiserror::Error;
+use wire_consts::Constant;
 
 /// How the payload of a transaction payload event is compressed.
 #[derive(Clone, Copy, Debug, PartialEq, Eq, Hash)]
@@ -33,6 +35,21 @@ impl TryFrom<u8> for TransactionPayloadCompressionType {
             _ => Err(UnknownTransactionPayloadCompressionType(number)),
         }
     }
+}
+
+impl Constant<u8> for TransactionPayloadCompressionType {
+    ghost number = { transaction_payload_compression_type_number };
+
+    /// The number of the constant.
+    fn to_number(self) -> u8 {
+        self as u8
+    }
+
+    ghost takes = { λ n v h. h };
+
+    ghost refuses = { λ n e h. h.1 };
+
+    ghost its_own = { Prim.search rules };
 }
 
 impl TryFrom<u64> for TransactionPayloadCompressionType {

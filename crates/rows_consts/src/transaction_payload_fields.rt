@@ -1,9 +1,11 @@
 ghost use Rattle.std.specs.Prelude.{◌≡◌};
+ghost use Rattle.std.proofs.Common.{rules};
 ghost use Rattle.wire_consts.specs.Numbering.{IsConstantOf};
 ghost use Rattle.rows_consts.specs.Constants.{transaction_payload_fields_number};
 ghost use Rattle.rows_consts.specs.Refusals.{IsByteConstantOf};
 
 use thiserror::Error;
+use wire_consts::Constant;
 
 /// The fields of a transaction payload event, each of which has its type before it.
 #[derive(Clone, Copy, Debug, PartialEq, Eq, Hash)]
@@ -38,6 +40,21 @@ impl TryFrom<u8> for TransactionPayloadFields {
             _ => Err(UnknownTransactionPayloadFields(number)),
         }
     }
+}
+
+impl Constant<u8> for TransactionPayloadFields {
+    ghost number = { transaction_payload_fields_number };
+
+    /// The number of the constant.
+    fn to_number(self) -> u8 {
+        self as u8
+    }
+
+    ghost takes = { λ n v h. h };
+
+    ghost refuses = { λ n e h. h.1 };
+
+    ghost its_own = { Prim.search rules };
 }
 
 impl TryFrom<u64> for TransactionPayloadFields {
