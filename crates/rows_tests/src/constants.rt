@@ -11,6 +11,7 @@ use mysql_binlog_rows::{
     UnknownIntvarEventType, UnknownStatusVarKey, UnknownTransactionPayloadCompressionType,
     UnknownTransactionPayloadFields,
 };
+use wire_consts::Constant;
 
 // Each number from 0 to 255 that is an event type turns back into itself, and the others are refused with it.
 #[test]
@@ -59,6 +60,55 @@ fn numbers_of_keys_and_types(rt: HostRuntime) {
         }
     }
     assert_eq!(rt; known, 21 + 13 + 2 + 2 + 1);
+}
+
+// The number of a constant, through the bound alone.
+fn number_of<P, C: Constant<P>>(constant: C) -> P {
+    constant.to_number()
+}
+
+#[test]
+fn numbers_through_the_trait(rt: HostRuntime) {
+    assert_eq!(rt; number_of::<u8, EventType>(EventType::ROTATE_EVENT), 4);
+    assert_eq!(rt; number_of::<u16, BinlogVersion>(BinlogVersion::Version4), 4);
+    assert_eq!(rt;
+        number_of::<u16, IncidentType>(IncidentType::INCIDENT_LOST_EVENTS),
+        1
+    );
+    assert_eq!(rt;
+        number_of::<u8, IntvarEventType>(IntvarEventType::INSERT_ID_EVENT),
+        2
+    );
+    assert_eq!(rt;
+        number_of::<u8, LoadDuplicateHandling>(LoadDuplicateHandling::LOAD_DUP_REPLACE),
+        2
+    );
+    assert_eq!(rt;
+        number_of::<u8, StatusVarKey>(StatusVarKey::Microseconds),
+        13
+    );
+    assert_eq!(rt;
+        number_of::<u8, BinlogChecksumAlg>(BinlogChecksumAlg::BINLOG_CHECKSUM_ALG_CRC32),
+        1
+    );
+    assert_eq!(rt;
+        number_of::<u8, OptionalMetadataFieldType>(OptionalMetadataFieldType::GEOMETRY_TYPE),
+        7
+    );
+    assert_eq!(rt;
+        number_of::<u64, BinlogRowValueOptions>(BinlogRowValueOptions::PARTIAL_JSON_UPDATES),
+        1
+    );
+    assert_eq!(rt;
+        number_of::<u8, TransactionPayloadFields>(
+            TransactionPayloadFields::OTW_PAYLOAD_COMPRESSION_TYPE_FIELD
+        ),
+        2
+    );
+    assert_eq!(rt;
+        number_of::<u8, TransactionPayloadCompressionType>(TransactionPayloadCompressionType::NONE),
+        255
+    );
 }
 
 // Greatest and least transaction numbers.
