@@ -1,7 +1,8 @@
-//! The text of the feed: bytes between quotes, and the values of cells.
+//! The text of the feed: bytes between quotes, the values of cells, and decimals straight from the bytes
+//! that pack them.
 //!
-//! Each call appends exactly its text, or refuses for want of memory and leaves what stood there as it
-//! was. `specs/` has the texts.
+//! Each call appends exactly its text, or refuses and leaves what stood there as it was: for want of
+//! memory, and where bytes pack no decimal. `specs/` has the texts.
 #![tactic(auto)]
 
 mod decimals;
