@@ -31,7 +31,7 @@ impl Decimal {
     }
 
     /// The packed form.
-    pub(crate) fn pack(&self, alloc: Global) -> Result<Vec<u8>, AllocError>
+    fn pack(&self, alloc: Global) -> Result<Vec<u8>, AllocError>
         ensures { IfOk result (λ bytes. bytes.items ≡ packed_form (decimal_parts self.now)) }
     {
         let mut bytes = Vec::with_capacity(alloc, self.bin_size())?;
@@ -45,7 +45,7 @@ impl Decimal {
 }
 
 /// Flips the top bit of the first byte.
-pub(crate) fn flip_top(bytes: &mut [u8])
+fn flip_top(bytes: &mut [u8])
     ensures { bytes.new ≡ top_flipped bytes.old }
 {
     if let Some(first) = bytes.first_mut() {
@@ -54,7 +54,7 @@ pub(crate) fn flip_top(bytes: &mut [u8])
 }
 
 /// Flips all bits.
-pub(crate) fn flip_all(bytes: &mut [u8])
+fn flip_all(bytes: &mut [u8])
     ensures { bytes.new ≡ map (λ b. 255 - b) bytes.old }
 {
     for byte in bytes {
