@@ -9,36 +9,110 @@
 
 pub mod laws;
 
-pub use rows_consts::{
-    BINLOG_CHECKSUM_ALG_DESC_LEN, BINLOG_CHECKSUM_LEN, BinlogChecksumAlg, BinlogRowValueOptions,
-    BinlogVersion, CHECKSUM_VERSION_PRODUCT, ENCODED_SID_LENGTH, EventType, GTID_HEADER_LEN, Gno,
-    IncidentType, IntvarEventType, InvalidGno, LOGICAL_TIMESTAMP_TYPECODE, LoadDuplicateHandling,
-    OptionalMetadataFieldType, QUERY_HEADER_LEN, ROTATE_HEADER_LEN, ROWS_HEADER_LEN_V1,
-    ROWS_HEADER_LEN_V2, SERVER_VER_LEN, StatusVarKey, TABLE_MAP_HEADER_LEN,
-    TransactionPayloadCompressionType, TransactionPayloadFields, UnknownBinlogRowValueOptions,
-    UnknownBinlogVersion, UnknownChecksumAlg, UnknownDuplicateHandling, UnknownEventType,
-    UnknownIncidentType, UnknownIntvarEventType, UnknownOptionalMetadataFieldType,
-    UnknownStatusVarKey, UnknownTransactionPayloadCompressionType, UnknownTransactionPayloadFields,
-};
-pub use rows_decimal::{
-    DIG_BASE, DIG_PER_DEC, DIG_TO_BYTES, Decimal, Digit, POWERS_10, ParseDecimalError,
-    decimal_bin_size, put_decimal_text,
-};
-pub use rows_flags::{
-    EventFlags, GtidFlags, RowsEventFlags, SemiSyncFlags, UnknownEventFlags, UnknownGtidFlags,
-    UnknownRowsEventFlags, UnknownSemiSyncFlags, UnknownUserVarFlags, UserVarFlags,
-};
-pub use rows_jsonb as jsonb;
-pub use rows_jsonb::{
-    Array, ArrayIter, ComplexType, ComplexValue, JsonContainer, JsonDiff, JsonDiffOperation,
-    JsonDom, JsonNumber, JsonOpaque, JsonScalar, JsonbString, JsonbType, Large, LiteralType,
-    Object, ObjectIter, ObjectKey, ObjectKeys, OpaqueValue, Small, StorageFormat,
-    UnknownJsonDiffOperation, UnknownJsonbType, UnknownLiteralType,
-};
-pub use rows_values::{
-    Bits, BitsIter, Column, DATETIMEF_INT_OFS, JsonbError, MysqlTime, MysqlTimestampType, Row,
-    RowsError, TIMEF_INT_OFS, TIMEF_OFS, Value, datetime_from_packed, datetime_of, fraction_size,
-    my_datetime_packed_from_binary, my_packed_time_get_frac_part, my_packed_time_get_int_part,
-    my_packed_time_make, my_packed_time_make_int, my_time_packed_from_binary,
-    my_timestamp_from_binary, new_row_raw, time_from_packed, time_of, timestamp_of,
-};
+pub use rows_consts::BINLOG_CHECKSUM_ALG_DESC_LEN;
+pub use rows_consts::BINLOG_CHECKSUM_LEN;
+pub use rows_consts::BinlogChecksumAlg;
+pub use rows_consts::BinlogRowValueOptions;
+pub use rows_consts::BinlogVersion;
+pub use rows_consts::CHECKSUM_VERSION_PRODUCT;
+pub use rows_consts::ENCODED_SID_LENGTH;
+pub use rows_consts::EventType;
+pub use rows_consts::GTID_HEADER_LEN;
+pub use rows_consts::Gno;
+pub use rows_consts::IncidentType;
+pub use rows_consts::IntvarEventType;
+pub use rows_consts::InvalidGno;
+pub use rows_consts::LOGICAL_TIMESTAMP_TYPECODE;
+pub use rows_consts::LoadDuplicateHandling;
+pub use rows_consts::OptionalMetadataFieldType;
+pub use rows_consts::QUERY_HEADER_LEN;
+pub use rows_consts::ROTATE_HEADER_LEN;
+pub use rows_consts::ROWS_HEADER_LEN_V1;
+pub use rows_consts::ROWS_HEADER_LEN_V2;
+pub use rows_consts::SERVER_VER_LEN;
+pub use rows_consts::StatusVarKey;
+pub use rows_consts::TABLE_MAP_HEADER_LEN;
+pub use rows_consts::TransactionPayloadCompressionType;
+pub use rows_consts::TransactionPayloadFields;
+pub use rows_consts::UnknownBinlogRowValueOptions;
+pub use rows_consts::UnknownBinlogVersion;
+pub use rows_consts::UnknownChecksumAlg;
+pub use rows_consts::UnknownDuplicateHandling;
+pub use rows_consts::UnknownEventType;
+pub use rows_consts::UnknownIncidentType;
+pub use rows_consts::UnknownIntvarEventType;
+pub use rows_consts::UnknownOptionalMetadataFieldType;
+pub use rows_consts::UnknownStatusVarKey;
+pub use rows_consts::UnknownTransactionPayloadCompressionType;
+pub use rows_consts::UnknownTransactionPayloadFields;
+pub use rows_decimal::DIG_BASE;
+pub use rows_decimal::DIG_PER_DEC;
+pub use rows_decimal::DIG_TO_BYTES;
+pub use rows_decimal::Decimal;
+pub use rows_decimal::Digit;
+pub use rows_decimal::POWERS_10;
+pub use rows_decimal::ParseDecimalError;
+pub use rows_decimal::decimal_bin_size;
+pub use rows_decimal::put_decimal_text;
+pub use rows_flags::EventFlags;
+pub use rows_flags::GtidFlags;
+pub use rows_flags::RowsEventFlags;
+pub use rows_flags::SemiSyncFlags;
+pub use rows_flags::UnknownEventFlags;
+pub use rows_flags::UnknownGtidFlags;
+pub use rows_flags::UnknownRowsEventFlags;
+pub use rows_flags::UnknownSemiSyncFlags;
+pub use rows_flags::UnknownUserVarFlags;
+pub use rows_flags::UserVarFlags;
+pub use rows_jsonb::Array;
+pub use rows_jsonb::ArrayIter;
+pub use rows_jsonb::ComplexType;
+pub use rows_jsonb::ComplexValue;
+pub use rows_jsonb::JsonContainer;
+pub use rows_jsonb::JsonDiff;
+pub use rows_jsonb::JsonDiffOperation;
+pub use rows_jsonb::JsonDom;
+pub use rows_jsonb::JsonNumber;
+pub use rows_jsonb::JsonOpaque;
+pub use rows_jsonb::JsonScalar;
+pub use rows_jsonb::JsonbString;
+pub use rows_jsonb::JsonbType;
+pub use rows_jsonb::Large;
+pub use rows_jsonb::LiteralType;
+pub use rows_jsonb::Object;
+pub use rows_jsonb::ObjectIter;
+pub use rows_jsonb::ObjectKey;
+pub use rows_jsonb::ObjectKeys;
+pub use rows_jsonb::OpaqueValue;
+pub use rows_jsonb::Small;
+pub use rows_jsonb::StorageFormat;
+pub use rows_jsonb::UnknownJsonDiffOperation;
+pub use rows_jsonb::UnknownJsonbType;
+pub use rows_jsonb::UnknownLiteralType;
+pub use rows_jsonb::{self as jsonb};
+pub use rows_values::Bits;
+pub use rows_values::BitsIter;
+pub use rows_values::Column;
+pub use rows_values::DATETIMEF_INT_OFS;
+pub use rows_values::JsonbError;
+pub use rows_values::MysqlTime;
+pub use rows_values::MysqlTimestampType;
+pub use rows_values::Row;
+pub use rows_values::RowsError;
+pub use rows_values::TIMEF_INT_OFS;
+pub use rows_values::TIMEF_OFS;
+pub use rows_values::Value;
+pub use rows_values::datetime_from_packed;
+pub use rows_values::datetime_of;
+pub use rows_values::fraction_size;
+pub use rows_values::my_datetime_packed_from_binary;
+pub use rows_values::my_packed_time_get_frac_part;
+pub use rows_values::my_packed_time_get_int_part;
+pub use rows_values::my_packed_time_make;
+pub use rows_values::my_packed_time_make_int;
+pub use rows_values::my_time_packed_from_binary;
+pub use rows_values::my_timestamp_from_binary;
+pub use rows_values::new_row_raw;
+pub use rows_values::time_from_packed;
+pub use rows_values::time_of;
+pub use rows_values::timestamp_of;
