@@ -18,6 +18,7 @@ pub use Rattle.rows_decimal.specs.Digits
 pub use Rattle.rows_decimal.specs.Decimals
 pub use Rattle.rows_decimal.specs.Texts
 pub use Rattle.rows_decimal.specs.Unpacked
+pub use Rattle.rows_decimal.specs.PackedTexts
 pub use Rattle.rows_jsonb.specs.JsonbTypes
 pub use Rattle.rows_jsonb.specs.JsonbLayout
 pub use Rattle.rows_jsonb.specs.AllColumnTypes

@@ -3,7 +3,7 @@ use Rattle.std.proofs.Common.{◌≡◌, inl, inr, ℕ, List, [], ◌∷◌, len
 use Rattle.std.proofs.lemmas.Result.{err_from_is_err_and, IfErr-weaker}
 use Rattle.std.specs.Io.KnownBytes.{Consumes}
 use Rattle.wire_buf.specs.declared.fault.WireFault.{WireFault}
-use Rattle.wire_streams.specs.Transfers.{Gathers, FallsShort, GathersFront}
+use Rattle.wire_streams.specs.Transfers.{FallsShort}
 use Rattle.rows_values.specs.declared.fault.RowsError.{RowsError}
 use Rattle.rows_values.specs.Faults.{rows_error}
 use Rattle.rows_decimal.specs.declared.fields.Decimal.{Decimal}
@@ -16,44 +16,6 @@ exit_same r e P h p = let f = err_from_is_err_and r h.1 in rw f.1 (subst P (sym 
 pub consumes_none : (a : Option (List ℕ)) → Consumes a a []
 consumes_none None = tt
 consumes_none (Some xs) = refl
-
-pub read_ok : (keep : Bool) (precision scale : ℕ) (before bytes : List ℕ) (old new : Option (List ℕ)) (r : Result Decimal RowsError) → scale ≤ precision → before ≡ []
-    → Gathers (packed_size (precision - scale) scale) old new before bytes → IfOk r (λ d. Unpacks keep (precision - scale) scale (value_of d) bytes) → IfOk r (λ d. ReadsDecimal keep precision scale (value_of d) old new)
-read_ok keep precision scale before bytes old new r at_most none g h =
-    let all : bytes ≡ g.taken = g.appended ∙ ap (λ l. l ++ g.taken) none in
-    IfOk-weaker r (λ d. Unpacks keep (precision - scale) scale (value_of d) bytes) (λ d. ReadsDecimal keep precision scale (value_of d) old new)
-    (λ d u. record { ordered = at_most; taken = g.taken; consumed = g.consumed; unpacked = subst (Unpacks keep (precision - scale) scale (value_of d)) all u }) h
-
-pub read_err : (precision scale : ℕ) (before bytes : List ℕ) (old new : Option (List ℕ)) (r : Result Decimal RowsError) → scale ≤ precision → before ≡ []
-    → Gathers (packed_size (precision - scale) scale) old new before bytes → IfErr r (λ e. e ≡ Memory ⊎ ((e ≡ BadDecimal) × NonePacked (precision - scale) scale bytes)) → IfErr r (λ e. FailsDecimal precision scale e old new)
-read_err precision scale before bytes old new r at_most none g h =
-    let all : bytes ≡ g.taken = g.appended ∙ ap (λ l. l ++ g.taken) none in
-    let size = g.size in
-    IfErr-weaker r (λ e. e ≡ Memory ⊎ ((e ≡ BadDecimal) × NonePacked (precision - scale) scale bytes)) (λ e. FailsDecimal precision scale e old new)
-    (λ e why. ordered at_most (record {
-      taken = g.taken;
-      consumed = g.consumed;
-      within = omega (arith, size);
-      cause = elim why [
-        | inl m ↦ subst (λ (f : RowsError). IsDecimalCause (precision - scale) scale f g.taken new) (sym m) tt
-        | inr q ↦ subst (λ (f : RowsError). IsDecimalCause (precision - scale) scale f g.taken new) (sym q.0) (g.size, subst (NonePacked (precision - scale) scale) all q.1)
-      ];
-    })) h
-
-pub read_cut : (precision scale : ℕ) (fault : WireFault) (before after : List ℕ) (old new : Option (List ℕ)) → scale ≤ precision
-    → GathersFront fault (packed_size (precision - scale) scale) old new before after → FailsDecimal precision scale (rows_error fault) old new
-read_cut precision scale fault before after old new at_most cut = ordered at_most (record {
-  taken = cut.taken;
-  consumed = cut.consumed;
-  within = cut.within;
-  cause = elim cut.cause [
-    | inl q ↦ elim q [
-      | inl r ↦ subst (λ (f : WireFault). IsDecimalCause (precision - scale) scale (rows_error f) cut.taken new) (sym r.0) (r.2, r.1)
-      | inr r ↦ subst (λ (f : WireFault). IsDecimalCause (precision - scale) scale (rows_error f) cut.taken new) (sym r) tt
-    ]
-    | inr m ↦ subst (λ (f : WireFault). IsDecimalCause (precision - scale) scale (rows_error f) cut.taken new) (sym m) tt
-  ];
-})
 
 pub packed_cut : (fault : WireFault) (n : ℕ) (old new : Option (List ℕ)) → n ≡ 2 → FallsShort fault n old new → FailsPacked (rows_error fault) old new
 packed_cut fault n old new two cut =
