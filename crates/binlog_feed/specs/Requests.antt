@@ -1,7 +1,7 @@
 -- The request for a binary log: COM_BINLOG_DUMP as one packet.
 use Rattle.std.specs.Prelude.{ℕ, List, ◌∷◌, ◌++◌}
 use Rattle.std.specs.Int.{w16, w32, to_le_bytes}
-use Rattle.mysql_wire.specs.Framing.{framing}
+use Rattle.wire_packets.specs.Framing.{framing}
 
 -- the command 0x12, the place, the flag BINLOG_DUMP_NON_BLOCK, the replica's server id, the file's name to the end
 abbrev pub dump_payload : ℕ → ℕ → List ℕ → List ℕ

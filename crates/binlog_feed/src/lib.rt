@@ -13,5 +13,5 @@ pub use feed::follower::Follower;
 pub use feed::reporting::report;
 pub use feed::request::{RequestError, request};
 pub use feed_text::{put_value, quote};
-pub use mysql_wire::{MAX_READS, Watched};
 pub use verdict::{Verdict, name_of, status};
+pub use wire_streams::{MAX_READS, Watched};

@@ -3,7 +3,7 @@ use Rattle.std.proofs.Common.{◌≡◌, ◌≤◌, ◌<◌, ◌+◌, Bool, true
 use Rattle.std.proofs.Math.ListN.{set}
 use Rattle.std.proofs.lemmas.Bool.Decides.{eqb_tells}
 use Rattle.std.proofs.lemmas.Grind.{flat_map-append}
-use Rattle.std.proofs.lemmas.List.{length-take-le, take_more_set, take-append-le}
+use Rattle.std.proofs.lemmas.List.{length-take-le, take_more_set, take-append-le, take-take}
 use Rattle.std.specs.List.{flat_map}
 use Rattle.std.specs.Option.{option_map}
 use Rattle.wire_buf.specs.Spelling.{AreBytes}
@@ -107,10 +107,4 @@ written_quoted old new text at end room behind is left =
 pub front_left : (old new : List ℕ) (at : ℕ) → at < length old → at < length new → take (at + 1) new ≡ take (at + 1) (set old at 39) → take at new ≡ take at old
 front_left old new at room more is =
     let long : at ≤ length (take at old) = omega (arith, length-take-le at old (omega (arith, room))) in
-    sym (take_less at (at + 1) new (omega arith)) ∙ ap (take at) (is ∙ take_more_set old at 39 room) ∙ take-append-le at (take at old) (39 ∷ []) long ∙ take_less at at old (omega arith)
-  where
-    take_less : (a b : ℕ) (xs : List ℕ) → a ≤ b → take a (take b xs) ≡ take a xs
-    take_less zero b xs h = refl
-    take_less (suc a) zero xs h = absurd (omega (arith, h))
-    take_less (suc a) (suc b) [] h = refl
-    take_less (suc a) (suc b) (x ∷ xs) h = ap (λ l. x ∷ l) (take_less a b xs (omega (arith, h)))
+    sym (take-take at (at + 1) new (omega arith)) ∙ ap (take at) (is ∙ take_more_set old at 39 room) ∙ take-append-le at (take at old) (39 ∷ []) long ∙ take-take at at old (omega arith)

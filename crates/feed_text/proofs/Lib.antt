@@ -5,3 +5,4 @@ pub mod InjectiveLemmas
 pub mod WorkedLemmas
 pub mod ShortTextLemmas
 pub mod DecimalTextLemmas
+pub mod DocumentLemmas

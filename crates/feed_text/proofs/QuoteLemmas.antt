@@ -1,8 +1,11 @@
 -- Quoting, a run of plain bytes at a time.
-use Rattle.std.proofs.Common.{◌≡◌, ◌≤◌, ℕ, zero, suc, ◌+◌, Bool, true, false, List, [], ◌∷◌, ◌++◌, length, take, drop, refl, sym, ap, ◌∙◌, append_assoc, arith, length-take}
-use Rattle.std.proofs.lemmas.List.{append-nil, take-append-le}
+use Rattle.std.proofs.Common.{◌≡◌, ◌≤◌, ℕ, zero, suc, ◌+◌, Bool, true, false, List, [], ◌∷◌, ◌++◌, length, take, drop, Result, Ok, Err, OnOk, IfErr, refl, sym, ap, ◌∙◌, append_assoc, arith, length-take}
+use Rattle.std.proofs.Math.Seq.{take-length}
+use Rattle.std.proofs.lemmas.List.{append-nil, take-append-le, take-take}
 use Rattle.std.specs.Prelude.{take_while, not}
 use Rattle.std.specs.List.{flat_map, prefix_len}
+use Rattle.rows_values.specs.declared.fault.RowsError.{RowsError}
+use Rattle.feed_text.specs.Pieces.{IsRefused}
 use Rattle.feed_text.specs.Quoting.{is_plain_byte, escape, quoted_byte, quoted}
 
 -- the plain bytes at the front stand for themselves
@@ -56,3 +59,14 @@ pub escapes_more : (out new others after rest : List ℕ) (n : ℕ) → new ≡ 
 escapes_more out new others after rest n is front back len =
     let m : ℕ = length (take_while (λ b. not (is_plain_byte b)) (take 16 rest)) in
     rw (is, front, back, len, append_assoc out (flat_map escape (take m rest)) (flat_map quoted_byte (drop m rest))) (ap (λ (t : List ℕ). out ++ t) (sym (escaped_run 16 rest)))
+
+-- a text was appended whole or not at all, so what stood in front stands there
+pub kept_either : (old new text : List ℕ) (r : Result Unit RowsError) → OnOk r (new ≡ old ++ text) → IfErr r (λ e. IsRefused e old new) → take (length old) new ≡ old
+kept_either old new text (Ok u) whole none = kept_more old old new text (take-length old) whole
+kept_either old new text (Err e) whole none = ap (take (length old)) none.1 ∙ take-length old
+
+-- what was kept once, and then again
+pub kept_twice : (old out new : List ℕ) → take (length old) out ≡ old → take (length out) new ≡ out → take (length old) new ≡ old
+kept_twice old out new first second =
+    let long : length old ≤ length out = let e = ap length first in let l = length-take (length old) out in omega (arith, e, l) in
+    sym (take-take (length old) (length out) new long) ∙ ap (take (length old)) second ∙ first

@@ -7,6 +7,8 @@
 
 mod decimals;
 mod digits;
+mod documents;
+mod json_scalars;
 pub mod laws;
 mod padding;
 mod pieces;
@@ -15,5 +17,6 @@ mod short_text;
 mod values;
 
 pub use decimals::put_decimal;
+pub use documents::put_json;
 pub use quoting::quote;
 pub use values::put_value;

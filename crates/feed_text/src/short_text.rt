@@ -90,6 +90,16 @@ impl ShortText {
         self.push_all(digits.as_slice());
     }
 
+    /// Appends a number of 32 bits with zeros before it up to a least width.
+    pub(crate) fn push_number(&mut self, width: usize, number: u32)
+        requires width { width ≤ 10 }
+        requires room { length self.old + 10 ≤ 48 }
+        ensures text { self.new ≡ self.old ++ padded width number }
+        ensures len { length self.new ≤ length self.old + 10 }
+    {
+        self.push_padded(width, number);
+    }
+
     /// Appends a number of at least two digits.
     pub(crate) fn push_two(&mut self, number: u8)
         requires { length self.old + 3 ≤ 48 }

@@ -89,7 +89,7 @@ fn put_span<A: Allocator>(
 }
 
 /// The sign before a number.
-fn sign(is_negative: bool) -> &'static [u8]
+pub(crate) fn sign(is_negative: bool) -> &'static [u8]
     ensures sign { result.now ≡ sign_text is_negative }
     ensures len { length result.now ≤ 1 }
 {

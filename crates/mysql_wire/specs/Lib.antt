@@ -1,12 +1,3 @@
-pub mod Framing
-pub mod Reading
-pub mod Front
-pub mod Chunks
-pub mod Packets
-pub mod Standing
-pub mod Pieces
-pub mod Laws
-pub mod Version
 pub use Rattle.wire_buf.specs.Spelling
 pub use Rattle.wire_buf.specs.Eating
 pub use Rattle.wire_buf.specs.Numbers
@@ -35,3 +26,12 @@ pub use Rattle.wire_forms.specs.Overwritten
 pub use Rattle.wire_forms.specs.RawTexts
 pub use Rattle.wire_seqs.specs.Sequences
 pub use Rattle.wire_seqs.specs.Counts
+pub use Rattle.wire_packets.specs.Framing
+pub use Rattle.wire_packets.specs.Reading
+pub use Rattle.wire_packets.specs.Front
+pub use Rattle.wire_packets.specs.Chunks
+pub use Rattle.wire_packets.specs.Packets
+pub use Rattle.wire_packets.specs.Standing
+pub use Rattle.wire_packets.specs.Pieces
+pub use Rattle.wire_packets.specs.Laws
+pub use Rattle.wire_packets.specs.Version

@@ -1,27 +1,12 @@
 //! The wire of MySQL's protocol: buffers, numbers, raw forms of fields, constants, and packets.
 //!
-//! Buffers and numbers stand in parts of their own, which are re-exported whole. Here stand the packets: a payload
-//! travels as numbered chunks of at most 16,777,215 bytes. `packet_to_chunks` and `PacketCodec::encode` write them,
-//! `PacketCodec::decode`, `ChunkDecoder` and `decode_pieces` read them. `laws` has what holds of framings and packets
-//! themselves. `Watched` is a reader or a writer of which it is known whether it failed.
+//! Each stands in a part of its own, which is re-exported whole. `laws` has what holds of framings and packets themselves
+//! and of the representations of numbers and strings. `Watched` is a reader or a writer of which it is known whether it
+//! failed.
 #![tactic(auto)]
 
-mod chunk_decoder;
-mod error;
-mod framing;
-mod header;
 pub mod laws;
-mod packet_codec;
-mod pieces;
-mod version;
 
-pub use chunk_decoder::ChunkDecoder;
-pub use chunk_decoder::ChunkInfo;
-pub use error::PacketCodecError;
-pub use framing::packet_to_chunks;
-pub use packet_codec::PacketCodec;
-pub use pieces::decode_pieces;
-pub use version::split_version;
 pub use wire_buf::AnySize;
 pub use wire_buf::FixedSize;
 pub use wire_buf::MyDeserialize;
@@ -117,6 +102,13 @@ pub use wire_ints::lenenc_str_len;
 pub use wire_ints::read_varlen_uint;
 pub use wire_ints::varlen_uint_size;
 pub use wire_ints::write_varlen_uint;
+pub use wire_packets::ChunkDecoder;
+pub use wire_packets::ChunkInfo;
+pub use wire_packets::PacketCodec;
+pub use wire_packets::PacketCodecError;
+pub use wire_packets::decode_pieces;
+pub use wire_packets::packet_to_chunks;
+pub use wire_packets::split_version;
 pub use wire_seqs::RawSeq;
 pub use wire_seqs::Seq;
 pub use wire_seqs::SeqRepr;

@@ -99,7 +99,7 @@ fn spell(digits: &[u8], text: &mut [u8])
 }
 
 /// The digits without the zeros in front.
-fn significant(digits: &[u8]) -> &[u8]
+pub(crate) fn significant(digits: &[u8]) -> &[u8]
     requires { AreDigits digits.now }
     ensures value { result.now ≡ significant_of digits.now }
     ensures digits { AreDigits result.now }

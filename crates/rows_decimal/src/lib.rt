@@ -6,6 +6,7 @@
 //! [`laws`] ties these to one another, and has worked values.
 #![tactic(auto)]
 
+mod append;
 mod decimal;
 mod digits;
 mod display;

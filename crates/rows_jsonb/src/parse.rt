@@ -184,7 +184,8 @@ impl Value<'_> {
     }
 
     /// The tree of this value: at most 100 containers nest, and it counts at most one value more
-    /// than the outermost container has bytes.
+    /// than the outermost container has bytes. For 100 objects within one another the call takes less
+    /// than 300 KB of stack.
     pub fn parse(self, alloc: Global) -> Result<JsonDom, RowsError>
         ensures { Parses view result (tree_in (jsonb_value self.entry)) }
     {

@@ -5,9 +5,9 @@ ghost use Rattle.binlog_feed.specs.Requests.{dump_request, dump_payload as paylo
 ghost use Rattle.binlog_feed.specs.declared.feed.request.RequestError.TheVariants.{Memory};
 
 use bytes::BytesMut;
-use mysql_wire::packet_to_chunks;
 use std::alloc::{AllocError, Global};
 use thiserror::Error;
+use wire_packets::packet_to_chunks;
 
 /// COM_BINLOG_DUMP.
 const COM_BINLOG_DUMP: u8 = 0x12;

@@ -11,8 +11,8 @@ use Rattle.binlog_feed.specs.Kinds.{kind_of}
 use Rattle.feed_text.specs.Quoting.{quoted}
 use Rattle.binlog_feed.specs.Text.{cell_text, insert_start}
 use Rattle.binlog_feed.specs.Transactions.{is_inside, since_begin, newest_among, lines_of, fault_of, good_after, fault_after}
-use Rattle.mysql_wire.specs.Framing.{slice_of, chunks, framings, number_after}
-use Rattle.mysql_wire.specs.Packets.{payload_in, packets_in, full_run}
+use Rattle.wire_packets.specs.Framing.{slice_of, chunks, framings, number_after}
+use Rattle.wire_packets.specs.Packets.{payload_in, packets_in, full_run}
 use Rattle.binlog_feed.specs.Streams.{payload_events, closing_in, stream_transactions, stream_verdict}
 use Rattle.binlog_feed.specs.Requests.{dump_request}
 use Rattle.binlog_feed.proofs.laws.worked_streams.Goals as goal

@@ -1,0 +1,88 @@
+//! The text of JSON documents.
+
+ghost use Rattle.std.specs.Prelude.{◌≡◌, ◌++◌, OnOk, IfErr, length, take};
+ghost use Rattle.rows_jsonb.specs.JsonTrees.{array, object};
+ghost use Rattle.rows_jsonb.specs.JsonTreeViews.{view, items_view, members_view};
+ghost use Rattle.feed_text.specs.Pieces.{IsRefused};
+ghost use Rattle.feed_text.specs.JsonText.{document_text};
+
+use crate::json_scalars::append_scalar;
+use crate::quoting::quote;
+use rows_jsonb::{JsonContainer, JsonDom};
+use rows_values::RowsError;
+use std::alloc::Allocator;
+use std::collections::BTreeMap;
+
+/// Appends the text of a JSON document.
+///
+/// `null`, `true`, `false`; an integer in decimal, an unsigned one after `u`; `d` and the hexadecimal
+/// digits of a double's bits; a decimal's digits; a string quoted, as [`quote`] does; `t` and a quoted
+/// date `YYYY-MM-DD`, time `hh:mm:ss.uuuuuu` with a `-` before it where it is below zero, or both with a
+/// blank between them; `o`, the number of a column's type, `:` and quoted bytes; `[a,b]`, and `{'k':v}`
+/// with the keys in the order of their bytes. Want of memory is `Memory`, and then nothing is appended.
+///
+/// The call takes stack for each container that the document nests: less than 300 KB for a tree that
+/// `jsonb::Value::parse` built, which nests at most 100.
+pub fn put_json<A: Allocator>(document: &JsonDom, out: &mut Vec<u8, A>) -> Result<(), RowsError>
+    ensures ok { OnOk result (out.new.items ≡ out.old.items ++ document_text (view document.now)) }
+    ensures err { IfErr result (λ e. IsRefused e out.old.items out.new.items) }
+{
+    let start = out.len();
+    let Ok(()) = append_document(document, out) else {
+        out.truncate(start);
+        return Err(RowsError::Memory);
+    };
+    Ok(())
+}
+
+/// Appends the text of a document, or a part of it.
+#[cycle(document)]
+fn append_document<A: Allocator>(document: &JsonDom, out: &mut Vec<u8, A>) -> Result<(), RowsError>
+    ensures ok { OnOk result (out.new.items ≡ out.old.items ++ document_text (view document.now)) }
+    ensures kept { take (length out.old.items) out.new.items ≡ out.old.items }
+{
+    match document {
+        JsonDom::Scalar(scalar) => append_scalar(scalar, out),
+        JsonDom::Container(JsonContainer::Array(items)) => append_items(items, out),
+        JsonDom::Container(JsonContainer::Object(members)) => append_members(members, out),
+    }
+}
+
+/// Appends the text of an array, or a part of it.
+#[cycle(document)]
+fn append_items<A: Allocator>(items: &Vec<JsonDom>, out: &mut Vec<u8, A>) -> Result<(), RowsError>
+    ensures ok { OnOk result (out.new.items ≡ out.old.items ++ document_text (array (items_view items.now.items))) }
+    ensures kept { take (length out.old.items) out.new.items ≡ out.old.items }
+{
+    out.push(b'[')?;
+    let mut separator = b"".as_slice();
+    for item in items {
+        out.extend_from_slice(separator)?;
+        append_document(item, out)?;
+        separator = b",".as_slice();
+    }
+    out.push(b']')?;
+    Ok(())
+}
+
+/// Appends the text of an object, or a part of it.
+#[cycle(document)]
+fn append_members<A: Allocator>(
+    members: &BTreeMap<String, JsonDom>,
+    out: &mut Vec<u8, A>,
+) -> Result<(), RowsError>
+    ensures ok { OnOk result (out.new.items ≡ out.old.items ++ document_text (object (members_view members.now.entries))) }
+    ensures kept { take (length out.old.items) out.new.items ≡ out.old.items }
+{
+    out.push(b'{')?;
+    let mut separator = b"".as_slice();
+    for (key, member) in members.iter() {
+        out.extend_from_slice(separator)?;
+        quote(key.as_bytes(), out)?;
+        out.push(b':')?;
+        append_document(member, out)?;
+        separator = b",".as_slice();
+    }
+    out.push(b'}')?;
+    Ok(())
+}

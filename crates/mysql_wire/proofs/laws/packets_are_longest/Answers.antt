@@ -1,5 +1,0 @@
-use Rattle.mysql_wire.proofs.PacketLemmas.{front_of_packets}
-use Rattle.mysql_wire.proofs.laws.packets_are_longest.Goals as goal
-
-pub returns : goal.returns
-returns c = λ limit k s ps r all is. (_, front_of_packets limit k s ps r all is)

@@ -1,5 +1,0 @@
-use Rattle.mysql_wire.proofs.VersionLemmas.{version_numbers}
-use Rattle.mysql_wire.proofs.laws.versions_are_their_numbers.Goals as goal
-
-pub returns : goal.returns
-returns c = version_numbers

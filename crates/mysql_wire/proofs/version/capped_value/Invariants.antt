@@ -1,7 +1,0 @@
-use Rattle.std.proofs.Common.{◌≡◌, take, min}
-use Rattle.mysql_wire.specs.Version.{decimal}
-use Rattle.mysql_wire.proofs.version.capped_value.Given as goal
-
--- the value of the digits so far
-abbrev pub invariant-loop-digit : goal.invariant-loop-digit
-invariant-loop-digit l = l.value ≡ min (decimal (take l.digit-index l.digits)) 256

@@ -1,0 +1,6 @@
+use Rattle.std.proofs.Common.{refl}
+use Rattle.wire_packets.proofs.StandingLemmas.{before_streams}
+use Rattle.wire_packets.proofs.packet_codec.PacketCodec.with_number.Goals as goal
+
+pub returns-clause-before : goal.returns-clause-before
+returns-clause-before c = before_streams _ (refl, refl)

@@ -1,0 +1,40 @@
+ghost use Rattle.std.specs.Prelude.{◌≡◌};
+ghost use Rattle.wire_packets.specs.declared.error.PacketCodecError.TheVariants.{Io, Memory};
+
+use std::alloc::AllocError;
+use thiserror::Error;
+use wire_buf::WireFault;
+
+/// Why packets can't be read or written.
+#[derive(Clone, Copy, Debug, PartialEq, Eq, Error)]
+pub enum PacketCodecError {
+    /// A refusal of the wire's forms, for callers that read fields beside packets. No call of this crate
+    /// answers it.
+    #[error("IO error: `{0}'")]
+    Io(WireFault),
+    /// The payload would be longer than `max_allowed_packet`.
+    #[error("packet is larger than max_allowed_packet")]
+    PacketTooLarge,
+    /// A chunk has another number than the next one.
+    #[error("packets out of sync")]
+    PacketsOutOfSync,
+    /// Memory was refused.
+    #[error("out of memory")]
+    Memory,
+}
+
+impl From<WireFault> for PacketCodecError {
+    ghost from_gives = { λ fault error. error ≡ Io fault };
+
+    fn from(fault: WireFault) -> PacketCodecError {
+        PacketCodecError::Io(fault)
+    }
+}
+
+impl From<AllocError> for PacketCodecError {
+    ghost from_gives = { λ refusal error. error ≡ Memory };
+
+    fn from(_refusal: AllocError) -> PacketCodecError {
+        PacketCodecError::Memory
+    }
+}

@@ -1,0 +1,73 @@
+//! Server versions, as MySQL writes them: `8.0.32-log`.
+
+ghost use Rattle.std.specs.Prelude.{◌≡◌, option_map, option_copied, min};
+ghost use Rattle.wire_packets.specs.Version.{version_of, numbers_at, number_at, behind_point as behind_point_of, leading_digits as leading_digits_of, decimal};
+
+/// The three numbers of a server version: each has at least one digit and is below 256, the first
+/// two end in a point, and what follows the third's digits is ignored. Anything else is (0, 0, 0).
+pub fn split_version(version: &[u8]) -> (u8, u8, u8)
+    ensures { result ≡ version_of version.now }
+{
+    three_numbers(version).unwrap_or((0, 0, 0))
+}
+
+/// The three numbers, if they stand there.
+#[tactic(auto, unfolding(crate::specs::Version::numbers_at))]
+fn three_numbers(version: &[u8]) -> Option<(u8, u8, u8)>
+    ensures { result ≡ numbers_at version.now }
+{
+    let (major, rest) = number(version)?;
+    let rest = behind_point(rest)?;
+    let (minor, rest) = number(rest)?;
+    let rest = behind_point(rest)?;
+    let (patch, _) = number(rest)?;
+    Some((major, minor, patch))
+}
+
+/// The number at the front, and what follows its last digit.
+#[tactic(auto, unfolding(crate::specs::Version::number_at))]
+fn number(text: &[u8]) -> Option<(u8, &[u8])>
+    ensures { option_map (λ p. (p.0, p.1.now)) result ≡ number_at text.now }
+{
+    let digits = leading_digits(text);
+    if digits.is_empty() {
+        return None;
+    }
+    let value = capped_value(digits);
+    if value > 255 {
+        return None;
+    }
+    Some((value as u8, &text[digits.len()..]))
+}
+
+/// What follows a point, if one is at the front.
+#[tactic(auto, unfolding(crate::specs::Version::behind_point))]
+fn behind_point(text: &[u8]) -> Option<&[u8]>
+    ensures { option_map (λ r. r.now) result ≡ behind_point_of text.now }
+{
+    let (first, rest) = text.split_first()?;
+    if *first == b'.' { Some(rest) } else { None }
+}
+
+/// The digits at the front.
+fn leading_digits(text: &[u8]) -> &[u8]
+    ensures { result.now ≡ leading_digits_of text.now }
+{
+    for (i, byte) in text.iter().enumerate() {
+        if !byte.is_ascii_digit() {
+            return &text[..i];
+        }
+    }
+    text
+}
+
+/// The number that the digits spell, or 256 where it is more.
+fn capped_value(digits: &[u8]) -> u32
+    ensures { result ≡ min (decimal digits.now) 256 }
+{
+    let mut value = 0;
+    for digit in digits {
+        value = (10 * value + u32::from(digit.saturating_sub(b'0'))).min(256);
+    }
+    value
+}
