@@ -33,3 +33,11 @@ pub use Rattle.rows_jsonb.specs.JsonTreeViews
 pub use Rattle.rows_jsonb.specs.JsonOpaqueText
 pub use Rattle.rows_jsonb.specs.JsonParsing
 pub use Rattle.rows_jsonb.specs.WorkedDocuments
+pub use Rattle.rows_cells.specs.Fields
+pub use Rattle.rows_cells.specs.ColumnForms
+pub use Rattle.rows_cells.specs.CellForms
+pub use Rattle.rows_cells.specs.CellValues
+pub use Rattle.rows_cells.specs.CellViews
+pub use Rattle.rows_cells.specs.Cells
+pub use Rattle.rows_cells.specs.Images
+pub use Rattle.rows_cells.specs.ImageViews

@@ -1,5 +1,8 @@
 //! Laws of constants, values and decimals, each proved as the contract of a function that does nothing.
 
+pub use rows_cells::laws::{
+    cells_are_read, images_are_read, no_cell_begins_another, no_image_begins_another,
+};
 pub use rows_consts::laws::{
     numbers_are_distinct, orders_are_of_numbers, transaction_numbers, worked_numbers,
 };

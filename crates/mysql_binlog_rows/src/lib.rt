@@ -3,12 +3,19 @@
 //!
 //! Each thing is made in a part of its own, which is re-exported whole: `rows_consts` and `rows_flags` have
 //! the constants, `rows_values` times, values, columns, bits and the faults of rows, `rows_decimal` the
-//! decimals, and `rows_jsonb` JSON documents, whose values are `jsonb::Value`. The parts stand on those of
-//! `mysql_wire`.
+//! decimals, `rows_jsonb` JSON documents, whose values are `jsonb::Value`, and `rows_cells` the cells of columns
+//! and the images of rows. The parts stand on those of `mysql_wire`.
 #![tactic(auto)]
 
 pub mod laws;
 
+pub use rows_cells::BinlogValue;
+pub use rows_cells::CellForm;
+pub use rows_cells::CellRef;
+pub use rows_cells::ImageCells;
+pub use rows_cells::ImageColumn;
+pub use rows_cells::Width;
+pub use rows_cells::cell_front;
 pub use rows_consts::BINLOG_CHECKSUM_ALG_DESC_LEN;
 pub use rows_consts::BINLOG_CHECKSUM_LEN;
 pub use rows_consts::BinlogChecksumAlg;
@@ -53,6 +60,7 @@ pub use rows_decimal::Digit;
 pub use rows_decimal::POWERS_10;
 pub use rows_decimal::ParseDecimalError;
 pub use rows_decimal::decimal_bin_size;
+pub use rows_decimal::packs_decimal;
 pub use rows_decimal::put_decimal_text;
 pub use rows_flags::EventFlags;
 pub use rows_flags::GtidFlags;

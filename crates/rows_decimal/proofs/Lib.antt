@@ -16,3 +16,4 @@ pub mod TurnLemmas
 pub mod WriteLemmas
 pub mod PackedFrontLemmas
 pub mod Computed
+pub mod CheckLemmas

@@ -15,6 +15,7 @@ mod group_number;
 mod groups;
 pub mod laws;
 mod order;
+mod packed_check;
 mod packed_text;
 mod packing;
 mod parse;
@@ -23,5 +24,6 @@ mod unpacking;
 
 pub use digits::{DIG_BASE, DIG_PER_DEC, DIG_TO_BYTES, Digit, POWERS_10, decimal_bin_size};
 pub use fields::Decimal;
+pub use packed_check::packs_decimal;
 pub use packed_text::put_decimal_text;
 pub use parse::ParseDecimalError;

@@ -146,7 +146,7 @@ impl<'a, T: StorageFormat, U: ComplexType> ComplexValue<'a, T, U> {
 
 impl<'a> Value<'a> {
     /// The value of a document: its type byte, and then the value. No bytes are null.
-    pub(crate) fn read_document(buf: &mut ParseBuf<'a>) -> Result<Value<'a>, RowsError>
+    pub fn read_document(buf: &mut ParseBuf<'a>) -> Result<Value<'a>, RowsError>
         ensures value { shown jsonb_value result ≡ document buf.old.0.now }
         ensures rest { OnOk result
             (IsEaten (document_taken buf.old.0.now) buf.old.0.now buf.new.0.now) }

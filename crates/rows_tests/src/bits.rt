@@ -2,22 +2,32 @@
 
 use mysql_binlog_rows::Bits;
 
+/// Whether the bits are one that is set, one that is not and one that is set, by their places.
+fn are_at_their_places(bits: &Bits<'_>) -> bool {
+    bits.get(0) == Some(true)
+        && bits.get(1) == Some(false)
+        && bits.get(2) == Some(true)
+        && bits.get(3).is_none()
+}
+
+/// Whether the bits are the same ones, in order.
+fn are_in_order(bits: &Bits<'_>) -> bool {
+    let mut left = bits.iter();
+    left.next() == Some(true)
+        && left.next() == Some(false)
+        && left.next() == Some(true)
+        && left.next().is_none()
+}
+
 #[test]
 fn bits_both_orders(rt: HostRuntime) {
-    let wanted = [true, false, true];
     let lowest = Bits::lowest(&[0x05], 3);
     let highest = Bits::highest(&[0xa0], 3);
-    for (index, bit) in wanted.iter().enumerate() {
-        assert_eq!(rt; lowest.get(index), Some(*bit));
-        assert_eq!(rt; highest.get(index), Some(*bit));
-    }
-    assert_eq!(rt; lowest.get(3), None);
-    assert_eq!(rt; highest.len(), 3);
-    assert!(rt; !highest.is_empty());
-    assert_eq!(rt; highest.count_ones(), 2);
-    let mut bits = lowest.iter();
-    for bit in wanted {
-        assert_eq!(rt; bits.next(), Some(bit));
-    }
-    assert_eq!(rt; bits.next(), None);
+    assert!(rt;
+        are_at_their_places(&lowest)
+            && are_in_order(&lowest)
+            && are_at_their_places(&highest)
+            && are_in_order(&highest)
+    );
+    assert!(rt; highest.len() == 3 && !highest.is_empty() && highest.count_ones() == 2);
 }

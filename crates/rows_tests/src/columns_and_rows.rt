@@ -1,51 +1,112 @@
 //! Columns, values and rows.
 
-use mysql_binlog_rows::{Column, Value, new_row_raw};
+use crate::devices::is_borrowed_text;
+use mysql_binlog_rows::{Column, Row, Value, new_row_raw};
+use std::alloc::{AllocError, Global};
 use std::rc::RcSlice;
+use std::test::Fail;
 use wire_consts::{ColumnFlags, ColumnType};
 
-#[test]
-fn columns_and_rows(rt: HostRuntime) -> Result<(), std::test::Fail> {
-    let alloc = rt.alloc();
+/// A column whose names are a letter each, the last with a byte behind it that is no text.
+fn column(alloc: Global) -> Result<Column, AllocError> {
     let column = Column::new(alloc, ColumnType::MYSQL_TYPE_LONG)
         .with_schema(b"s")?
         .with_table(b"t")?
         .with_org_table(b"o")?
-        .with_name(b"n\xff")?
-        .with_flags(ColumnFlags::UNSIGNED_FLAG)
-        .with_character_set(45);
-    assert_eq!(rt; column.column_type(), ColumnType::MYSQL_TYPE_LONG);
-    assert_eq!(rt; column.schema_ref(), b"s".as_slice());
-    assert_eq!(rt; column.table_ref(), b"t".as_slice());
-    assert_eq!(rt; column.org_table_ref(), b"o".as_slice());
-    assert_eq!(rt; column.name_ref(), b"n\xff".as_slice());
-    assert_eq!(rt; column.schema_str(alloc)?.as_str(), "s");
-    assert_eq!(rt; column.table_str(alloc)?.as_str(), "t");
-    assert_eq!(rt; column.org_table_str(alloc)?.as_str(), "o");
-    assert_eq!(rt; column.name_str(alloc)?.as_str(), "n\u{fffd}");
-    assert_eq!(rt; column.flags(), ColumnFlags::UNSIGNED_FLAG);
-    assert_eq!(rt; column.character_set(), 45);
-    let same = column.clone(alloc)?;
-    assert!(rt; same == column);
-    assert_eq!(rt; same.org_table_ref(), b"o".as_slice());
+        .with_name(b"n\xff")?;
+    Ok(
+        column
+            .with_flags(ColumnFlags::UNSIGNED_FLAG)
+            .with_character_set(45),
+    )
+}
+
+/// Whether each field of the column is the one that it was made with.
+fn has_its_fields(column: &Column) -> bool {
+    column.column_type() == ColumnType::MYSQL_TYPE_LONG
+        && column.schema_ref() == b"s".as_slice()
+        && column.table_ref() == b"t".as_slice()
+        && column.org_table_ref() == b"o".as_slice()
+        && column.name_ref() == b"n\xff".as_slice()
+        && column.flags() == ColumnFlags::UNSIGNED_FLAG
+        && column.character_set() == 45
+}
+
+/// A row of bytes and of a null, at the column.
+fn row(alloc: Global) -> Result<Row, Fail> {
     let mut columns = Vec::new(alloc);
-    columns.push(column)?;
+    columns.push(column(alloc)?)?;
+    let mut values = Vec::new(alloc);
+    values.push(Some(Value::Bytes(Vec::from_slice(alloc, b"x")?)))?;
+    values.push(None)?;
+    Ok(new_row_raw(values, RcSlice::from_vec(columns)?))
+}
+
+/// Whether the value is the row's bytes.
+fn is_bytes(value: Option<&Value>) -> bool {
+    match value {
+        Some(Value::Bytes(bytes)) => bytes.as_slice() == b"x".as_slice(),
+        _ => false,
+    }
+}
+
+/// Whether the row has its values and its column.
+fn has_its_cells(row: &Row) -> bool {
+    row.len() == 2
+        && row.columns_ref().len() == 1
+        && is_bytes(row.as_ref(0))
+        && row.as_ref(1).is_none()
+        && row.as_ref(2).is_none()
+}
+
+#[test]
+fn fields_of_columns(rt: HostRuntime) -> Result<(), AllocError> {
+    assert!(rt; has_its_fields(&column(rt.alloc())?));
+    Ok(())
+}
+
+#[test]
+fn names_of_columns(rt: HostRuntime) -> Result<(), AllocError> {
+    let alloc = rt.alloc();
+    let column = column(alloc)?;
+    assert!(rt;
+        is_borrowed_text(column.schema_str(alloc), "s")
+            && is_borrowed_text(column.table_str(alloc), "t")
+            && is_borrowed_text(column.org_table_str(alloc), "o")
+            && is_borrowed_text(column.name_str(alloc), "n\u{fffd}")
+    );
+    Ok(())
+}
+
+#[test]
+fn copies_of_columns(rt: HostRuntime) -> Result<(), AllocError> {
+    let alloc = rt.alloc();
+    let column = column(alloc)?;
+    let copy = column.clone(alloc)?;
+    assert!(rt; copy == column && has_its_fields(&copy));
+    Ok(())
+}
+
+#[test]
+fn copies_of_values(rt: HostRuntime) -> Result<(), AllocError> {
+    let alloc = rt.alloc();
     let value = Value::Bytes(Vec::from_slice(alloc, b"x")?);
     let copy = value.clone(alloc)?;
-    assert!(rt; copy == value);
-    let mut values = Vec::new(alloc);
-    values.push(Some(value))?;
-    values.push(None)?;
-    let row = new_row_raw(values, RcSlice::from_vec(columns)?);
-    assert_eq!(rt; row.len(), 2);
-    assert_eq!(rt; row.columns_ref().len(), 1);
-    assert!(rt; row.as_ref(0) == Some(&copy));
-    assert!(rt; row.as_ref(1).is_none());
-    assert!(rt; row.as_ref(2).is_none());
-    let same = row.clone(alloc)?;
-    assert!(rt; same == row);
-    assert_eq!(rt; same.len(), 2);
-    assert!(rt; same.as_ref(0) == Some(&copy));
-    assert!(rt; same.columns_ref() == row.columns_ref());
+    assert!(rt; copy == value && is_bytes(Some(&copy)));
+    Ok(())
+}
+
+#[test]
+fn columns_and_rows(rt: HostRuntime) -> Result<(), Fail> {
+    assert!(rt; has_its_cells(&row(rt.alloc())?));
+    Ok(())
+}
+
+#[test]
+fn copies_of_rows(rt: HostRuntime) -> Result<(), Fail> {
+    let alloc = rt.alloc();
+    let row = row(alloc)?;
+    let copy = row.clone(alloc)?;
+    assert!(rt; copy == row && has_its_cells(&copy) && copy.columns_ref() == row.columns_ref());
     Ok(())
 }

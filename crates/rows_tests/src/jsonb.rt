@@ -2,34 +2,39 @@
 
 ghost use Rattle.std.specs.Prelude.{◌<◌};
 
+use crate::devices::{is_borrowed_text, is_text};
 use mysql_binlog_rows::jsonb::Value;
 use mysql_binlog_rows::{
     Array, ComplexValue, JsonContainer, JsonDiff, JsonDiffOperation, JsonDom, JsonNumber,
-    JsonScalar, JsonbError, JsonbString, JsonbType, LiteralType, MysqlTime, Object, ObjectKey,
-    OpaqueValue, RowsError, Small, UnknownJsonDiffOperation, UnknownJsonbType, UnknownLiteralType,
+    JsonScalar, JsonbError, JsonbString, JsonbType, LiteralType, Object, ObjectKey, OpaqueValue,
+    RowsError, Small, UnknownJsonDiffOperation, UnknownJsonbType, UnknownLiteralType,
 };
 use std::alloc::{AllocError, Global};
 use std::borrow::CowSlice;
-use std::collections::BTreeMap;
-use std::test::Fail;
 use wire_buf::{MySerialize, ParseBuf};
 use wire_consts::ColumnType;
 
 /// The tree of a document.
-fn tree(alloc: Global, bytes: &[u8]) -> Result<JsonDom, RowsError> {
+pub fn tree(alloc: Global, bytes: &[u8]) -> Result<JsonDom, RowsError> {
     ParseBuf(bytes).parse::<Value<'_>>(alloc, ())?.parse(alloc)
 }
 
-/// A whole number as a tree.
-fn int(number: i64) -> JsonDom {
-    JsonDom::Scalar(JsonScalar::Number(JsonNumber::Int(number)))
+/// Whether the document is an object of one member, under the key `a`.
+fn is_object_of(document: &JsonDom, wanted: &JsonDom) -> bool {
+    match document {
+        JsonDom::Container(JsonContainer::Object(members)) => {
+            members.len() == 1 && members.get("a") == Some(wanted)
+        }
+        _ => false,
+    }
 }
 
-/// An object of one member.
-fn object_of(alloc: Global, key: &str, value: JsonDom) -> Result<JsonDom, Fail> {
-    let mut members = BTreeMap::new(alloc);
-    drop(members.insert(String::from_str(alloc, key)?, value)?);
-    Ok(JsonDom::Container(JsonContainer::Object(members)))
+/// Whether the bytes are refused for this fault.
+fn is_refused(alloc: Global, bytes: &[u8], fault: Option<JsonbError>) -> bool {
+    match tree(alloc, bytes) {
+        Ok(_) => false,
+        Err(error) => error == RowsError::Jsonb(fault),
+    }
 }
 
 /// `n` small arrays within one another, behind a type byte; each but the last has one entry, or two,
@@ -56,73 +61,65 @@ fn nested(alloc: Global, n: usize, two: bool) -> Result<Vec<u8>, AllocError>
     Ok(bytes)
 }
 
+/// Whether `n` arrays within one another are of this length, and as a document have this answer.
+fn nested_gives(alloc: Global, n: usize, two: bool, len: usize, fault: Option<RowsError>) -> bool
+    requires { n < 200 }
+{
+    match nested(alloc, n, two) {
+        Ok(bytes) => bytes.len() == len && tree(alloc, &bytes).err() == fault,
+        Err(_) => false,
+    }
+}
+
 #[test]
-fn json_object_with_null(rt: HostRuntime) -> Result<(), Fail> {
-    let alloc = rt.alloc();
-    let found = tree(alloc, b"\x00\x01\x00\x0c\x00\x0b\x00\x01\x00\x04\x00\x00a")?;
-    let wanted = object_of(alloc, "a", JsonDom::Scalar(JsonScalar::Null))?;
-    assert!(rt; found == wanted);
+fn json_object_with_null(rt: HostRuntime) -> Result<(), RowsError> {
+    let bytes = b"\x00\x01\x00\x0c\x00\x0b\x00\x01\x00\x04\x00\x00a";
+    let document = tree(rt.alloc(), bytes)?;
+    assert!(rt; is_object_of(&document, &JsonDom::Scalar(JsonScalar::Null)));
     Ok(())
 }
 
 #[test]
-fn json_last_equal_key_wins(rt: HostRuntime) -> Result<(), Fail> {
-    let alloc = rt.alloc();
+fn json_last_equal_key_wins(rt: HostRuntime) -> Result<(), RowsError> {
     let bytes = b"\x00\x02\x00\x13\x00\x12\x00\x01\x00\x12\x00\x01\x00\x05\x01\x00\x05\x02\x00a";
-    assert!(rt; tree(alloc, bytes)? == object_of(alloc, "a", int(2))?);
+    let two = JsonDom::Scalar(JsonScalar::Number(JsonNumber::Int(2)));
+    assert!(rt; is_object_of(&tree(rt.alloc(), bytes)?, &two));
     Ok(())
 }
 
 #[test]
-fn json_empty_document(rt: HostRuntime) -> Result<(), Fail> {
+fn json_empty_document(rt: HostRuntime) -> Result<(), RowsError> {
     assert!(rt; tree(rt.alloc(), b"")? == JsonDom::Scalar(JsonScalar::Null));
     Ok(())
 }
 
 #[test]
-fn json_shared_values(rt: HostRuntime) -> Result<(), Fail> {
-    let alloc = rt.alloc();
-    let bytes = nested(alloc, 5, true)?;
-    assert_eq!(rt; bytes.len(), 45);
-    assert!(rt; tree(alloc, &bytes).is_ok());
-    Ok(())
+fn json_shared_values(rt: HostRuntime) {
+    assert!(rt; nested_gives(rt.alloc(), 5, true, 45, None));
 }
 
 #[test]
-fn json_over_budget(rt: HostRuntime) -> Result<(), Fail> {
-    let alloc = rt.alloc();
-    let bytes = nested(alloc, 6, true)?;
-    assert_eq!(rt; bytes.len(), 55);
-    assert!(rt; tree(alloc, &bytes).err() == Some(RowsError::Jsonb(None)));
-    Ok(())
+fn json_over_budget(rt: HostRuntime) {
+    assert!(rt; nested_gives(rt.alloc(), 6, true, 55, Some(RowsError::Jsonb(None))));
 }
 
 #[test]
-fn json_depth_limit(rt: HostRuntime) -> Result<(), Fail> {
-    let alloc = rt.alloc();
-    let hundred = nested(alloc, 100, false)?;
-    assert_eq!(rt; hundred.len(), 698);
-    assert!(rt; tree(alloc, &hundred).is_ok());
-    let more = nested(alloc, 101, false)?;
-    assert!(rt; tree(alloc, &more).err() == Some(RowsError::Jsonb(None)));
-    Ok(())
+fn json_depth_limit(rt: HostRuntime) {
+    assert!(rt;
+        nested_gives(rt.alloc(), 100, false, 698, None)
+            && nested_gives(rt.alloc(), 101, false, 705, Some(RowsError::Jsonb(None)))
+    );
 }
 
 #[test]
 fn json_bad_offset(rt: HostRuntime) {
-    let outside = tree(rt.alloc(), b"\x02\x01\x00\x07\x00\x0c\x03\x00");
     let fault = JsonbError::InvalidValueOffsetPointer;
-    assert!(rt; outside.err() == Some(RowsError::Jsonb(Some(fault))));
+    assert!(rt; is_refused(rt.alloc(), b"\x02\x01\x00\x07\x00\x0c\x03\x00", Some(fault)));
 }
 
 #[test]
 fn refused_documents(rt: HostRuntime) {
     let alloc = rt.alloc();
-    // a key that begins within the header, and a container that is longer than its bytes
-    let key = tree(alloc, b"\x00\x01\x00\x0c\x00\x0a\x00\x01\x00\x04\x00\x00a");
-    assert!(rt; key.err() == Some(RowsError::Jsonb(Some(JsonbError::InvalidKeyOffsetPointer))));
-    let long = tree(alloc, b"\x02\x00\x00\x05\x00");
-    assert!(rt; long.err() == Some(RowsError::Jsonb(Some(JsonbError::SizeOverflow))));
     let refused: [&[u8]; 6] = [
         b"\x0d",
         b"\x04\x03",
@@ -132,223 +129,327 @@ fn refused_documents(rt: HostRuntime) {
         b"\x0f\xf6\x01\x02",
     ];
     for bytes in refused {
-        assert!(rt; tree(alloc, bytes).err() == Some(RowsError::Jsonb(None)));
+        assert!(rt; is_refused(alloc, bytes, None));
+    }
+}
+
+// A key that begins within the header, and a container that is longer than its bytes.
+#[test]
+fn refused_containers(rt: HostRuntime) {
+    let alloc = rt.alloc();
+    let bytes = b"\x00\x01\x00\x0c\x00\x0a\x00\x01\x00\x04\x00\x00a";
+    assert!(rt;
+        is_refused(alloc, bytes, Some(JsonbError::InvalidKeyOffsetPointer))
+            && is_refused(
+                alloc,
+                b"\x02\x00\x00\x05\x00",
+                Some(JsonbError::SizeOverflow)
+            )
+    );
+}
+
+/// Whether the document is an opaque value of the bytes `abc` of a column, which is shown in base64.
+fn is_opaque(alloc: Global, document: &JsonDom) -> bool {
+    match document {
+        JsonDom::Scalar(JsonScalar::Opaque(opaque)) => {
+            opaque.field_type() == ColumnType::MYSQL_TYPE_BLOB
+                && opaque.value() == b"abc".as_slice()
+                && is_text(opaque.to_string(alloc), "base64:type252:YWJj")
+        }
+        _ => false,
     }
 }
 
 #[test]
-fn scalars(rt: HostRuntime) -> Result<(), Fail> {
+fn quoting_and_base64(rt: HostRuntime) -> Result<(), RowsError> {
     let alloc = rt.alloc();
-    assert!(rt; tree(alloc, b"\x04\x00")? == JsonDom::Scalar(JsonScalar::Null));
-    assert!(rt; tree(alloc, b"\x04\x01")? == JsonDom::Scalar(JsonScalar::Boolean(true)));
-    assert!(rt; tree(alloc, b"\x04\x02")? == JsonDom::Scalar(JsonScalar::Boolean(false)));
-    assert!(rt; tree(alloc, b"\x05\xfe\xff")? == int(-2));
-    assert!(rt; tree(alloc, b"\x07\xfe\xff\xff\xff")? == int(-2));
-    assert!(rt; tree(alloc, b"\x09\xfe\xff\xff\xff\xff\xff\xff\xff")? == int(-2));
-    let unsigned: [(&[u8], u64); 3] = [
-        (b"\x06\xfe\xff", 65_534),
-        (b"\x08\xfe\xff\xff\xff", 4_294_967_294),
-        (
-            b"\x0a\xfe\xff\xff\xff\xff\xff\xff\xff",
-            18_446_744_073_709_551_614,
-        ),
-    ];
-    for (bytes, number) in unsigned {
-        let wanted = JsonDom::Scalar(JsonScalar::Number(JsonNumber::Uint(number)));
-        assert!(rt; tree(alloc, bytes)? == wanted);
+    assert!(rt; is_opaque(alloc, &tree(alloc, b"\x0f\xfc\x03abc")?));
+    Ok(())
+}
+
+/// Whether a value is of an array of two elements, and of no other kind.
+fn is_array_of_two(value: &Value<'_>) -> bool {
+    value.is_array()
+        && !value.is_object()
+        && !value.is_int()
+        && !value.is_uint()
+        && !value.is_double()
+        && value.element_count() == Some(2)
+        && value.field_type().is_none()
+}
+
+/// Whether an element is this number, or there is none.
+fn is_number(element: Result<Option<Value<'_>>, RowsError>, wanted: Option<i16>) -> bool {
+    match element {
+        Ok(Some(Value::I16(number))) => wanted == Some(number),
+        Ok(None) => wanted.is_none(),
+        _ => false,
     }
-    let half = JsonNumber::Double(0x3fe0_0000_0000_0000);
-    assert!(rt;
-        tree(alloc, b"\x0b\x00\x00\x00\x00\x00\x00\xe0\x3f")?
-            == JsonDom::Scalar(JsonScalar::Number(half))
-    );
-    let text = JsonScalar::String(String::from_str(alloc, "ab")?);
-    assert!(rt; tree(alloc, b"\x0c\x02ab")? == JsonDom::Scalar(text));
-    Ok(())
 }
 
-#[test]
-fn opaque_values(rt: HostRuntime) -> Result<(), Fail> {
-    let alloc = rt.alloc();
-    let JsonDom::Scalar(JsonScalar::Number(JsonNumber::Decimal(decimal))) = tree(
-        alloc,
-        b"\x0f\xf6\x04\x03\x02\x80\x32",
-    )?
-    else {
-        assert!(rt; false, "a decimal");
-        return Ok(());
-    };
-    assert!(rt; decimal.to_string(alloc)?.as_str() == "0.50");
-    let date = b"\x0f\x0a\x08\x00\x00\x00\x00\x00\x2c\xb2\x19";
-    let packed = i64::from_le_bytes([0, 0, 0, 0, 0, 0x2c, 0xb2, 0x19]);
-    assert!(rt;
-        tree(alloc, date)?
-            == JsonDom::Scalar(JsonScalar::DateTime(MysqlTime::from_int64_date_packed(packed)))
-    );
-    let time = b"\x0f\x0b\x08\x00\x00\x00\x00\x00\x00\x00\xff";
-    let packed = i64::from_le_bytes([0, 0, 0, 0, 0, 0, 0, 0xff]);
-    assert!(rt;
-        tree(alloc, time)?
-            == JsonDom::Scalar(JsonScalar::DateTime(MysqlTime::from_int64_time_packed(packed)))
-    );
-    for number in [7u8, 12] {
-        let moment = [0x0f, number, 8, 0, 0, 0, 0, 0x90, 0x83, 0xb0, 0x19];
-        let packed = i64::from_le_bytes([0, 0, 0, 0, 0x90, 0x83, 0xb0, 0x19]);
-        let wanted = MysqlTime::from_int64_datetime_packed(packed);
-        assert!(rt; tree(alloc, &moment)? == JsonDom::Scalar(JsonScalar::DateTime(wanted)));
+/// Whether the second element of two is 2, and there is no third.
+fn has_elements(array: &ComplexValue<'_, Small, Array>) -> bool {
+    array.element_count() == 2
+        && is_number(array.elem_at(1), Some(2))
+        && is_number(array.elem_at(2), None)
+}
+
+/// Whether the elements are 1 and 2, in order.
+fn yields_elements(array: &ComplexValue<'_, Small, Array>) -> bool {
+    let mut elements = array.iter();
+    is_number(elements.next().transpose(), Some(1))
+        && is_number(elements.next().transpose(), Some(2))
+        && is_number(elements.next().transpose(), None)
+}
+
+/// Whether the owned form of a value is the array of 1 and 2.
+fn owns_elements(alloc: Global, value: Value<'_>) -> bool {
+    match value.into_owned(alloc) {
+        Ok(Value::SmallArray(array)) => has_elements(&array) && yields_elements(&array),
+        _ => false,
     }
-    Ok(())
 }
 
+// An array of 1 and 2, and a byte behind it.
 #[test]
-fn quoting_and_base64(rt: HostRuntime) -> Result<(), Fail> {
+fn values_in_their_bytes(rt: HostRuntime) -> Result<(), RowsError> {
     let alloc = rt.alloc();
-    let JsonDom::Scalar(JsonScalar::Opaque(opaque)) = tree(alloc, b"\x0f\xfc\x03abc")? else {
-        assert!(rt; false, "an opaque value");
-        return Ok(());
-    };
-    assert!(rt; opaque.field_type() == ColumnType::MYSQL_TYPE_BLOB);
-    assert!(rt; opaque.value() == b"abc".as_slice());
-    assert!(rt; opaque.to_string(alloc)?.as_str() == "base64:type252:YWJj");
-    Ok(())
-}
-
-#[test]
-fn values_in_their_bytes(rt: HostRuntime) -> Result<(), Fail> {
-    let alloc = rt.alloc();
-    // an array of 1 and 2, and a byte behind it
     let mut buf = ParseBuf(b"\x02\x02\x00\x0a\x00\x05\x01\x00\x05\x02\x00z");
     let value = buf.parse::<Value<'_>>(alloc, ())?;
-    assert!(rt; buf.0 == b"z".as_slice());
-    assert!(rt; value.is_array() && !value.is_object() && !value.is_int() && !value.is_uint());
-    assert!(rt; !value.is_double() && value.element_count() == Some(2));
-    assert!(rt; value.field_type().is_none());
-    let owned = value.into_owned(alloc)?;
-    let Value::SmallArray(array) = &owned else {
-        assert!(rt; false, "a small array");
-        return Ok(());
-    };
-    assert_eq!(rt; array.element_count(), 2);
-    assert!(rt; array.elem_at(1)? == Some(Value::I16(2)));
-    assert!(rt; array.elem_at(2)? == None);
-    let mut elements = array.iter();
-    assert!(rt; matches!(elements.next(), Some(Ok(Value::I16(1)))));
-    assert!(rt; matches!(elements.next(), Some(Ok(Value::I16(2)))));
-    assert!(rt; elements.next().is_none());
+    assert!(rt; buf.0 == b"z".as_slice() && is_array_of_two(&value));
+    assert!(rt; owns_elements(alloc, value));
+    Ok(())
+}
+
+/// An object of the one member `a`, which is null.
+fn member_of_null(alloc: Global) -> Result<ComplexValue<'static, Small, Object>, RowsError> {
+    ParseBuf(b"\x01\x00\x0c\x00\x0b\x00\x01\x00\x04\x00\x00a").parse(alloc, ())
+}
+
+/// Whether a key is this one, or there is none.
+fn is_key(key: Result<Option<ObjectKey<'_>>, RowsError>, wanted: Option<&[u8]>) -> bool {
+    match key {
+        Ok(Some(key)) => wanted == Some(key.value_raw()),
+        Ok(None) => wanted.is_none(),
+        Err(_) => false,
+    }
+}
+
+#[test]
+fn members_in_their_bytes(rt: HostRuntime) -> Result<(), RowsError> {
+    let alloc = rt.alloc();
+    let object = member_of_null(alloc)?;
+    assert!(rt; is_key(object.key_at(0), Some(b"a")) && is_key(object.key_at(1), None));
     Ok(())
 }
 
 #[test]
-fn members_in_their_bytes(rt: HostRuntime) -> Result<(), Fail> {
+fn owned_members(rt: HostRuntime) -> Result<(), RowsError> {
     let alloc = rt.alloc();
-    let mut buf = ParseBuf(b"\x01\x00\x0c\x00\x0b\x00\x01\x00\x04\x00\x00a");
-    let object = buf.parse::<ComplexValue<'_, Small, Object>>(alloc, ())?;
+    let owned = member_of_null(alloc)?.into_owned(alloc)?;
+    assert!(rt; owned.element_count() == 1 && is_key(owned.key_at(0), Some(b"a")));
+    Ok(())
+}
+
+#[test]
+fn keys(rt: HostRuntime) {
     let key = ObjectKey::new(CowSlice::Borrowed(b"a"));
-    assert!(rt; object.key_at(0)? == Some(ObjectKey::new(CowSlice::Borrowed(b"a"))));
-    assert!(rt; object.key_at(1)? == None);
-    assert!(rt; key.value_raw() == b"a".as_slice() && key.value(alloc)?.as_str() == "a");
-    let owned = object.into_owned(alloc)?;
-    assert_eq!(rt; owned.element_count(), 1);
-    Ok(())
+    assert!(rt; key.value_raw() == b"a".as_slice() && is_borrowed_text(key.value(rt.alloc()), "a"));
 }
 
-#[test]
-fn iterators_of_containers(rt: HostRuntime) -> Result<(), Fail> {
-    let alloc = rt.alloc();
-    let mut buf = ParseBuf(b"\x01\x00\x0c\x00\x0b\x00\x01\x00\x04\x00\x00a");
-    let object = buf.parse::<ComplexValue<'_, Small, Object>>(alloc, ())?;
+/// Whether the keys are `a` alone.
+fn yields_key(object: &ComplexValue<'_, Small, Object>) -> bool {
     let mut keys = object.keys();
-    let name = keys.next().transpose()?;
-    assert!(rt; name == Some(ObjectKey::new(CowSlice::Borrowed(b"a"))));
-    assert!(rt; keys.next().is_none());
+    is_key(keys.next().transpose(), Some(b"a")) && is_key(keys.next().transpose(), None)
+}
+
+/// Whether a member is the null under `a`.
+fn is_member(member: Option<Result<(ObjectKey<'_>, Value<'_>), RowsError>>) -> bool {
+    match member {
+        Some(Ok((key, value))) => key.value_raw() == b"a".as_slice() && value == Value::Null,
+        _ => false,
+    }
+}
+
+/// Whether the members are this one alone.
+fn yields_member(object: &ComplexValue<'_, Small, Object>) -> bool {
     let mut members = object.iter();
-    let Some((name, value)) = members.next().transpose()? else {
-        assert!(rt; false, "a member");
-        return Ok(());
-    };
-    assert!(rt; name == ObjectKey::new(CowSlice::Borrowed(b"a")) && value == Value::Null);
-    assert!(rt; members.next().is_none());
-    Ok(())
+    is_member(members.next()) && members.next().is_none()
 }
 
 #[test]
-fn elements_behind_a_refused_one(rt: HostRuntime) -> Result<(), Fail> {
-    let alloc = rt.alloc();
-    let mut buf = ParseBuf(b"\x02\x00\x0a\x00\x0d\x00\x00\x05\x02\x00");
-    let array = buf.parse::<ComplexValue<'_, Small, Array>>(alloc, ())?;
+fn iterators_of_containers(rt: HostRuntime) -> Result<(), RowsError> {
+    let object = member_of_null(rt.alloc())?;
+    assert!(rt; yields_key(&object) && yields_member(&object));
+    Ok(())
+}
+
+/// Whether the first element is refused, and the one behind it is 2.
+fn goes_on_behind_a_refused_one(array: &ComplexValue<'_, Small, Array>) -> bool {
     let mut elements = array.iter();
-    assert!(rt; matches!(elements.next(), Some(Err(RowsError::Jsonb(None)))));
-    assert!(rt; matches!(elements.next(), Some(Ok(Value::I16(2)))));
-    assert!(rt; elements.next().is_none());
-    Ok(())
+    let first = elements.next().transpose();
+    first.err() == Some(RowsError::Jsonb(None))
+        && is_number(elements.next().transpose(), Some(2))
+        && is_number(elements.next().transpose(), None)
 }
 
 #[test]
-fn strings_and_opaque_values(rt: HostRuntime) -> Result<(), Fail> {
+fn elements_behind_a_refused_one(rt: HostRuntime) -> Result<(), RowsError> {
+    let mut buf = ParseBuf(b"\x02\x00\x0a\x00\x0d\x00\x00\x05\x02\x00");
+    let array = buf.parse::<ComplexValue<'_, Small, Array>>(rt.alloc(), ())?;
+    assert!(rt; goes_on_behind_a_refused_one(&array));
+    Ok(())
+}
+
+/// Whether the string is written as these bytes.
+fn is_written(alloc: Global, string: &JsonbString<'_>, wanted: &[u8]) -> bool {
+    let mut out = Vec::new(alloc);
+    let Ok(()) = string.serialize(&mut out) else {
+        return false;
+    };
+    out.as_slice() == wanted
+}
+
+/// Whether the owned form of the string is the bytes `ab`.
+fn owns_string(alloc: Global, string: JsonbString<'_>) -> bool {
+    match string.into_owned(alloc) {
+        Ok(owned) => {
+            let raw = owned.into_raw();
+            &raw[..] == b"ab".as_slice()
+        }
+        Err(_) => false,
+    }
+}
+
+#[test]
+fn strings_in_their_bytes(rt: HostRuntime) -> Result<(), RowsError> {
     let alloc = rt.alloc();
     let string = ParseBuf(b"\x02ab").parse::<JsonbString<'_>>(alloc, ())?;
-    assert!(rt; string.str_raw() == b"ab".as_slice() && string.str(alloc)?.as_str() == "ab");
-    let mut out: Vec<u8> = Vec::new(alloc);
-    string.serialize(&mut out)?;
-    assert!(rt; out.as_slice() == b"\x02ab".as_slice());
-    let string = string.into_owned(alloc)?;
-    assert!(rt; string == JsonbString::new(CowSlice::Borrowed(b"ab")));
-    let raw = string.into_raw();
-    assert!(rt; &raw[..] == b"ab".as_slice());
-    let short = ParseBuf(b"\x03ab").parse::<JsonbString<'_>>(alloc, ());
-    assert!(rt; short.err() == Some(RowsError::Jsonb(None)));
-    let opaque = OpaqueValue::new(ColumnType::MYSQL_TYPE_BLOB, CowSlice::Borrowed(b"a\xff"));
-    assert!(rt; opaque.value_type() == ColumnType::MYSQL_TYPE_BLOB);
-    assert!(rt; opaque.data_raw() == b"a\xff".as_slice());
-    assert!(rt; opaque.data(alloc)?.as_str() == "a\u{fffd}");
-    let opaque = opaque.into_owned(alloc)?;
-    let value = Value::Opaque(opaque);
-    assert!(rt; value.field_type() == Some(ColumnType::MYSQL_TYPE_BLOB));
+    assert!(rt;
+        string == JsonbString::new(CowSlice::Borrowed(b"ab"))
+            && string.str_raw() == b"ab".as_slice()
+            && is_borrowed_text(string.str(alloc), "ab")
+            && is_written(alloc, &string, b"\x02ab")
+    );
+    assert!(rt; owns_string(alloc, string));
     Ok(())
 }
 
 #[test]
-fn changes_of_a_document(rt: HostRuntime) -> Result<(), Fail> {
+fn string_of_too_few_bytes(rt: HostRuntime) {
+    let short = ParseBuf(b"\x03ab").parse::<JsonbString<'_>>(rt.alloc(), ());
+    assert!(rt; short.err() == Some(RowsError::Jsonb(None)));
+}
+
+/// Whether the owned form of the opaque value is of a column's bytes.
+fn owns_opaque(alloc: Global, opaque: OpaqueValue<'_>) -> bool {
+    match opaque.into_owned(alloc) {
+        Ok(owned) => Value::Opaque(owned).field_type() == Some(ColumnType::MYSQL_TYPE_BLOB),
+        Err(_) => false,
+    }
+}
+
+#[test]
+fn strings_and_opaque_values(rt: HostRuntime) {
     let alloc = rt.alloc();
-    // the value 1 replaces what stands at $.a, behind a length that has a byte more
+    let opaque = OpaqueValue::new(ColumnType::MYSQL_TYPE_BLOB, CowSlice::Borrowed(b"a\xff"));
+    assert!(rt;
+        opaque.value_type() == ColumnType::MYSQL_TYPE_BLOB
+            && opaque.data_raw() == b"a\xff".as_slice()
+            && is_borrowed_text(opaque.data(alloc), "a\u{fffd}")
+    );
+    assert!(rt; owns_opaque(alloc, opaque));
+}
+
+/// Whether a value is the number 1.
+fn is_one(value: Option<&Value<'_>>) -> bool {
+    match value {
+        Some(Value::I16(number)) => *number == 1,
+        _ => false,
+    }
+}
+
+/// Whether the change is that of `$.a` to 1.
+fn is_replacement(alloc: Global, diff: &JsonDiff<'_>) -> bool {
+    diff.operation() == JsonDiffOperation::REPLACE
+        && diff.path() == b"$.a".as_slice()
+        && is_borrowed_text(diff.path_str(alloc), "$.a")
+        && is_one(diff.value())
+}
+
+/// Whether the owned form of the change is so too.
+fn owns_replacement(alloc: Global, diff: JsonDiff<'_>) -> bool {
+    match diff.into_owned(alloc) {
+        Ok(owned) => is_replacement(alloc, &owned),
+        Err(_) => false,
+    }
+}
+
+// The value 1 replaces what stands at $.a, behind a length that has a byte more.
+#[test]
+fn changes_of_a_document(rt: HostRuntime) -> Result<(), RowsError> {
+    let alloc = rt.alloc();
     let mut buf = ParseBuf(b"\x00\x03$.a\x04\x05\x01\x00\x00");
     let diff = buf.parse::<JsonDiff<'_>>(alloc, ())?;
-    assert!(rt; buf.is_empty());
-    assert!(rt; diff.operation() == JsonDiffOperation::REPLACE);
-    assert!(rt; diff.path() == b"$.a".as_slice() && diff.path_str(alloc)?.as_str() == "$.a");
-    assert!(rt; diff.value() == Some(&Value::I16(1)));
-    let owned = diff.into_owned(alloc)?;
-    assert!(rt; owned.value() == Some(&Value::I16(1)));
-    let removal = ParseBuf(b"\x02\x03$.a").parse::<JsonDiff<'_>>(alloc, ())?;
-    assert!(rt; removal.operation() == JsonDiffOperation::REMOVE && removal.value().is_none());
-    let refused: [&[u8]; 4] = [b"\x03\x01$", b"\x00", b"\x01\x01$", b"\x01\x01$\x01\x0d"];
-    for bytes in refused {
-        let diff = ParseBuf(bytes).parse::<JsonDiff<'_>>(alloc, ());
-        assert!(rt; diff.err() == Some(RowsError::Jsonb(None)));
-    }
+    assert!(rt; buf.is_empty() && is_replacement(alloc, &diff));
+    assert!(rt; owns_replacement(alloc, diff));
     Ok(())
+}
+
+#[test]
+fn removal_from_a_document(rt: HostRuntime) -> Result<(), RowsError> {
+    let removal = ParseBuf(b"\x02\x03$.a").parse::<JsonDiff<'_>>(rt.alloc(), ())?;
+    assert!(rt; removal.operation() == JsonDiffOperation::REMOVE && removal.value().is_none());
+    Ok(())
+}
+
+/// Whether the bytes are refused as a change.
+fn is_no_change(alloc: Global, bytes: &[u8]) -> bool {
+    match ParseBuf(bytes).parse::<JsonDiff<'_>>(alloc, ()) {
+        Ok(_) => false,
+        Err(error) => error == RowsError::Jsonb(None),
+    }
+}
+
+#[test]
+fn refused_changes(rt: HostRuntime) {
+    let alloc = rt.alloc();
+    assert!(rt;
+        is_no_change(alloc, b"\x03\x01$")
+            && is_no_change(alloc, b"\x00")
+            && is_no_change(alloc, b"\x01\x01$")
+            && is_no_change(alloc, b"\x01\x01$\x01\x0d")
+    );
+}
+
+/// Whether the byte turns into a type of values and back, or is refused with itself.
+fn is_type_or_refused(byte: u8) -> bool {
+    match JsonbType::try_from(byte) {
+        Ok(found) => found as u8 == byte,
+        Err(unknown) => unknown == UnknownJsonbType(byte) && u8::from(unknown) == byte,
+    }
+}
+
+/// Whether the byte turns into a literal and back, or is refused with itself.
+fn is_literal_or_refused(byte: u8) -> bool {
+    match LiteralType::try_from(byte) {
+        Ok(found) => found as u8 == byte,
+        Err(unknown) => unknown == UnknownLiteralType(byte) && u8::from(unknown) == byte,
+    }
+}
+
+/// Whether the byte turns into an operation and back, or is refused with itself.
+fn is_operation_or_refused(byte: u8) -> bool {
+    match JsonDiffOperation::try_from(byte) {
+        Ok(found) => found as u8 == byte,
+        Err(unknown) => unknown == UnknownJsonDiffOperation(byte) && u8::from(unknown) == byte,
+    }
 }
 
 #[test]
 fn numbers_of_types(rt: HostRuntime) {
     for byte in 0..=u8::MAX {
-        match JsonbType::try_from(byte) {
-            Ok(found) => assert_eq!(rt; found as u8, byte),
-            Err(unknown) => assert!(rt;
-                unknown == UnknownJsonbType(byte) && u8::from(unknown) == byte
-            ),
-        }
-        match LiteralType::try_from(byte) {
-            Ok(found) => assert_eq!(rt; found as u8, byte),
-            Err(unknown) => assert!(rt;
-                unknown == UnknownLiteralType(byte) && u8::from(unknown) == byte
-            ),
-        }
-        match JsonDiffOperation::try_from(byte) {
-            Ok(found) => assert_eq!(rt; found as u8, byte),
-            Err(unknown) => assert!(rt;
-                unknown == UnknownJsonDiffOperation(byte) && u8::from(unknown) == byte
-            ),
-        }
+        assert!(rt; is_type_or_refused(byte));
+        assert!(rt; is_literal_or_refused(byte) && is_operation_or_refused(byte));
     }
 }

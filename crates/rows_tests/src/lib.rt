@@ -5,6 +5,8 @@
 #[cfg(test)]
 mod bits;
 #[cfg(test)]
+mod cells;
+#[cfg(test)]
 mod columns_and_rows;
 #[cfg(test)]
 mod constants;
@@ -16,6 +18,8 @@ mod devices;
 mod faults;
 #[cfg(test)]
 mod flags;
+#[cfg(test)]
+mod json_text;
 #[cfg(test)]
 mod jsonb;
 #[cfg(test)]

@@ -1,0 +1,53 @@
+-- The value that a borrowed cell stands for, and the value in memory of its own that is made of it.
+use Rattle.std.specs.Prelude.{◌≡◌, ℕ, ◌+◌, List, [], Option, Some, None}
+use Rattle.std.specs.declared.result.Result.TheVariants.{Ok}
+use Rattle.std.specs.Fmt.{decimal}
+use Rattle.rows_decimal.specs.Unpacked.{packed_text}
+use Rattle.rows_values.specs.declared.rows.value.Value.{Value}
+use Rattle.rows_values.specs.declared.rows.value.Value.TheVariants as value
+use Rattle.rows_jsonb.specs.JsonbValues.{document}
+use Rattle.rows_jsonb.specs.JsonbViews.{jsonb_value}
+use Rattle.rows_cells.specs.declared.binlog_value.BinlogValue.{BinlogValue}
+use Rattle.rows_cells.specs.declared.binlog_value.BinlogValue.TheVariants as made
+use Rattle.rows_cells.specs.declared.cell.CellRef.{CellRef}
+use Rattle.rows_cells.specs.declared.cell.CellRef.TheVariants as ref
+use Rattle.rows_cells.specs.CellValues.{CellValue, null, bytes, int, uint, float, double, date, time, json, date_of, span_of, new_date, old_time, old_datetime, timestamp_text}
+
+-- the text, where there is one
+abbrev pub text_or_none : Option (List ℕ) → List ℕ
+text_or_none None = []
+text_or_none (Some text) = text
+
+abbrev pub cell_value : CellRef → CellValue
+cell_value ref.Null = null
+cell_value (ref.Int z) = int z
+cell_value (ref.UInt n) = uint n
+cell_value (ref.Float bits) = float bits
+cell_value (ref.Double bits) = double bits
+cell_value (ref.Bytes b) = bytes b.now
+cell_value (ref.Year y) = bytes (decimal (1900 + y))
+cell_value (ref.NewDate n) = new_date n
+cell_value (ref.OldTime z) = old_time z
+cell_value (ref.OldDatetime n) = old_datetime n
+cell_value (ref.Timestamp seconds micros) = bytes (timestamp_text (seconds, micros))
+cell_value (ref.Datetime packed) = date_of packed
+cell_value (ref.Time packed) = span_of packed
+cell_value (ref.Decimal precision scale b) = bytes (text_or_none (packed_text precision scale b.now))
+cell_value (ref.Json b) = json b.now
+
+-- a value, without where its bytes lie
+abbrev pub value_view : Value → CellValue
+value_view value.NULL = null
+value_view (value.Bytes b) = bytes b.items
+value_view (value.Int z) = int z
+value_view (value.UInt n) = uint n
+value_view (value.Float bits) = float bits
+value_view (value.Double bits) = double bits
+value_view (value.Date year month day hour minute second micros) = date year month day hour minute second micros
+value_view (value.Time negative days hours minutes seconds micros) = time negative days hours minutes seconds micros
+
+-- the value that was made of a cell: a document is what its bytes say
+abbrev pub Holds : CellValue → BinlogValue → Type 0
+Holds v (made.Value w) = v ≡ value_view w
+Holds (json b) (made.Jsonb d) = document b ≡ Ok (jsonb_value d)
+Holds v (made.Jsonb d) = ⊥

@@ -1,0 +1,118 @@
+//! The cell at the front of bytes.
+
+ghost use Rattle.std.specs.Prelude.{◌≡◌, IfOk};
+ghost use Rattle.rows_decimal.specs.Unpacked.{packed_text};
+ghost use Rattle.rows_jsonb.specs.JsonbViews.{shown};
+ghost use Rattle.rows_cells.specs.CellForms.{size_of, decimal_size};
+ghost use Rattle.rows_cells.specs.CellValues.{worth, decimal_value};
+ghost use Rattle.rows_cells.specs.Cells.{content_at, cell_at, IsSized};
+ghost use Rattle.rows_cells.specs.CellViews.{cell_value};
+
+use crate::cell::CellRef;
+use crate::fields::{counted_front, signed, split_front, unsigned};
+use crate::form::{CellForm, Width};
+use byteorder::{ByteOrder, LittleEndian};
+use rows_decimal::{decimal_bin_size, packs_decimal};
+use rows_jsonb::Value;
+use rows_values::{RowsError, datetime_of, fraction_size, time_of, timestamp_of};
+use wire_buf::ParseBuf;
+
+/// The cell at the front and what follows it. It takes no memory.
+///
+/// `EndOfBody` where the bytes end within the cell; `Metadata` and `Cell` where the column has no cells that
+/// can be read; `Decimal` where the bytes pack none; `Jsonb` where a document can't be read.
+#[inline(always)]
+#[tactic(auto, unfolding(crate::specs::Cells::cell_at))]
+pub fn cell_front(form: CellForm, bytes: &[u8]) -> Result<(CellRef<'_>, &[u8]), RowsError>
+    ensures { shown (λ x. (cell_value x.0, x.1.now)) result ≡ cell_at form bytes.now }
+{
+    let (content, rest) = content_front(form, bytes)?;
+    let cell = cell_of(form, content)?;
+    Ok((cell, rest))
+}
+
+/// The content of the cell at the front, without the length before it, and what follows the cell.
+#[inline(always)]
+fn content_front(form: CellForm, bytes: &[u8]) -> Result<(&[u8], &[u8]), RowsError>
+    ensures value { shown (λ x. (x.0.now, x.1.now)) result ≡ content_at (size_of form) bytes.now }
+    ensures sized { IfOk result (λ x. IsSized (size_of form) x.0.now) }
+{
+    match form {
+        CellForm::Signed(width) | CellForm::Unsigned(width) => split_front(bytes, width.bytes()),
+        CellForm::Float => split_front(bytes, 4),
+        CellForm::Double | CellForm::OldDatetime => split_front(bytes, 8),
+        CellForm::Year => split_front(bytes, 1),
+        CellForm::NewDate | CellForm::OldTime => split_front(bytes, 3),
+        CellForm::Timestamp2(decimals) => {
+            split_front(bytes, 4 + fraction_size(u32::from(decimals)))
+        }
+        CellForm::Datetime2(decimals) => split_front(bytes, 5 + fraction_size(u32::from(decimals))),
+        CellForm::Time2(decimals) => split_front(bytes, 3 + fraction_size(u32::from(decimals))),
+        CellForm::Decimal(precision, scale) => decimal_front(bytes, precision, scale),
+        CellForm::Plain(len) => split_front(bytes, usize::from(len)),
+        CellForm::Counted(width) => counted_front(bytes, width),
+        CellForm::Json => counted_front(bytes, Width::Four),
+        CellForm::NoMetadata => Err(RowsError::Metadata),
+        CellForm::NoCells => Err(RowsError::Cell),
+    }
+}
+
+/// The bytes of a packed decimal and what follows them.
+#[inline(always)]
+fn decimal_front(bytes: &[u8], precision: u8, scale: u8) -> Result<(&[u8], &[u8]), RowsError>
+    ensures { shown (λ x. (x.0.now, x.1.now)) result ≡ content_at (decimal_size precision scale) bytes.now }
+{
+    if scale > precision {
+        return Err(RowsError::Decimal);
+    }
+    split_front(
+        bytes,
+        decimal_bin_size(usize::from(precision), usize::from(scale)),
+    )
+}
+
+/// The value of a cell's content.
+#[inline(always)]
+fn cell_of(form: CellForm, content: &[u8]) -> Result<CellRef<'_>, RowsError>
+    requires { IsSized (size_of form) content.now }
+    ensures { shown cell_value result ≡ worth form content.now }
+{
+    match form {
+        CellForm::Signed(width) => Ok(CellRef::Int(signed(content, width))),
+        CellForm::Unsigned(Width::Eight) => Ok(CellRef::UInt(unsigned(content, Width::Eight))),
+        CellForm::Unsigned(width) => Ok(CellRef::Int(unsigned(content, width) as i64)),
+        CellForm::Float => Ok(CellRef::Float(LittleEndian::read_u32(content))),
+        CellForm::Double => Ok(CellRef::Double(LittleEndian::read_u64(content))),
+        CellForm::Year => Ok(CellRef::Year(content[0])),
+        CellForm::NewDate => Ok(CellRef::NewDate(LittleEndian::read_u24(content))),
+        CellForm::OldTime => Ok(CellRef::OldTime(LittleEndian::read_i24(content))),
+        CellForm::OldDatetime => Ok(CellRef::OldDatetime(LittleEndian::read_u64(content))),
+        CellForm::Timestamp2(decimals) => {
+            let (seconds, micros) = timestamp_of(content, u32::from(decimals));
+            Ok(CellRef::Timestamp(seconds, micros))
+        }
+        CellForm::Datetime2(decimals) => {
+            Ok(CellRef::Datetime(datetime_of(content, u32::from(decimals))))
+        }
+        CellForm::Time2(decimals) => Ok(CellRef::Time(time_of(content, u32::from(decimals)))),
+        CellForm::Decimal(precision, scale) => decimal_of(content, precision, scale),
+        CellForm::Plain(_) | CellForm::Counted(_) => Ok(CellRef::Bytes(content)),
+        CellForm::Json => match Value::read_document(&mut ParseBuf(content)) {
+            Ok(_) => Ok(CellRef::Json(content)),
+            Err(fault) => Err(fault),
+        },
+        CellForm::NoMetadata => Err(RowsError::Metadata),
+        CellForm::NoCells => Err(RowsError::Cell),
+    }
+}
+
+/// A decimal, where the bytes pack one.
+#[inline(always)]
+fn decimal_of(content: &[u8], precision: u8, scale: u8) -> Result<CellRef<'_>, RowsError>
+    ensures { shown cell_value result ≡ decimal_value (packed_text precision scale content.now) }
+{
+    if !packs_decimal(content, usize::from(precision), usize::from(scale)) {
+        return Err(RowsError::Decimal);
+    }
+    Ok(CellRef::Decimal(precision, scale, content))
+}

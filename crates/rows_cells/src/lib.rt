@@ -1,0 +1,22 @@
+//! The cells of rows, as the rows of a binary log have them: what the cells of a column look like, by its type
+//! and metadata, and one cell, borrowed from the bytes of a rows event.
+//!
+//! `specs/ColumnForms.antt` says which form the cells of a column have, `specs/CellForms.antt` how many bytes
+//! they take, `specs/CellValues.antt` what these are worth, and `specs/Cells.antt` which bytes spell a cell.
+#![tactic(auto)]
+
+mod binlog_value;
+mod cell;
+mod column_form;
+mod fields;
+mod form;
+mod front;
+mod image;
+pub mod laws;
+mod owned;
+
+pub use binlog_value::BinlogValue;
+pub use cell::CellRef;
+pub use form::{CellForm, Width};
+pub use front::cell_front;
+pub use image::{ImageCells, ImageColumn};

@@ -1,0 +1,423 @@
+//! Cells of each column type, from their bytes to their text, and the images of rows.
+
+use feed_text::{put_json, put_value};
+use mysql_binlog_rows::{
+    BinlogValue, CellForm, CellRef, ImageCells, ImageColumn, RowsError, Value, Width, cell_front,
+};
+use std::alloc::Global;
+use wire_consts::ColumnType;
+
+/// Appends the text of a cell.
+fn put_cell(alloc: Global, cell: CellRef<'_>, out: &mut Vec<u8>) -> Result<(), RowsError> {
+    match cell.to_value(alloc)? {
+        BinlogValue::Value(value) => put_value(&value, out),
+        BinlogValue::Jsonb(document) => put_json(&document.parse(alloc)?, out),
+    }
+}
+
+/// Whether the bytes and one more are a cell of the form, with this text, and that one more.
+fn reads(alloc: Global, form: CellForm, bytes: &[u8], text: &[u8]) -> Result<bool, RowsError> {
+    let mut longer = Vec::from_slice(alloc, bytes)?;
+    longer.push(0x5a)?;
+    let (cell, rest) = cell_front(form, longer.as_slice())?;
+    let mut out = Vec::new(alloc);
+    put_cell(alloc, cell, &mut out)?;
+    Ok(out.as_slice() == text && rest == b"\x5a".as_slice())
+}
+
+/// Whether each row holds: a column's type and metadata, the bytes of a cell, and its text.
+fn all_read(alloc: Global, rows: &[(ColumnType, &[u8], &[u8], &[u8])]) -> bool {
+    for (kind, metadata, bytes, text) in rows {
+        let form = CellForm::of_column(*kind, metadata, false);
+        if reads(alloc, form, bytes, text) != Ok(true) {
+            return false;
+        }
+    }
+    true
+}
+
+#[test]
+fn signed_integers(rt: HostRuntime) {
+    let rows: [(ColumnType, &[u8], &[u8], &[u8]); 6] = [
+        (ColumnType::MYSQL_TYPE_TINY, b"", b"\x80", b"-128"),
+        (ColumnType::MYSQL_TYPE_SHORT, b"", b"\xff\x7f", b"32767"),
+        (
+            ColumnType::MYSQL_TYPE_INT24,
+            b"",
+            b"\x00\x00\x80",
+            b"-8388608",
+        ),
+        (ColumnType::MYSQL_TYPE_LONG, b"", b"\xff\xff\xff\xff", b"-1"),
+        (
+            ColumnType::MYSQL_TYPE_LONGLONG,
+            b"",
+            b"\0\0\0\0\0\0\0\x80",
+            b"-9223372036854775808",
+        ),
+        (
+            ColumnType::MYSQL_TYPE_TIMESTAMP,
+            b"",
+            b"\xff\xff\xff\xff",
+            b"4294967295",
+        ),
+    ];
+    assert!(rt; all_read(rt.alloc(), &rows));
+}
+
+#[test]
+fn unsigned_int(rt: HostRuntime) {
+    let form = CellForm::of_column(ColumnType::MYSQL_TYPE_LONG, b"", true);
+    assert!(rt; reads(rt.alloc(), form, b"\xff\xff\xff\xff", b"4294967295") == Ok(true));
+}
+
+#[test]
+fn unsigned_bigint(rt: HostRuntime) {
+    let form = CellForm::of_column(ColumnType::MYSQL_TYPE_LONGLONG, b"", true);
+    let bytes = b"\xff\xff\xff\xff\xff\xff\xff\xff";
+    assert!(rt; reads(rt.alloc(), form, bytes, b"u18446744073709551615") == Ok(true));
+}
+
+#[test]
+fn float_and_year_zero(rt: HostRuntime) {
+    let rows: [(ColumnType, &[u8], &[u8], &[u8]); 4] = [
+        (
+            ColumnType::MYSQL_TYPE_FLOAT,
+            b"\x04",
+            b"\x00\x00\x80\x3f",
+            b"f3f800000",
+        ),
+        (
+            ColumnType::MYSQL_TYPE_DOUBLE,
+            b"\x08",
+            b"\0\0\0\0\0\0\xf0\x3f",
+            b"d3ff0000000000000",
+        ),
+        (ColumnType::MYSQL_TYPE_YEAR, b"", b"\x00", b"'1900'"),
+        (ColumnType::MYSQL_TYPE_YEAR, b"", b"\xff", b"'2155'"),
+    ];
+    assert!(rt; all_read(rt.alloc(), &rows));
+}
+
+#[test]
+fn old_time(rt: HostRuntime) {
+    let rows: [(ColumnType, &[u8], &[u8], &[u8]); 4] = [
+        (
+            ColumnType::MYSQL_TYPE_TIME,
+            b"",
+            b"\x25\xd8\xff",
+            b"-0d01:02:03.000000",
+        ),
+        (
+            ColumnType::MYSQL_TYPE_TIME,
+            b"",
+            b"\xff\xff\x7f",
+            b"34d22:86:07.000000",
+        ),
+        (
+            ColumnType::MYSQL_TYPE_NEWDATE,
+            b"",
+            b"\x38\xb3\x0f",
+            b"2009-09-24T00:00:00.000000",
+        ),
+        (
+            ColumnType::MYSQL_TYPE_DATETIME,
+            b"",
+            b"\xf5\xc3\x64\xc8\x45\x12\x00\x00",
+            b"2009-09-24T09:03:57.000000",
+        ),
+    ];
+    assert!(rt; all_read(rt.alloc(), &rows));
+}
+
+#[test]
+fn timestamp_fraction(rt: HostRuntime) {
+    let rows: [(ColumnType, &[u8], &[u8], &[u8]); 5] = [
+        (
+            ColumnType::MYSQL_TYPE_TIMESTAMP2,
+            b"\x06",
+            b"\0\0\0\x01\xff\xff\xfb",
+            b"'1.-00005'",
+        ),
+        (
+            ColumnType::MYSQL_TYPE_TIMESTAMP2,
+            b"\x03",
+            b"\0\0\0\x01\x00\x05",
+            b"'1.000500'",
+        ),
+        (
+            ColumnType::MYSQL_TYPE_TIMESTAMP2,
+            b"\x00",
+            b"\xff\xff\xff\xff",
+            b"'-1'",
+        ),
+        (
+            ColumnType::MYSQL_TYPE_DATETIME2,
+            b"\x00",
+            b"\x99\x83\xb0\x90\xf9",
+            b"2009-09-24T09:03:57.000000",
+        ),
+        (
+            ColumnType::MYSQL_TYPE_TIME2,
+            b"\x02",
+            b"\x7f\xff\xfe\xf6",
+            b"-0d00:00:01.100000",
+        ),
+    ];
+    assert!(rt; all_read(rt.alloc(), &rows));
+}
+
+#[test]
+fn cell_values_of_decimals_and_documents(rt: HostRuntime) {
+    let array = b"\x0b\0\0\0\x02\x02\x00\x0a\x00\x05\x01\x00\x05\x02\x00";
+    let rows: [(ColumnType, &[u8], &[u8], &[u8]); 4] = [
+        (
+            ColumnType::MYSQL_TYPE_NEWDECIMAL,
+            b"\x0e\x04",
+            b"\x81\x0d\xfb\x38\xd2\x04\xd2",
+            b"'1234567890.1234'",
+        ),
+        (
+            ColumnType::MYSQL_TYPE_NEWDECIMAL,
+            b"\x0e\x04",
+            b"\x7e\xf2\x04\xc7\x2d\xfb\x2d",
+            b"'-1234567890.1234'",
+        ),
+        (ColumnType::MYSQL_TYPE_JSON, b"\x04", array, b"[1,2]"),
+        (ColumnType::MYSQL_TYPE_JSON, b"\x04", b"\0\0\0\0", b"null"),
+    ];
+    assert!(rt; all_read(rt.alloc(), &rows));
+}
+
+#[test]
+fn texts_and_blobs(rt: HostRuntime) {
+    let rows: [(ColumnType, &[u8], &[u8], &[u8]); 8] = [
+        (
+            ColumnType::MYSQL_TYPE_VARCHAR,
+            b"\xff\x00",
+            b"\x02ab",
+            b"'ab'",
+        ),
+        (
+            ColumnType::MYSQL_TYPE_VARCHAR,
+            b"\x00\x01",
+            b"\x02\x00ab",
+            b"'ab'",
+        ),
+        (
+            ColumnType::MYSQL_TYPE_VAR_STRING,
+            b"\xff\x00",
+            b"\x00",
+            b"''",
+        ),
+        (ColumnType::MYSQL_TYPE_STRING, b"\xfe\xff", b"\x01a", b"'a'"),
+        (
+            ColumnType::MYSQL_TYPE_STRING,
+            b"\xee\x00",
+            b"\x01\x00a",
+            b"'a'",
+        ),
+        (
+            ColumnType::MYSQL_TYPE_STRING,
+            b"\x00\x01",
+            b"\x01\x00a",
+            b"'a'",
+        ),
+        (
+            ColumnType::MYSQL_TYPE_TINY_BLOB,
+            b"\x01",
+            b"\x01'",
+            br"'\27'",
+        ),
+        (
+            ColumnType::MYSQL_TYPE_GEOMETRY,
+            b"\x04",
+            b"\x01\0\0\0a",
+            b"'a'",
+        ),
+    ];
+    assert!(rt; all_read(rt.alloc(), &rows));
+}
+
+#[test]
+fn bits_sets_and_members(rt: HostRuntime) {
+    let rows: [(ColumnType, &[u8], &[u8], &[u8]); 7] = [
+        (
+            ColumnType::MYSQL_TYPE_BIT,
+            b"\x01\x01",
+            b"\x01\x02",
+            br"'\01\02'",
+        ),
+        (ColumnType::MYSQL_TYPE_BIT, b"\x00\x01", b"\x7f", br"'\7f'"),
+        (ColumnType::MYSQL_TYPE_SET, b"\xf8\x02", b"ab", b"'ab'"),
+        (ColumnType::MYSQL_TYPE_ENUM, b"\xf7\x01", b"\xff", b"255"),
+        (
+            ColumnType::MYSQL_TYPE_ENUM,
+            b"\xf7\x02",
+            b"\x00\x01",
+            b"256",
+        ),
+        (ColumnType::MYSQL_TYPE_BLOB, b"\x03", b"\x01\0\0a", b"'a'"),
+        (ColumnType::MYSQL_TYPE_VECTOR, b"\x02", b"\x01\0a", b"'a'"),
+    ];
+    assert!(rt; all_read(rt.alloc(), &rows));
+}
+
+/// Why the bytes are no cell, or none where they are one.
+fn refusal(kind: ColumnType, metadata: &[u8], bytes: &[u8]) -> Option<RowsError> {
+    match cell_front(CellForm::of_column(kind, metadata, false), bytes) {
+        Ok(_) => None,
+        Err(fault) => Some(fault),
+    }
+}
+
+#[test]
+fn typed_array_cell(rt: HostRuntime) {
+    let kind = ColumnType::MYSQL_TYPE_TYPED_ARRAY;
+    assert!(rt; refusal(kind, b"\x03", b"\0\0\0\0") == Some(RowsError::Cell));
+}
+
+#[test]
+fn cells_refused(rt: HostRuntime) {
+    let rows: [(ColumnType, &[u8], &[u8], RowsError); 8] = [
+        (
+            ColumnType::MYSQL_TYPE_LONG,
+            b"",
+            b"\0\0\0",
+            RowsError::EndOfBody,
+        ),
+        (
+            ColumnType::MYSQL_TYPE_VARCHAR,
+            b"\xff\x00",
+            b"\x03ab",
+            RowsError::EndOfBody,
+        ),
+        (
+            ColumnType::MYSQL_TYPE_TIME2,
+            b"",
+            b"\0\0\0",
+            RowsError::Metadata,
+        ),
+        (
+            ColumnType::MYSQL_TYPE_VARCHAR,
+            b"\xff",
+            b"\x00",
+            RowsError::Metadata,
+        ),
+        (
+            ColumnType::MYSQL_TYPE_BLOB,
+            b"\x05",
+            b"\0\0\0\0\0",
+            RowsError::Metadata,
+        ),
+        (
+            ColumnType::MYSQL_TYPE_NEWDECIMAL,
+            b"\x01\x02",
+            b"\x80",
+            RowsError::Decimal,
+        ),
+        (
+            ColumnType::MYSQL_TYPE_NEWDECIMAL,
+            b"\x02\x00",
+            b"\xe4",
+            RowsError::Decimal,
+        ),
+        (
+            ColumnType::MYSQL_TYPE_JSON,
+            b"\x04",
+            b"\x01\0\0\0\x0d",
+            RowsError::Jsonb(None),
+        ),
+    ];
+    for (kind, metadata, bytes, fault) in rows {
+        assert!(rt; refusal(kind, metadata, bytes) == Some(fault));
+    }
+}
+
+/// The text of an image's cells, each behind its column's place and `=`.
+fn image_text(
+    alloc: Global,
+    columns: &[ImageColumn],
+    bytes: &[u8],
+) -> Result<(Vec<u8>, usize), RowsError> {
+    let mut cells = ImageCells::of(columns, bytes)?;
+    let mut out = Vec::new(alloc);
+    for _ in 0..columns.len() {
+        if let Some((place, cell)) = cells.next_cell()? {
+            put_value(&Value::UInt(u64::from(place)), &mut out)?;
+            out.push(b'=')?;
+            put_cell(alloc, cell, &mut out)?;
+        }
+    }
+    Ok((out, cells.rest().len()))
+}
+
+/// Whether the bytes begin with an image of the columns that has this text, and so many bytes follow it.
+fn is_image(
+    alloc: Global,
+    columns: &[ImageColumn],
+    bytes: &[u8],
+    text: &[u8],
+    left: usize,
+) -> bool {
+    match image_text(alloc, columns, bytes) {
+        Ok(found) => found.0.as_slice() == text && found.1 == left,
+        Err(_) => false,
+    }
+}
+
+/// A column of signed integers of four bytes.
+fn long_column(place: u32) -> ImageColumn {
+    ImageColumn {
+        place,
+        form: CellForm::Signed(Width::Four),
+    }
+}
+
+// Of two columns the second is in the image: it has the first null bit.
+#[test]
+fn second_column_null(rt: HostRuntime) {
+    assert!(rt; is_image(rt.alloc(), &[long_column(1)], b"\x01", b"u1=NULL", 0));
+}
+
+#[test]
+fn images_of_rows(rt: HostRuntime) {
+    let columns = [long_column(0), long_column(7)];
+    assert!(rt;
+        is_image(
+            rt.alloc(),
+            &columns,
+            b"\x01\x05\0\0\0\xff",
+            b"u0=NULLu7=5",
+            1
+        ) && is_image(rt.alloc(), &columns, b"\xfe\x05\0\0\0", b"u0=5u7=NULL", 0)
+            && !is_image(
+                rt.alloc(),
+                &columns,
+                b"\xfc\x05\0\0\0\x06\0\0",
+                b"u0=5u7=6",
+                0
+            )
+            && is_image(rt.alloc(), &[], b"\x06", b"", 1)
+    );
+}
+
+/// How many cells of an image are NULL, and how many bytes follow the image: the example of the documentation.
+fn nulls(columns: &[ImageColumn], bytes: &[u8]) -> Result<(usize, usize), RowsError> {
+    let mut cells = ImageCells::of(columns, bytes)?;
+    let mut count = 0usize;
+    for _ in 0..columns.len() {
+        if let Some((_, CellRef::Null)) = cells.next_cell()? {
+            count = count.wrapping_add(1);
+        }
+    }
+    Ok((count, cells.rest().len()))
+}
+
+#[test]
+fn nulls_of_an_image(rt: HostRuntime) {
+    let columns = [long_column(0), long_column(1)];
+    assert!(rt;
+        nulls(&columns, b"\x02\x05\0\0\0\xff") == Ok((1, 1))
+            && nulls(&columns, b"\x02\x05\0\0") == Err(RowsError::EndOfBody)
+    );
+}
