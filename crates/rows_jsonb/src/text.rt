@@ -89,13 +89,13 @@ pub struct OpaqueValue<'a> {
 
 impl<'a> OpaqueValue<'a> {
     /// A value of this type with these bytes.
-    pub fn new(value_type: ColumnType, data: CowSlice<'a, u8>) -> OpaqueValue<'a>
+    pub fn new(value_type: ColumnType, bytes: CowSlice<'a, u8>) -> OpaqueValue<'a>
         ensures value_type { result.value_type ≡ value_type }
-        ensures bytes { result.data.0 ≡ data.entry }
+        ensures bytes { result.data.0 ≡ bytes.entry }
     {
         OpaqueValue {
             value_type,
-            data: RawBytes::new(data),
+            data: RawBytes::new(bytes),
         }
     }
 

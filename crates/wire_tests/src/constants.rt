@@ -6,25 +6,40 @@ use mysql_wire::{
     MAX_PAYLOAD_LEN, SqlMode, UTF8_GENERAL_CI, UTF8MB4_GENERAL_CI, UnknownColumnType,
     UnknownFlags2, UnknownGeometryType, UnknownItemResultType,
 };
-use std::test::Fail;
+use std::alloc::Global;
+use std::fmt::Display;
 
-// Each number from 0 to 255 that is a column type turns back into itself, and the others are refused with it.
-#[test]
-fn column_types_and_back(rt: HostRuntime) {
-    let mut known = 0u32;
-    for number in 0..=255u8 {
-        match ColumnType::try_from(number) {
-            Ok(column_type) => {
-                known = known.saturating_add(1);
-                assert_eq!(rt; u8::from(column_type), number);
-            }
-            Err(unknown) => {
-                assert_eq!(rt; u8::from(unknown), number);
-                assert!(rt; number > 20 && number < 242 || number == 244, "{number}");
-            }
+/// Whether the number is a column type that turns back into it, or is refused with it where MySQL has none.
+fn turns_back(number: u8) -> bool {
+    match ColumnType::try_from(number) {
+        Ok(column_type) => u8::from(column_type) == number,
+        Err(unknown) => {
+            u8::from(unknown) == number && (number > 20 && number < 242 || number == 244)
         }
     }
-    assert_eq!(rt; known, 34);
+}
+
+#[test]
+fn column_types_and_back(rt: HostRuntime) {
+    for number in 0..=255u8 {
+        assert!(rt; turns_back(number), "{number}");
+    }
+}
+
+/// How many numbers are column types.
+fn column_types() -> u32 {
+    let mut known = 0u32;
+    for number in 0..=255u8 {
+        if ColumnType::try_from(number).is_ok() {
+            known = known.saturating_add(1);
+        }
+    }
+    known
+}
+
+#[test]
+fn count_of_column_types(rt: HostRuntime) {
+    assert!(rt; column_types() == 34);
 }
 
 // The numbers that MySQL's manual gives the commands, each of them.
@@ -65,22 +80,27 @@ fn command_numbers(rt: HostRuntime) {
         (Command::COM_RESET_CONNECTION, 31),
     ];
     for (command, number) in numbers {
-        assert_eq!(rt; command as u8, number);
+        assert!(rt; command as u8 == number, "{number}");
     }
 }
 
 #[test]
-fn result_and_geometry_types(rt: HostRuntime) {
-    assert_eq!(rt; ItemResult::try_from(-1i8), Ok(ItemResult::INVALID_RESULT));
-    assert_eq!(rt; ItemResult::try_from(4i8), Ok(ItemResult::DECIMAL_RESULT));
-    assert_eq!(rt; ItemResult::try_from(-2i8), Err(UnknownItemResultType(-2)));
-    assert_eq!(rt; i8::from(UnknownItemResultType(5)), 5);
-    assert_eq!(rt;
-        GeometryType::try_from(7u8),
-        Ok(GeometryType::GEOM_GEOMETRYCOLLECTION)
+fn result_types(rt: HostRuntime) {
+    assert!(rt;
+        ItemResult::try_from(-1i8) == Ok(ItemResult::INVALID_RESULT)
+            && ItemResult::try_from(4i8) == Ok(ItemResult::DECIMAL_RESULT)
+            && ItemResult::try_from(-2i8) == Err(UnknownItemResultType(-2))
+            && i8::from(UnknownItemResultType(5)) == 5
     );
-    assert_eq!(rt; GeometryType::try_from(8u8), Err(UnknownGeometryType(8)));
-    assert_eq!(rt; u8::from(UnknownGeometryType(8)), 8);
+}
+
+#[test]
+fn geometry_types(rt: HostRuntime) {
+    assert!(rt;
+        GeometryType::try_from(7u8) == Ok(GeometryType::GEOM_GEOMETRYCOLLECTION)
+            && GeometryType::try_from(8u8) == Err(UnknownGeometryType(8))
+            && u8::from(UnknownGeometryType(8)) == 8
+    );
 }
 
 // A set of flags, through the bound alone.
@@ -90,56 +110,61 @@ fn known_of<F: Flags>(bits: F::Bits) -> F {
 
 #[test]
 fn flag_sets(rt: HostRuntime) {
-    assert_eq!(rt;
-        ColumnFlags::try_from(0x8021u16),
-        Ok(ColumnFlags::NUM_FLAG | ColumnFlags::UNSIGNED_FLAG | ColumnFlags::NOT_NULL_FLAG)
+    let column = ColumnFlags::NUM_FLAG | ColumnFlags::UNSIGNED_FLAG | ColumnFlags::NOT_NULL_FLAG;
+    assert!(rt;
+        ColumnFlags::try_from(0x8021u16) == Ok(column)
+            && u16::from(ColumnFlags::PRI_KEY_FLAG) == 2
+            && Flags2::try_from(0x0c084000u32).map(u32::from) == Ok(0x0c084000)
+            && Flags2::try_from(1u32) == Err(UnknownFlags2(1))
+            && SqlMode::try_from(5u64).map(u64::from) == Ok(5)
     );
-    assert_eq!(rt; u16::from(ColumnFlags::PRI_KEY_FLAG), 2);
-    assert_eq!(rt;
-        Flags2::try_from(0x0c084000u32).map(u32::from),
-        Ok(0x0c084000)
+}
+
+#[test]
+fn known_and_default_flags(rt: HostRuntime) {
+    assert!(rt;
+        u32::from(known_of::<Flags2>(0x4001)) == 0x4000
+            && u64::from(known_of::<SqlMode>(u64::MAX)) == u64::MAX
+            && u16::from(ColumnFlags::default()) == 0
+            && u32::from(Flags2::default()) == 0
+            && u64::from(SqlMode::default()) == 0
     );
-    assert_eq!(rt; Flags2::try_from(1u32), Err(UnknownFlags2(1)));
-    assert_eq!(rt; u32::from(known_of::<Flags2>(0x4001)), 0x4000);
-    assert_eq!(rt; u64::from(known_of::<SqlMode>(u64::MAX)), u64::MAX);
-    assert_eq!(rt; SqlMode::try_from(5u64).map(u64::from), Ok(5));
-    assert_eq!(rt; u16::from(ColumnFlags::default()), 0);
-    assert_eq!(rt; u32::from(Flags2::default()), 0);
-    assert_eq!(rt; u64::from(SqlMode::default()), 0);
 }
 
 #[test]
 fn named_numbers(rt: HostRuntime) {
-    assert_eq!(rt; MAX_PAYLOAD_LEN, 16_777_215);
-    assert_eq!(rt; DEFAULT_MAX_ALLOWED_PACKET, 4_194_304);
-    assert_eq!(rt; UTF8_GENERAL_CI, 33);
-    assert_eq!(rt; UTF8MB4_GENERAL_CI, 45);
+    assert!(rt;
+        MAX_PAYLOAD_LEN == 16_777_215
+            && DEFAULT_MAX_ALLOWED_PACKET == 4_194_304
+            && UTF8_GENERAL_CI == 33
+            && UTF8MB4_GENERAL_CI == 45
+    );
+}
+
+/// Whether the value is printed as the text.
+fn prints<T: Display>(alloc: Global, value: &T, text: &str) -> bool {
+    match format!(in alloc; "{}", value) {
+        Ok(printed) => printed.as_str() == text,
+        Err(_) => false,
+    }
 }
 
 // The texts of the refusals.
 #[test]
-fn refusals_as_text(rt: HostRuntime) -> Result<(), Fail> {
+fn refusals_as_text(rt: HostRuntime) {
     let alloc = rt.alloc();
-    let texts = [
-        (
-            format!(in alloc; "{}", UnknownColumnType(21))?,
-            "Unknown column type 21",
-        ),
-        (
-            format!(in alloc; "{}", UnknownItemResultType(-5))?,
-            "Unknown item result type -5",
-        ),
-        (
-            format!(in alloc; "{}", UnknownGeometryType(8))?,
-            "Unknown geometry type 8",
-        ),
-        (
-            format!(in alloc; "{}", UnknownFlags2(5))?,
-            "Unknown flags in the raw value of Flags2 (raw=101)",
-        ),
-    ];
-    for (text, wanted) in &texts {
-        assert_eq!(rt; text.as_str(), *wanted);
-    }
-    Ok(())
+    assert!(rt;
+        prints(alloc, &UnknownColumnType(21), "Unknown column type 21")
+            && prints(
+                alloc,
+                &UnknownItemResultType(-5),
+                "Unknown item result type -5"
+            )
+            && prints(alloc, &UnknownGeometryType(8), "Unknown geometry type 8")
+            && prints(
+                alloc,
+                &UnknownFlags2(5),
+                "Unknown flags in the raw value of Flags2 (raw=101)"
+            )
+    );
 }

@@ -20,12 +20,40 @@ pub fn parsed<'a, V: MyDeserialize<'a, Ctx = ()> + Drop>(
     Ok((value, buf.len()))
 }
 
-/// The bytes of the number in the representation.
-pub fn number_written<T: IntRepr>(
+/// Whether the value is written as the bytes.
+pub fn writes<V: MySerialize>(alloc: Global, value: &V, bytes: &[u8]) -> bool {
+    match written(alloc, value) {
+        Ok(out) => out.as_slice() == bytes,
+        Err(_) => false,
+    }
+}
+
+/// Why no value is read at the front of the bytes, or None where one is.
+pub fn refusal<'a, V: MyDeserialize<'a, Ctx = ()> + Drop>(
     alloc: Global,
-    value: T::Primitive,
-) -> Result<Vec<u8>, WireFault> {
-    written(alloc, &RawInt::<T>::new(value))
+    bytes: &'a [u8],
+) -> Option<V::Fault> {
+    parsed::<V>(alloc, bytes).err()
+}
+
+/// Whether the value is read from all of the bytes, and written as them.
+pub fn stands_as<'a, V: MySerialize + MyDeserialize<'a, Ctx = ()> + PartialEq + Drop>(
+    alloc: Global,
+    value: &V,
+    bytes: &'a [u8],
+) -> bool
+where
+    V::Fault: Drop,
+{
+    match parsed::<V>(alloc, bytes) {
+        Ok((read, left)) => left == 0 && read == *value && writes(alloc, value, bytes),
+        Err(_) => false,
+    }
+}
+
+/// Whether the number is written as the bytes.
+pub fn writes_number<T: IntRepr>(alloc: Global, value: T::Primitive, bytes: &[u8]) -> bool {
+    writes(alloc, &RawInt::<T>::new(value), bytes)
 }
 
 /// The number at the front of the bytes.
@@ -34,18 +62,14 @@ pub fn number_parsed<T: IntRepr>(alloc: Global, bytes: &[u8]) -> Result<T::Primi
     Ok(*raw)
 }
 
-/// Whether the number is written as the bytes, and read from them.
-pub fn agrees<T: IntRepr>(
-    alloc: Global,
-    value: T::Primitive,
-    bytes: &[u8],
-) -> Result<bool, WireFault>
+/// Whether the number is written as the bytes and read from them, and the representation has the size that proofs see.
+pub fn agrees<T: IntRepr>(alloc: Global, value: T::Primitive, bytes: &[u8]) -> bool
 where
     T::Primitive: PartialEq,
 {
-    let out = number_written::<T>(alloc, value)?;
-    let back = number_parsed::<T>(alloc, bytes)?;
-    Ok(out.as_slice() == bytes && back == value)
+    writes_number::<T>(alloc, value, bytes)
+        && number_parsed::<T>(alloc, bytes) == Ok(value)
+        && number_size_agrees::<T>()
 }
 
 /// Whether the number is refused for its size, and nothing is written.

@@ -22,3 +22,5 @@ mod packets;
 mod sequences;
 #[cfg(test)]
 mod streams;
+#[cfg(test)]
+mod texts;

@@ -3,8 +3,8 @@
 use mysql_wire::{
     ReadMysqlExt, Watched, WireFault, WriteMysqlExt, read_exact, read_more, write_all,
 };
+use std::alloc::Global;
 use std::io::{Error, ErrorKind, Read, Result as IoResult, Write};
-use std::test::Fail;
 
 /// What a device does at one call after the other: so many bytes at most, or an error.
 #[derive(Drop)]
@@ -71,211 +71,178 @@ impl Write for Device<'_> {
 }
 
 #[test]
-fn byte_after_byte(rt: HostRuntime) -> Result<(), Fail> {
+fn byte_after_byte(rt: HostRuntime) {
     let steps = [None, Some(ErrorKind::Interrupted), None];
-    let mut device = Device::new(b"abcde", &steps);
+    let mut source = Device::new(b"abc", &steps);
+    let mut target = Device::new(b"", &steps);
     let mut two = [0; 2];
-    read_exact(&mut device, &mut two)?;
-    assert_eq!(rt; two, *b"ab");
-    let mut more = Vec::new(rt.alloc());
-    more.push(b'>')?;
-    read_more(&mut device, 2, &mut more)?;
-    assert_eq!(rt; more.as_slice(), b">cd".as_slice());
-    read_more(&mut device, 0, &mut more)?;
-    assert_eq!(rt; device.bytes, b"e".as_slice());
+    assert!(rt;
+        read_exact(&mut source, &mut two) == Ok(())
+            && two == *b"ab"
+            && source.bytes == b"c".as_slice()
+            && write_all(&mut target, b"xyz") == Ok(())
+            && target.written == *b"xyz\0\0\0\0\0"
+    );
+}
 
-    let mut device = Device::new(b"", &steps);
-    write_all(&mut device, b"xyz")?;
-    assert_eq!(rt; device.written, *b"xyz\0\0\0\0\0");
-    Ok(())
+#[test]
+fn bytes_behind_others(rt: HostRuntime) {
+    let steps = [None, Some(ErrorKind::Interrupted), None];
+    let mut device = Device::new(b"cde", &steps);
+    let mut more = Vec::new(rt.alloc());
+    assert!(rt;
+        more.push(b'>').is_ok()
+            && read_more(&mut device, 2, &mut more) == Ok(())
+            && more.as_slice() == b">cd".as_slice()
+            && read_more(&mut device, 0, &mut more) == Ok(())
+            && device.bytes == b"e".as_slice()
+    );
 }
 
 #[test]
 fn ends_and_failures(rt: HostRuntime) {
     let steps = [None, Some(ErrorKind::Other)];
     let mut two = [0; 2];
-    assert_eq!(rt;
-        read_exact(&mut Device::new(b"a", &[]), &mut two),
-        Err(WireFault::Eof)
-    );
-    assert_eq!(rt;
-        read_exact(&mut Device::new(b"ab", &steps), &mut two),
-        Err(WireFault::Read)
-    );
     let mut more = Vec::new(rt.alloc());
-    // so many bytes that no memory would do: it grows with those that come
-    assert_eq!(rt;
-        read_more(&mut Device::new(b"ab", &[]), u64::MAX, &mut more),
-        Err(WireFault::Eof)
+    // u64::MAX is so many bytes that no memory would do: it grows with those that come
+    assert!(rt;
+        read_exact(&mut Device::new(b"a", &[]), &mut two) == Err(WireFault::Eof)
+            && read_exact(&mut Device::new(b"ab", &steps), &mut two) == Err(WireFault::Read)
+            && read_more(&mut Device::new(b"ab", &[]), u64::MAX, &mut more) == Err(WireFault::Eof)
+            && more.as_slice() == b"ab".as_slice()
+            && read_more(&mut Device::new(b"ab", &steps), 2, &mut more) == Err(WireFault::Read)
     );
-    assert_eq!(rt; more.as_slice(), b"ab".as_slice());
-    assert_eq!(rt;
-        read_more(&mut Device::new(b"ab", &steps), 2, &mut more),
-        Err(WireFault::Read)
-    );
-    let mut device = Device::new(b"", &steps);
-    assert_eq!(rt; write_all(&mut device, b"xyz"), Err(WireFault::Write));
-    assert_eq!(rt; device.count, 1);
-    let mut device = Device::new(b"", &[]);
-    assert_eq!(rt; write_all(&mut device, b"123456789"), Err(WireFault::Write));
-    assert_eq!(rt; device.written, *b"12345678");
-}
-
-/// A reader that gives one byte at a time, and then fails.
-#[derive(Drop)]
-struct Failing<'a>(&'a [u8]);
-
-impl Read for Failing<'_> {
-    fn read(&mut self, buf: &mut [u8]) -> IoResult<usize> {
-        let Some((first, rest)) = self.0.split_first() else {
-            return Err(Error::from(ErrorKind::Other));
-        };
-        if buf.is_empty() {
-            return Ok(0);
-        }
-        buf[0] = *first;
-        self.0 = rest;
-        Ok(1)
-    }
 }
 
 #[test]
-fn streams_that_end_or_fail(rt: HostRuntime) -> Result<(), Fail> {
+fn writers_that_fail_or_are_full(rt: HostRuntime) {
+    let steps = [None, Some(ErrorKind::Other)];
+    let mut failing = Device::new(b"", &steps);
+    let mut full = Device::new(b"", &[]);
+    assert!(rt;
+        write_all(&mut failing, b"xyz") == Err(WireFault::Write)
+            && failing.count == 1
+            && write_all(&mut full, b"123456789") == Err(WireFault::Write)
+            && full.written == *b"12345678"
+    );
+}
+
+/// What is read as a length-encoded string.
+fn string_read<R: Read>(alloc: Global, reader: &mut R, text: &[u8]) -> Result<bool, WireFault> {
+    let read = reader.read_lenenc_str(alloc)?;
+    Ok(read.as_slice() == text)
+}
+
+#[test]
+fn streams_that_end(rt: HostRuntime) {
     let alloc = rt.alloc();
     let mut whole = b"\xfc\x2c\x01\x02ab".as_slice();
-    assert_eq!(rt; whole.read_lenenc_int(), Ok(300));
-    assert_eq!(rt; whole.read_lenenc_str(alloc)?.as_slice(), b"ab".as_slice());
-    assert_eq!(rt; whole.read_lenenc_int(), Err(WireFault::Eof));
-    assert_eq!(rt;
-        b"\xff".as_slice().read_lenenc_int(),
-        Err(WireFault::BadNumber)
-    );
     // a length of 2^64 - 1 reserves nothing
     let mut cut = b"\xfe\xff\xff\xff\xff\xff\xff\xff\xffab".as_slice();
-    assert_eq!(rt; cut.read_lenenc_str(alloc).err(), Some(WireFault::Eof));
-    assert_eq!(rt;
-        Failing(b"\x02a").read_lenenc_str(alloc).err(),
-        Some(WireFault::Read)
+    assert!(rt;
+        whole.read_lenenc_int() == Ok(300)
+            && string_read(alloc, &mut whole, b"ab") == Ok(true)
+            && whole.read_lenenc_int() == Err(WireFault::Eof)
+            && b"\xff".as_slice().read_lenenc_int() == Err(WireFault::BadNumber)
+            && cut.read_lenenc_str(alloc).err() == Some(WireFault::Eof)
     );
-    assert_eq!(rt;
-        Failing(b"\x02ab").read_lenenc_str(alloc)?.as_slice(),
-        b"ab".as_slice()
-    );
-    Ok(())
-}
-
-/// A writer that takes so many bytes, and then fails.
-#[derive(Drop)]
-struct Narrow {
-    room: usize,
-}
-
-impl Write for Narrow {
-    fn write(&mut self, buf: &[u8]) -> IoResult<usize> {
-        if self.room == 0 {
-            return Err(Error::from(ErrorKind::Other));
-        }
-        let taken = buf.len().min(self.room);
-        self.room -= taken;
-        Ok(taken)
-    }
-
-    fn flush(&mut self) -> IoResult<()> {
-        Ok(())
-    }
 }
 
 #[test]
-fn numbers_to_a_writer(rt: HostRuntime) -> Result<(), Fail> {
+fn streams_that_fail(rt: HostRuntime) {
+    let alloc = rt.alloc();
+    let at_third = [None, None, Some(ErrorKind::Other)];
+    let at_fourth = [None, None, None, Some(ErrorKind::Other)];
+    let mut short = Device::new(b"\x02a", &at_third);
+    let mut whole = Device::new(b"\x02ab", &at_fourth);
+    assert!(rt;
+        string_read(alloc, &mut short, b"a") == Err(WireFault::Read)
+            && string_read(alloc, &mut whole, b"ab") == Ok(true)
+    );
+}
+
+#[test]
+fn numbers_to_a_writer(rt: HostRuntime) {
+    let steps = [None, None, Some(ErrorKind::Other)];
     let mut out: Vec<u8> = Vec::new(rt.alloc());
-    assert_eq!(rt; out.write_lenenc_int(65_536), Ok(4));
-    assert_eq!(rt; out.write_lenenc_str(b"ab"), Ok(3));
-    assert_eq!(rt; out.as_slice(), b"\xfd\x00\x00\x01\x02ab".as_slice());
-    let mut narrow = Narrow { room: 2 };
-    assert_eq!(rt; narrow.write_lenenc_str(b"ab"), Err(WireFault::Write));
-    assert_eq!(rt; narrow.room, 0);
-    Ok(())
+    let mut narrow = Device::new(b"", &steps);
+    assert!(rt;
+        out.write_lenenc_int(65_536) == Ok(4)
+            && out.write_lenenc_str(b"ab") == Ok(3)
+            && out.as_slice() == b"\xfd\x00\x00\x01\x02ab".as_slice()
+            && narrow.write_lenenc_str(b"ab") == Err(WireFault::Write)
+            && narrow.count == 2
+    );
 }
 
 #[test]
-fn watched_reader_and_writer(rt: HostRuntime) -> Result<(), Fail> {
-    let bytes: [u8; 3] = [1, 2, 3];
-    let mut reader = Watched::new(bytes.as_slice());
+fn watched_reader(rt: HostRuntime) {
+    let mut reader = Watched::new([1u8, 2, 3].as_slice());
     let mut taken = [0; 2];
-    assert_eq!(rt; reader.pull(&mut taken)?, 2);
-    assert_eq!(rt; taken, [1, 2]);
-    assert!(rt; !reader.failed());
-    assert_eq!(rt; reader.into_inner(), [3].as_slice());
+    assert!(rt;
+        reader.pull(&mut taken).ok() == Some(2)
+            && taken == [1, 2]
+            && !reader.failed()
+            && reader.into_inner() == [3].as_slice()
+    );
+}
 
+#[test]
+fn watched_writer(rt: HostRuntime) {
     let mut writer = Watched::new(Vec::new(rt.alloc()));
-    assert_eq!(rt; writer.push(&taken)?, 2);
-    assert!(rt; !writer.failed());
-    assert_eq!(rt; writer.into_inner().as_slice(), [1, 2].as_slice());
+    assert!(rt;
+        writer.push(&[1, 2]).ok() == Some(2)
+            && !writer.failed()
+            && writer.into_inner().as_slice() == [1, 2].as_slice()
+    );
+}
 
+#[test]
+fn watched_writer_that_is_full(rt: HostRuntime) {
     let mut room = [0; 1];
     let mut full = Watched::new(room.as_mut_slice());
-    assert_eq!(rt; full.push(&taken)?, 1);
-    assert!(rt; full.push(&taken[1..]).is_err());
-    assert!(rt; full.failed());
-    Ok(())
-}
-
-/// A device that always fails.
-#[derive(Drop)]
-struct Broken;
-
-impl Read for Broken {
-    fn read(&mut self, _buf: &mut [u8]) -> IoResult<usize> {
-        Err(Error::from(ErrorKind::Other))
-    }
-}
-
-impl Write for Broken {
-    fn write(&mut self, _buf: &[u8]) -> IoResult<usize> {
-        Err(Error::from(ErrorKind::Other))
-    }
-
-    fn flush(&mut self) -> IoResult<()> {
-        Ok(())
-    }
+    assert!(rt; full.push(&[1, 2]).ok() == Some(1) && full.push(&[2]).is_err() && full.failed());
 }
 
 #[test]
 fn failing_reader_and_writer(rt: HostRuntime) {
-    let mut reader = Watched::new(Broken);
+    let steps = [Some(ErrorKind::Other)];
+    let mut reader = Watched::new(Device::new(b"ab", &steps));
+    let mut writer = Watched::new(Device::new(b"", &steps));
     let mut taken = [0; 2];
-    assert!(rt; reader.pull(&mut taken).is_err());
-    assert!(rt; reader.failed());
-    let mut writer = Watched::new(Broken);
-    assert!(rt; writer.push(&[1]).is_err());
-    assert!(rt; writer.failed());
+    assert!(rt;
+        reader.pull(&mut taken).is_err()
+            && reader.failed()
+            && writer.push(&[1]).is_err()
+            && writer.failed()
+    );
 }
 
 #[test]
-fn interrupted_calls_are_tried_again(rt: HostRuntime) -> Result<(), Fail> {
+fn interrupted_calls_are_tried_again(rt: HostRuntime) {
     let steps = [
         Some(ErrorKind::Interrupted),
         Some(ErrorKind::Interrupted),
         None,
     ];
     let mut reader = Watched::new(Device::new(b"ab", &steps));
-    let mut two = [0; 2];
-    assert_eq!(rt; reader.pull(&mut two)?, 1);
-    assert_eq!(rt; two, *b"a\0");
-    assert!(rt; !reader.failed());
     let mut writer = Watched::new(Device::new(b"", &steps));
-    assert_eq!(rt; writer.push(b"xy")?, 1);
-    assert!(rt; !writer.failed());
-    Ok(())
+    let mut two = [0; 2];
+    assert!(rt;
+        reader.pull(&mut two).ok() == Some(1)
+            && two == *b"a\0"
+            && !reader.failed()
+            && writer.push(b"xy").ok() == Some(1)
+            && !writer.failed()
+    );
 }
 
 #[test]
 fn memory_grows_with_the_bytes_that_come(rt: HostRuntime) {
     let mut more = Vec::new(rt.alloc());
-    assert_eq!(rt;
-        read_more(&mut b"ab".as_slice(), u64::MAX, &mut more),
-        Err(WireFault::Eof)
+    assert!(rt;
+        read_more(&mut b"ab".as_slice(), u64::MAX, &mut more) == Err(WireFault::Eof)
+            && more.as_slice() == b"ab".as_slice()
+            && more.capacity() <= 0x2_0000
     );
-    assert_eq!(rt; more.as_slice(), b"ab".as_slice());
-    assert!(rt; more.capacity() <= 0x2_0000);
 }
