@@ -1,96 +1,187 @@
--- Changes at the front of bytes.
-use Rattle.std.proofs.Common.{◌≡◌, ◌++◌, ℕ, List, Option, Some, None, refl, sym, ap, subst, ◌∙◌}
+-- Changes that are read are spelled so, and those that are spelled so are read.
+use Rattle.std.proofs.Common.{◌≡◌, ◌≤◌, ◌<◌, ◌++◌, ℕ, List, [], ◌∷◌, length, take, drop, Bool, true, false, cond, leb, append_assoc, Option, Some, None, refl, sym, ap, subst, ◌∙◌, arith, inl, inr}
+use Rattle.std.proofs.lemmas.Bool.{le-leb, leb-true}
+use Rattle.std.proofs.lemmas.Bool.Decides.{eqb_tells}
+use Rattle.std.proofs.lemmas.List.{length-append, length-take-le, take-append-drop}
+use Rattle.std.proofs.Math.Seq.{take-append_seam, drop-append_seam}
 use Rattle.std.specs.declared.result.Result.TheVariants.{Ok, Err}
-use Rattle.wire_buf.specs.Spelling.{Begins, Reads, Lacks, Alone, Both, SameBoth, Equal}
-use Rattle.wire_buf.proofs.SpellingLemmas.{Lacks-both, Lacks-both_first, Reads-both, Lacks-then, Lacks-then_first, Reads-then}
-use Rattle.wire_buf.specs.Numbers.{IsLenencString}
+use Rattle.wire_buf.specs.Spelling.{Begins, Reads, Lacks, Alone, Equal}
+use Rattle.wire_buf.specs.Numbers.{IsLenenc, IsLenencString}
+use Rattle.wire_buf.specs.Fronts.{lenenc_front}
+use Rattle.wire_buf.proofs.LenencLemmas.{lenenc_front-complete, lenenc_front-sound}
 use Rattle.rows_values.specs.declared.fault.RowsError.{RowsError}
-use Rattle.rows_jsonb.specs.JsonbValues.{JsonbValue, Reading, document}
-use Rattle.rows_jsonb.specs.JsonDiffs.{IsEmbedded, IsOperation, IsDiffValue, IsDiff}
+use Rattle.rows_jsonb.specs.JsonbValues.{JsonbValue, Reading, ◌>>=◌, bad}
+use Rattle.rows_jsonb.specs.JsonDiffs.{IsEmbedded, IsOperation, IsDiffValue, Diff, IsDiff, operation_at, text_of_length, text_at, embedded_at, diff_value_at, diff_at}
 use Rattle.rows_jsonb.specs.declared.diff.JsonDiffOperation.{JsonDiffOperation}
 use Rattle.rows_jsonb.specs.declared.diff.JsonDiffOperation.TheVariants.{REPLACE, INSERT, REMOVE}
 
-same_seen : (s t : JsonbValue) → ◌≡◌ {A = Reading JsonbValue} (Ok s) (Ok t) → s ≡ t
-same_seen s t e = cc
+-- the step of a reading that found something
+pub bind-ok : {A B : Type 0} (o : Reading A) (f : A → Reading B) (y : B) → (o >>= f) ≡ Ok y → (x : A) × (o ≡ Ok x) × (f x ≡ Ok y)
+bind-ok (Err e) f y h = absurd cc
+bind-ok (Ok x) f y h = (x, refl, h)
 
-abbrev Puts : JsonDiffOperation → Type 0
-Puts REMOVE = ⊥
-Puts op = Unit {0}
+-- what was found is the first part and the second
+pub ok_pair : {A B : Type 0} (a : A) (b : B) (x : A × B) → (let found : Reading (A × B) = Ok (a, b) in found ≡ Ok x) → (a ≡ x.0) × (b ≡ x.1)
+ok_pair a b x h = let e : (a, b) ≡ x = cc in (ap (λ p. p.0) e, ap (λ p. p.1) e)
 
-pub puts : (op : JsonDiffOperation) → (op ≡ REMOVE → ⊥) → Puts op
-puts REMOVE h = h refl
-puts REPLACE h = tt
-puts INSERT h = tt
+-- ---- texts behind their length
 
-embedded : (op : JsonDiffOperation) (o : Option JsonbValue) (bytes rest : List ℕ) → Puts op → IsDiffValue op o bytes rest → (s : JsonbValue) × ((o ≡ Some s) × IsEmbedded s bytes)
-embedded REMOVE o bytes rest h v = absurd h
-embedded REPLACE (Some s) bytes rest h v = (s, (refl, v))
-embedded REPLACE None bytes rest h v = absurd v
-embedded INSERT (Some s) bytes rest h v = (s, (refl, v))
-embedded INSERT None bytes rest h v = absurd v
+text-complete : (v bytes r : List ℕ) → IsLenencString v bytes → text_at (bytes ++ r) ≡ Ok (v, r)
+unfolding text_at
+text-complete v bytes r h =
+    let long : length v ≤ length (v ++ r) = omega (arith, length-append v r) in
+    rw (h.joined, append_assoc h.front v r, lenenc_front-complete (length v) h.front (v ++ r) h.front_is, le-leb (length v) (length (v ++ r)) long, take-append_seam, drop-append_seam) refl
 
-put_value : (op : JsonDiffOperation) (s : JsonbValue) (bytes rest : List ℕ) → Puts op → IsEmbedded s bytes → IsDiffValue op (Some s) bytes rest
-put_value REMOVE s bytes rest h v = absurd h
-put_value REPLACE s bytes rest h v = v
-put_value INSERT s bytes rest h v = v
+of_length-sound : (x : List ℕ) (o : Option (ℕ × List ℕ)) (v r : List ℕ) → lenenc_front x ≡ o → text_of_length o ≡ Ok (v, r) → Begins (Alone IsLenencString) v x r
+of_length-sound x None v r e h = absurd cc
+of_length-sound x (Some n) v r e h = counted (leb n.0 (length n.1)) refl h
+  where
+    counted : (t : Bool) → t ≡ leb n.0 (length n.1) → cond {A = Reading (List ℕ × List ℕ)} t (Ok (take n.0 n.1, drop n.0 n.1)) (Err bad) ≡ Ok (v, r) → Begins (Alone IsLenencString) v x r
+    counted false f g = absurd cc
+    counted true f g =
+        let p = ok_pair (take n.0 n.1) (drop n.0 n.1) (v, r) g in
+        let size : length v ≡ n.0 = ap length (sym p.0) ∙ length-take-le n.0 n.1 (leb-true n.0 (length n.1) (sym f)) in
+        let number = lenenc_front-sound n.0 x n.1 e in
+        let whole : n.1 ≡ v ++ r = rw (← p.0, ← p.1) (sym (take-append-drop n.0 n.1)) in
+        record {
+          bytes = number.bytes ++ v;
+          joined = number.joined ∙ ap (λ (t : List ℕ). number.bytes ++ t) whole ∙ sym (append_assoc number.bytes v r);
+          is = record { front = number.bytes; front_is = subst (λ (k : ℕ). IsLenenc k number.bytes) (sym size) number.is; joined = refl };
+        }
 
--- the document of a value that stands there
-content_at : (s : JsonbValue) (bytes x rest : List ℕ) → x ≡ bytes ++ rest → (e : IsEmbedded s bytes) → Begins (Alone IsLenencString) e.content x rest
-content_at s bytes x rest joined e = record { bytes = bytes; joined = joined; is = e.content_is }
+text-sound : (x v r : List ℕ) → text_at x ≡ Ok (v, r) → Begins (Alone IsLenencString) v x r
+unfolding text_at
+text-sound x v r h = of_length-sound x (lenenc_front x) v r refl h
 
-pub value_lacks_string : (op : JsonDiffOperation) (x : List ℕ) → Puts op → Lacks (Alone IsLenencString) x → Lacks (IsDiffValue op) x
-value_lacks_string op x h lacks o rest b =
-    let v = embedded op o b.bytes rest h b.is in
-    lacks v.1.1.content rest (content_at v.0 b.bytes x rest b.joined v.1.1)
+-- a text that was read stands there
+pub text_read : (x v r : List ℕ) → Begins (Alone IsLenencString) v x r → text_at x ≡ Ok (v, r)
+text_read x v r b = rw b.joined (text-complete v b.bytes r b.is)
 
-pub value_lacks_document : (op : JsonDiffOperation) (content x after : List ℕ) (e : RowsError) → Puts op → Reads (Alone IsLenencString) Equal content x after → document content ≡ Err e → Lacks (IsDiffValue op) x
-value_lacks_document op content x after e h reads fails o rest b =
-    let v = embedded op o b.bytes rest h b.is in
-    let same = (reads.only v.1.1.content rest (content_at v.0 b.bytes x rest b.joined v.1.1)).1 in
-    let found : document content ≡ Ok v.0 = ap document same ∙ v.1.1.seen_is in
-    absurd cc
+-- there is no text
+pub text_refused : (x : List ℕ) → Lacks (Alone IsLenencString) x → text_at x ≡ Err bad
+unfolding text_at
+text_refused x lacks = none (lenenc_front x) refl
+  where
+    none : (o : Option (ℕ × List ℕ)) → o ≡ lenenc_front x → text_of_length o ≡ Err bad
+    none None e = refl
+    none (Some n) e = some (leb n.0 (length n.1)) refl
+      where
+        some : (t : Bool) → t ≡ leb n.0 (length n.1) → cond {A = Reading (List ℕ × List ℕ)} t (Ok (take n.0 n.1, drop n.0 n.1)) (Err bad) ≡ Err bad
+        some false f = refl
+        some true f = absurd (lacks (take n.0 n.1) (drop n.0 n.1) (of_length-sound x (Some n) (take n.0 n.1) (drop n.0 n.1) (sym e) (rw (← f) refl)))
 
-pub value_reads : (op : JsonDiffOperation) (content x after : List ℕ) (s : JsonbValue) → Puts op → Reads (Alone IsLenencString) Equal content x after → document content ≡ Ok s → Reads (IsDiffValue op) Equal (Some s) x after
-value_reads op content x after s h reads found = record {
-  begins = record {
-    bytes = reads.begins.bytes;
-    joined = reads.begins.joined;
-    is = put_value op s reads.begins.bytes after h (record { content = content; content_is = reads.begins.is; seen_is = found });
-  };
-  only = λ o rest b.
-      let v = embedded op o b.bytes rest h b.is in
-      let one = reads.only v.1.1.content rest (content_at v.0 b.bytes x rest b.joined v.1.1) in
-      let there : document content ≡ Ok v.0 = ap document one.1 ∙ v.1.1.seen_is in
-      (one.0, ap Some (same_seen s v.0 (sym found ∙ there)) ∙ sym v.1.0);
+-- ---- a change
+
+operation-complete : (op : JsonDiffOperation) (bytes rest r : List ℕ) → IsOperation op bytes rest → operation_at (bytes ++ r) ≡ Ok (op, r)
+operation-complete REPLACE bytes rest r h = rw h refl
+operation-complete INSERT bytes rest r h = rw h refl
+operation-complete REMOVE bytes rest r h = rw h refl
+
+operation-sound : (x : List ℕ) (op : JsonDiffOperation) (r : List ℕ) → operation_at x ≡ Ok (op, r) → Begins IsOperation op x r
+operation-sound [] op r h = absurd cc
+operation-sound (n ∷ x) op r h = elim (eqb_tells n 0) [
+  | inl t ↦ let p = ok_pair REPLACE x (op, r) (rw t.0 at h) in record { bytes = n ∷ []; joined = ap (λ (s : List ℕ). n ∷ s) p.1; is = rw (← p.0, t.1) refl }
+  | inr t ↦ let g = rw t.0 at h in elim (eqb_tells n 1) [
+    | inl u ↦ let p = ok_pair INSERT x (op, r) (rw u.0 at g) in record { bytes = n ∷ []; joined = ap (λ (s : List ℕ). n ∷ s) p.1; is = rw (← p.0, u.1) refl }
+    | inr u ↦ let k = rw u.0 at g in elim (eqb_tells n 2) [
+      | inl w ↦ let p = ok_pair REMOVE x (op, r) (rw w.0 at k) in record { bytes = n ∷ []; joined = ap (λ (s : List ℕ). n ∷ s) p.1; is = rw (← p.0, w.1) refl }
+      | inr w ↦ let m = rw w.0 at k in absurd cc
+    ]
+  ]
+]
+
+-- a document behind its length, which is put there
+embedded-complete : (s : JsonbValue) (bytes r : List ℕ) → IsEmbedded s bytes → embedded_at (bytes ++ r) ≡ Ok (Some s, r)
+embedded-complete s bytes r h = rw (text-complete h.content bytes r h.content_is, h.seen_is) refl
+
+value-complete : (op : JsonDiffOperation) (o : Option JsonbValue) (bytes rest r : List ℕ) → IsDiffValue op o bytes rest → diff_value_at op (bytes ++ r) ≡ Ok (o, r)
+value-complete REMOVE None bytes rest r h = rw h refl
+value-complete REMOVE (Some s) bytes rest r h = absurd h
+value-complete REPLACE None bytes rest r h = absurd h
+value-complete REPLACE (Some s) bytes rest r h = embedded-complete s bytes r h
+value-complete INSERT None bytes rest r h = absurd h
+value-complete INSERT (Some s) bytes rest r h = embedded-complete s bytes r h
+
+embedded-sound : (x : List ℕ) (o : Option JsonbValue) (r : List ℕ) → embedded_at x ≡ Ok (o, r)
+    → (s : JsonbValue) × (bytes : List ℕ) × (o ≡ Some s) × (x ≡ bytes ++ r) × IsEmbedded s bytes
+embedded-sound x o r h =
+    let a = bind-ok _ _ _ h in
+    let b = bind-ok _ _ _ a.2 in
+    let p = ok_pair _ _ (o, r) b.2 in
+    let t = text-sound x a.0.0 a.0.1 a.1 in
+    (b.0, t.bytes, sym p.0, t.joined ∙ ap (λ (s : List ℕ). t.bytes ++ s) p.1, record { content = a.0.0; content_is = t.is; seen_is = b.1 })
+
+replaced : (s : JsonbValue) (o : Option JsonbValue) (bytes r : List ℕ) → o ≡ Some s → IsEmbedded s bytes → IsDiffValue REPLACE o bytes r
+replaced s o bytes r e h = rw e h
+
+inserted : (s : JsonbValue) (o : Option JsonbValue) (bytes r : List ℕ) → o ≡ Some s → IsEmbedded s bytes → IsDiffValue INSERT o bytes r
+inserted s o bytes r e h = rw e h
+
+value-sound : (op : JsonDiffOperation) (x : List ℕ) (o : Option JsonbValue) (r : List ℕ) → diff_value_at op x ≡ Ok (o, r) → Begins (IsDiffValue op) o x r
+value-sound REMOVE x o r h = let p = ok_pair None x (o, r) h in record { bytes = []; joined = p.1; is = rw (← p.0) refl }
+value-sound REPLACE x o r h = let e = embedded-sound x o r h in record { bytes = e.1; joined = e.3; is = replaced e.0 o e.1 r e.2 e.4 }
+value-sound INSERT x o r h = let e = embedded-sound x o r h in record { bytes = e.1; joined = e.3; is = inserted e.0 o e.1 r e.2 e.4 }
+
+pub diff-complete : (d : Diff) (bytes rest r : List ℕ) → IsDiff d bytes rest → diff_at (bytes ++ r) ≡ Ok (d, r)
+unfolding diff_at
+diff-complete d bytes rest r h =
+    let tail = h.second_is in
+    rw (
+      h.joined,
+      append_assoc h.front h.back r,
+      operation-complete d.0 h.front (h.back ++ rest) (h.back ++ r) h.first_is,
+      tail.joined,
+      append_assoc tail.front tail.back r,
+      text-complete d.1.0 tail.front (tail.back ++ r) tail.first_is,
+      value-complete d.0 d.1.1 tail.back rest r tail.second_is,
+    ) refl
+
+same_diff : (d w : Diff) (x r s : List ℕ) → d ≡ w → r ≡ s → Begins IsDiff d x r → Begins IsDiff w x s
+same_diff d w x r s e f b = rw (← e, ← f) b
+
+pub diff-sound : (x : List ℕ) (d : Diff) (r : List ℕ) → diff_at x ≡ Ok (d, r) → Begins IsDiff d x r
+unfolding diff_at
+diff-sound x d r h =
+    let a = bind-ok _ _ _ h in
+    let b = bind-ok _ _ _ a.2 in
+    let c = bind-ok _ _ _ b.2 in
+    let p = ok_pair _ _ (d, r) c.2 in
+    let op = operation-sound x a.0.0 a.0.1 a.1 in
+    let path = text-sound a.0.1 b.0.0 b.0.1 b.1 in
+    let value = value-sound a.0.0 b.0.1 c.0.0 c.0.1 c.1 in
+    let after : x ≡ (op.bytes ++ (path.bytes ++ value.bytes)) ++ c.0.1 =
+    op.joined ∙ ap (λ (s : List ℕ). op.bytes ++ s) (path.joined ∙ ap (λ (s : List ℕ). path.bytes ++ s) value.joined ∙ sym (append_assoc path.bytes value.bytes c.0.1)) ∙ sym (append_assoc op.bytes (path.bytes ++ value.bytes) c.0.1)
+    in
+    same_diff (a.0.0, (b.0.0, c.0.0)) d x c.0.1 r p.0 p.1 (record {
+      bytes = op.bytes ++ (path.bytes ++ value.bytes);
+      joined = after;
+      is = record {
+        front = op.bytes;
+        back = path.bytes ++ value.bytes;
+        joined = refl;
+        first_is = op.is;
+        second_is = record { front = path.bytes; back = value.bytes; joined = refl; first_is = path.is; second_is = value.is };
+      };
+    })
+
+-- the one change that is read
+pub diff_read : (x : List ℕ) (d : Diff) (r : List ℕ) → diff_at x ≡ Ok (d, r) → Reads IsDiff Equal d x r
+diff_read x d r h = record {
+  begins = diff-sound x d r h;
+  only = λ w s b.
+      let e = sym h ∙ rw b.joined (diff-complete w b.bytes s s b.is) in
+      let p = ok_pair d r (w, s) e in
+      (sym p.1, p.0);
 }
 
--- ---- the whole change
+pub diff_refused : (x : List ℕ) (e : RowsError) → diff_at x ≡ Err e → Lacks IsDiff x
+diff_refused x e h w s b = let f : ◌≡◌ {A = Reading (Diff × List ℕ)} (Err e) (Ok (w, s)) = sym h ∙ rw b.joined (diff-complete w b.bytes s s b.is) in absurd cc
 
-abbrev Tail : JsonDiffOperation → List ℕ × Option JsonbValue → List ℕ → List ℕ → Type 0
-Tail op = Both (Alone IsLenencString) (IsDiffValue op)
+-- a change takes some of the bytes
+begins-shrinks : (d : Diff) (x r : List ℕ) → Begins IsDiff d x r → length r < length x
+begins-shrinks d x r b =
+    let one : length b.is.front ≡ 1 = ap length b.is.first_is in
+    omega (arith, one, ap length b.joined, length-append b.bytes r, ap length b.is.joined, length-append b.is.front b.is.back)
 
-keeps : (v w : JsonDiffOperation) (p : List ℕ × Option JsonbValue) (x r : List ℕ) → v ≡ w → Begins (Tail w) p x r → Begins (Tail v) p x r
-keeps v w p x r e b = subst (λ (op : JsonDiffOperation). Begins (Tail op) p x r) (sym e) b
-
-pub diff_lacks_operation : (x : List ℕ) → Lacks IsOperation x → Lacks IsDiff x
-diff_lacks_operation x lacks = Lacks-then_first IsOperation Tail Equal keeps x lacks
-
-pub diff_lacks_path : (op : JsonDiffOperation) (x m : List ℕ) → Reads IsOperation Equal op x m → Lacks (Alone IsLenencString) m → Lacks IsDiff x
-diff_lacks_path op x m reads lacks = Lacks-then IsOperation Tail Equal keeps op x m reads (Lacks-both_first (Alone IsLenencString) (IsDiffValue op) m lacks)
-
-pub diff_lacks_value : (op : JsonDiffOperation) (path x m r : List ℕ) → Reads IsOperation Equal op x m → Reads (Alone IsLenencString) Equal path m r → Lacks (IsDiffValue op) r → Lacks IsDiff x
-diff_lacks_value op path x m r reads path_reads lacks =
-    Lacks-then IsOperation Tail Equal keeps op x m reads (Lacks-both (Alone IsLenencString) (IsDiffValue op) Equal path m r path_reads lacks)
-
-all_same : (op : JsonDiffOperation) (path : List ℕ) (o : Option JsonbValue) (d : JsonDiffOperation × (List ℕ × Option JsonbValue)) → (op ≡ d.0) × ((path ≡ d.1.0) × (o ≡ d.1.1))
-    → ◌≡◌ {A = JsonDiffOperation × (List ℕ × Option JsonbValue)} (op, (path, o)) d
-all_same op path o d h = rw (h.0, h.1.0, h.1.1) refl
-
-pub diff_reads : (op : JsonDiffOperation) (path : List ℕ) (o : Option JsonbValue) (x m r after : List ℕ) → Reads IsOperation Equal op x m → Reads (Alone IsLenencString) Equal path m r → Reads (IsDiffValue op) Equal o r after
-    → Reads IsDiff Equal (op, (path, o)) x after
-diff_reads op path o x m r after first second third =
-    let whole = Reads-then IsOperation Tail Equal keeps (SameBoth Equal Equal) op (path, o) x m after first (Reads-both (Alone IsLenencString) (IsDiffValue op) Equal Equal path o m r after second third) in
-    record {
-      begins = whole.begins;
-      only = λ d rest b. let h = whole.only d rest b in (h.0, all_same op path o d h.1);
-    }
+pub diff-shrinks : (x : List ℕ) (d : Diff) (r : List ℕ) → diff_at x ≡ Ok (d, r) → length r < length x
+diff-shrinks x d r h = begins-shrinks d x r (diff-sound x d r h)

@@ -9,3 +9,4 @@ pub mod TypeLemmas
 pub mod DocumentLemmas
 pub mod FieldLemmas
 pub mod DiffLemmas
+pub mod ItemLemmas

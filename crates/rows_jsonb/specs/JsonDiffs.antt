@@ -1,11 +1,12 @@
 -- Changes of a part of a document: the number of the change, the path behind its length, and unless it is a removal a document behind its length.
-use Rattle.std.specs.Prelude.{◌≡◌, ℕ, List, [], ◌∷◌, Option, Some, None}
-use Rattle.std.specs.declared.result.Result.TheVariants.{Ok}
+use Rattle.std.specs.Prelude.{◌≡◌, ℕ, List, [], ◌∷◌, length, take, drop, Option, Some, None, nat_le, ◌==◌, if◌then◌else◌}
+use Rattle.std.specs.declared.result.Result.TheVariants.{Ok, Err}
 use Rattle.wire_buf.specs.Spelling.{ByteForm, Alone, Both, Then}
 use Rattle.wire_buf.specs.Numbers.{IsLenencString}
+use Rattle.wire_buf.specs.Fronts.{lenenc_front}
 use Rattle.rows_values.specs.declared.fault.RowsError.{RowsError}
 use Rattle.rows_values.specs.declared.fault.RowsError.TheVariants.{Jsonb}
-use Rattle.rows_jsonb.specs.JsonbValues.{JsonbValue, document}
+use Rattle.rows_jsonb.specs.JsonbValues.{JsonbValue, Reading, ◌>>=◌, bad, document}
 use Rattle.rows_jsonb.specs.declared.diff.JsonDiffOperation.{JsonDiffOperation}
 use Rattle.rows_jsonb.specs.declared.diff.JsonDiffOperation.TheVariants.{REPLACE, INSERT, REMOVE}
 
@@ -31,11 +32,50 @@ IsDiffValue REMOVE (Some s) bytes rest = ⊥
 IsDiffValue op None bytes rest = ⊥
 IsDiffValue op (Some s) bytes rest = IsEmbedded s bytes
 
--- a change, its path and its value
-abbrev pub IsDiff : ByteForm (JsonDiffOperation × (List ℕ × Option JsonbValue))
+-- a change: what it does, its path and its value
+abbrev pub Diff : Type 0
+Diff = JsonDiffOperation × (List ℕ × Option JsonbValue)
+
+abbrev pub IsDiff : ByteForm Diff
 IsDiff = Then IsOperation (λ op. Both (Alone IsLenencString) (IsDiffValue op))
 
 -- a fault of a document
 abbrev pub IsJsonbFault : RowsError → Type 0
 IsJsonbFault (Jsonb e) = Unit {0}
 IsJsonbFault _ = ⊥
+
+-- The rest of this file computes what `IsDiff` says, as the law `diffs_are_read` has it: what stands at the front, and what follows it.
+
+abbrev pub operation_at : List ℕ → Reading (JsonDiffOperation × List ℕ)
+operation_at [] = Err bad
+operation_at (n ∷ bytes) =
+    if n == 0 then Ok (REPLACE, bytes)
+    else if n == 1 then Ok (INSERT, bytes)
+    else if n == 2 then Ok (REMOVE, bytes)
+    else Err bad
+
+-- the text of that length
+abbrev pub text_of_length : Option (ℕ × List ℕ) → Reading (List ℕ × List ℕ)
+text_of_length None = Err bad
+text_of_length (Some n) = if nat_le n.0 (length n.1) then Ok (take n.0 n.1, drop n.0 n.1) else Err bad
+
+unfoldable pub text_at : List ℕ → Reading (List ℕ × List ℕ)
+text_at bytes = text_of_length (lenenc_front bytes)
+
+-- a document behind its length
+abbrev pub embedded_at : List ℕ → Reading (Option JsonbValue × List ℕ)
+embedded_at bytes = do
+  content ← text_at bytes
+  value ← document content.0
+  Ok (Some value, content.1)
+
+abbrev pub diff_value_at : JsonDiffOperation → List ℕ → Reading (Option JsonbValue × List ℕ)
+diff_value_at REMOVE bytes = Ok (None, bytes)
+diff_value_at op bytes = embedded_at bytes
+
+unfoldable pub diff_at : List ℕ → Reading (Diff × List ℕ)
+diff_at bytes = do
+  op ← operation_at bytes
+  path ← text_at op.1
+  value ← diff_value_at op.0 path.1
+  Ok ((op.0, (path.0, value.0)), value.1)

@@ -3,6 +3,7 @@ pub mod JsonbLayout
 pub mod AllColumnTypes
 pub mod JsonbValues
 pub mod JsonbFields
+pub mod Items
 pub mod JsonDiffs
 pub mod JsonDiffViews
 pub mod JsonbViews

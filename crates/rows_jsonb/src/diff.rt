@@ -1,14 +1,17 @@
 //! Changes of a part of a document, as partial updates of JSON columns have them.
 
-ghost use Rattle.std.specs.Prelude.{◌≡◌, IfOk, IfErr, IfSome, IfNone, option_map};
+ghost use Rattle.std.specs.Prelude.{◌≡◌, ◌⊎◌, IfOk, IfErr, Err, Some, option_map};
 ghost use Rattle.std.specs.Cow.{cow_str_bytes, IsOwnedSlice};
 ghost use Rattle.std.specs.Str.Lossy.{utf8_lossy};
-ghost use Rattle.wire_buf.specs.Spelling.{Equal, SameBy, Holding, Reads, Lacks};
+ghost use Rattle.wire_buf.specs.Spelling.{Equal, SameBy, Holding};
 ghost use Rattle.wire_consts.specs.Numbering.{IsConstantOf};
 ghost use Rattle.wire_forms.specs.RawTexts.{text_of};
 ghost use Rattle.rows_values.specs.declared.fault.RowsError.TheVariants.{Memory};
-ghost use Rattle.rows_jsonb.specs.JsonDiffs.{json_diff_operation_number, IsOperation, IsDiffValue, IsDiff, IsJsonbFault};
-ghost use Rattle.rows_jsonb.specs.JsonbViews.{jsonb_value};
+ghost use Rattle.rows_jsonb.specs.JsonDiffs.{json_diff_operation_number, IsDiff, operation_at, text_at, diff_value_at, diff_at};
+ghost use Rattle.rows_jsonb.specs.Items.{items_at, all_found, behind_item, fault_of};
+ghost use Rattle.std.specs.Prelude.{map as list_map};
+ghost use Rattle.rows_jsonb.specs.JsonDiffViews.{diff_view};
+ghost use Rattle.rows_jsonb.specs.JsonbViews.{jsonb_value, shown};
 
 use crate::value::Value;
 use rows_values::RowsError;
@@ -125,43 +128,115 @@ impl<'a> JsonDiff<'a> {
     }
 }
 
-/// The change of a number that stands at the front.
-fn read_operation(buf: &mut ParseBuf<'_>) -> Option<JsonDiffOperation>
-    ensures some { IfSome result (λ op. Reads IsOperation Equal op buf.old.0.now buf.new.0.now) }
-    ensures none { IfNone result (Lacks IsOperation buf.old.0.now) }
+/// What the change at the front does.
+fn operation_front(bytes: &[u8]) -> Result<(JsonDiffOperation, &[u8]), RowsError>
+    ensures { shown (λ x. (x.0, x.1.now)) result ≡ operation_at bytes.now }
 {
-    match JsonDiffOperation::try_from(buf.checked_eat_u8()?) {
-        Ok(operation) => Some(operation),
-        Err(_) => None,
+    let Some((number, rest)) = bytes.split_first() else {
+        return Err(RowsError::Jsonb(None));
+    };
+    match *number {
+        0 => Ok((JsonDiffOperation::REPLACE, rest)),
+        1 => Ok((JsonDiffOperation::INSERT, rest)),
+        2 => Ok((JsonDiffOperation::REMOVE, rest)),
+        _ => Err(RowsError::Jsonb(None)),
+    }
+}
+
+/// The bytes behind a length at the front.
+fn text_front(bytes: &[u8]) -> Result<(&[u8], &[u8]), RowsError>
+    ensures { shown (λ x. (x.0.now, x.1.now)) result ≡ text_at bytes.now }
+{
+    let mut rest = ParseBuf(bytes);
+    match rest.checked_eat_lenenc_str() {
+        Some(text) => Ok((text, rest.0)),
+        None => Err(RowsError::Jsonb(None)),
     }
 }
 
 /// The value of a change: a document behind its length, of which more bytes are passed over. A removal
 /// has none.
-fn read_value<'de>(
+fn value_front(
     operation: JsonDiffOperation,
-    buf: &mut ParseBuf<'de>,
-) -> Result<Option<Value<'de>>, RowsError>
-    ensures ok { IfOk result
-        (λ v. Reads (IsDiffValue operation) Equal (option_map jsonb_value v) buf.old.0.now buf.new.0.now) }
-    ensures err { IfErr result (λ e. IsJsonbFault e × Lacks (IsDiffValue operation) buf.old.0.now) }
+    bytes: &[u8],
+) -> Result<(Option<Value<'_>>, &[u8]), RowsError>
+    ensures { shown (λ x. (option_map jsonb_value x.0, x.1.now)) result ≡ diff_value_at operation bytes.now }
 {
-    let found = match operation {
-        JsonDiffOperation::REMOVE => return Ok(None),
-        _ => buf.checked_eat_lenenc_str(),
-    };
-    let Some(document) = found else {
-        return Err(RowsError::Jsonb(None));
-    };
-    match Value::read_document(&mut ParseBuf(document)) {
-        Ok(value) => Ok(Some(value)),
-        Err(fault) => Err(fault),
+    match operation {
+        JsonDiffOperation::REMOVE => Ok((None, bytes)),
+        JsonDiffOperation::REPLACE | JsonDiffOperation::INSERT => {
+            let (content, rest) = text_front(bytes)?;
+            let value = Value::read_document(&mut ParseBuf(content))?;
+            Ok((Some(value), rest))
+        }
     }
 }
 
-impl<'de> MyDeserialize<'de> for JsonDiff<'de> {
-    ghost use Rattle.rows_jsonb.specs.JsonDiffViews.{diff_view};
+impl<'a> JsonDiff<'a> {
+    /// The change at the front of bytes, and what follows it: its number, the path behind its length, and
+    /// unless it is a removal a document behind its length. It takes no memory. `Jsonb` where no change
+    /// stands there, with the fault of the document's pointers and sizes where it is one of those.
+    #[tactic(auto, unfolding(crate::specs::JsonDiffs::diff_at))]
+    pub fn front(bytes: &'a [u8]) -> Result<(JsonDiff<'a>, &'a [u8]), RowsError>
+        ensures { shown (λ x. (diff_view x.0, x.1.now)) result ≡ diff_at bytes.entry.now }
+    {
+        let (operation, rest) = operation_front(bytes)?;
+        let (path, rest) = text_front(rest)?;
+        let (value, rest) = value_front(operation, rest)?;
+        let diff = JsonDiff {
+            path: RawBytes::new(CowSlice::Borrowed(path)),
+            operation,
+            value,
+        };
+        Ok((diff, rest))
+    }
+}
 
+/// The changes that bytes are, one after the other to their end, as a cell of a partial update has them.
+///
+/// `Jsonb` where one of them can't be read, as `JsonDiff::front` says; `Memory` where memory was refused.
+pub fn json_diffs(alloc: Global, bytes: &[u8]) -> Result<Vec<JsonDiff<'_>>, RowsError>
+    ensures ok { IfOk result (λ v. items_at diff_at bytes.now ≡ all_found (list_map diff_view v.items)) }
+    ensures err { IfErr result (λ e. e ≡ Memory ⊎ ((items_at diff_at bytes.now).fault ≡ Some e)) }
+{
+    let mut diffs = Vec::new(alloc);
+    let mut rest = bytes;
+    while !rest.is_empty() {
+        match JsonDiff::front(rest) {
+            Ok((diff, after)) => {
+                diffs.push(diff)?;
+                rest = after;
+            }
+            Err(fault) => return Err(fault),
+        }
+    }
+    Ok(diffs)
+}
+
+/// What follows the change at the front.
+fn behind_diff(bytes: &[u8]) -> Result<&[u8], RowsError>
+    ensures { shown (λ x. x.now) result ≡ behind_item (diff_at bytes.now) }
+{
+    let (_, rest) = JsonDiff::front(bytes)?;
+    Ok(rest)
+}
+
+/// Whether bytes are changes one after the other to their end, as a cell of a partial update has them. It
+/// takes no memory. `Jsonb` where one of them can't be read, as `JsonDiff::front` says.
+pub fn check_json_diffs(bytes: &[u8]) -> Result<(), RowsError>
+    ensures { fault_of result ≡ (items_at diff_at bytes.now).fault }
+{
+    let mut rest = bytes;
+    while !rest.is_empty() {
+        match behind_diff(rest) {
+            Ok(after) => rest = after,
+            Err(fault) => return Err(fault),
+        }
+    }
+    Ok(())
+}
+
+impl<'de> MyDeserialize<'de> for JsonDiff<'de> {
     const SIZE: Option<usize> = None;
 
     type Size = AnySize;
@@ -174,7 +249,7 @@ impl<'de> MyDeserialize<'de> for JsonDiff<'de> {
 
     ghost same = { SameBy diff_view Equal };
 
-    ghost refusal = { λ ctx x e. IsJsonbFault e };
+    ghost refusal = { λ ctx x e. diff_at x ≡ Err e };
 
     ghost is_memory = { λ e. e ≡ Memory };
 
@@ -185,18 +260,11 @@ impl<'de> MyDeserialize<'de> for JsonDiff<'de> {
         _ctx: (),
         buf: &mut ParseBuf<'de>,
     ) -> Result<JsonDiff<'de>, RowsError> {
-        let Some(operation) = read_operation(buf) else {
-            return Err(RowsError::Jsonb(None));
-        };
-        let Some(path) = buf.checked_eat_lenenc_str() else {
-            return Err(RowsError::Jsonb(None));
-        };
-        match read_value(operation, buf) {
-            Ok(value) => Ok(JsonDiff {
-                path: RawBytes::new(CowSlice::Borrowed(path)),
-                operation,
-                value,
-            }),
+        match JsonDiff::front(buf.0) {
+            Ok((diff, rest)) => {
+                buf.0 = rest;
+                Ok(diff)
+            }
             Err(fault) => Err(fault),
         }
     }

@@ -1,6 +1,8 @@
 //! Worked documents. Each is a function that does nothing, whose contract is computed.
 
-ghost use Rattle.std.specs.Prelude.{◌≡◌, ◌∷◌, [], pos, length};
+ghost use Rattle.std.specs.Prelude.{◌≡◌, ◌↔◌, ◌++◌, ℕ, List, ◌∷◌, [], pos, length};
+ghost use Rattle.rows_jsonb.specs.Items.{Walked, Finds, items_at};
+ghost use Rattle.rows_jsonb.specs.JsonDiffs.{Diff, IsDiff, diff_at};
 ghost use Rattle.rows_jsonb.specs.JsonTrees as tree;
 ghost use Rattle.rows_jsonb.specs.JsonTrees.{scalar, object, member, no_members};
 ghost use Rattle.rows_jsonb.specs.JsonbValues.{bad};
@@ -37,4 +39,17 @@ pub fn worked_depth()
     ensures hundred_bytes { length (nested 99) ≡ 697 }
     ensures hundred { document_tree (2 ∷ nested 99) ≡ Ok (nested_tree 99) }
     ensures more { document_tree (2 ∷ nested 100) ≡ Err bad }
+{}
+
+/// The change that is read at the front of bytes is the one that they spell there, whatever follows it.
+pub fn diffs_are_read()
+    ensures { (d : Diff) (bytes rest : List ℕ)
+        → (diff_at bytes ≡ Ok (d, rest)) ↔ ((own : List ℕ) × (bytes ≡ own ++ rest) × IsDiff d own rest) }
+{}
+
+/// The changes that are found in bytes are those that they spell, up to the end or to what is no change; and
+/// there are no others.
+pub fn lists_of_diffs_are_read()
+    ensures found { (bytes : List ℕ) → Finds IsDiff diff_at (items_at diff_at bytes) bytes }
+    ensures only { (found : Walked Diff) (bytes : List ℕ) → Finds IsDiff diff_at found bytes → items_at diff_at bytes ≡ found }
 {}

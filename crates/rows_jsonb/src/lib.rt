@@ -20,7 +20,9 @@ mod types;
 mod value;
 
 pub use complex::ComplexValue;
-pub use diff::{JsonDiff, JsonDiffOperation, UnknownJsonDiffOperation};
+pub use diff::{
+    JsonDiff, JsonDiffOperation, UnknownJsonDiffOperation, check_json_diffs, json_diffs,
+};
 pub use dom::{JsonContainer, JsonDom, JsonNumber, JsonOpaque, JsonScalar};
 pub use format::{Array, ComplexType, Large, Object, Small, StorageFormat};
 pub use iterators::{ArrayIter, ObjectIter, ObjectKeys};
