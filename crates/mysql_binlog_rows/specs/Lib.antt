@@ -24,6 +24,7 @@ pub use Rattle.rows_jsonb.specs.JsonbLayout
 pub use Rattle.rows_jsonb.specs.AllColumnTypes
 pub use Rattle.rows_jsonb.specs.JsonbValues
 pub use Rattle.rows_jsonb.specs.JsonbFields
+pub use Rattle.rows_jsonb.specs.Items
 pub use Rattle.rows_jsonb.specs.JsonDiffs
 pub use Rattle.rows_jsonb.specs.JsonDiffViews
 pub use Rattle.rows_jsonb.specs.JsonbViews
@@ -41,3 +42,5 @@ pub use Rattle.rows_cells.specs.CellViews
 pub use Rattle.rows_cells.specs.Cells
 pub use Rattle.rows_cells.specs.Images
 pub use Rattle.rows_cells.specs.ImageViews
+pub use Rattle.rows_cells.specs.EventRows
+pub use Rattle.rows_cells.specs.RowViews

@@ -3,8 +3,8 @@
 //!
 //! Each thing is made in a part of its own, which is re-exported whole: `rows_consts` and `rows_flags` have
 //! the constants, `rows_values` times, values, columns, bits and the faults of rows, `rows_decimal` the
-//! decimals, `rows_jsonb` JSON documents, whose values are `jsonb::Value`, and `rows_cells` the cells of columns
-//! and the images of rows. The parts stand on those of `mysql_wire`.
+//! decimals, `rows_jsonb` JSON documents, whose values are `jsonb::Value`, and `rows_cells` the cells of columns,
+//! the images of rows, and rows. The parts stand on those of `mysql_wire`.
 #![tactic(auto)]
 
 pub mod laws;
@@ -14,6 +14,10 @@ pub use rows_cells::CellForm;
 pub use rows_cells::CellRef;
 pub use rows_cells::ImageCells;
 pub use rows_cells::ImageColumn;
+pub use rows_cells::ImagePlan;
+pub use rows_cells::RowPart;
+pub use rows_cells::RowPlan;
+pub use rows_cells::RowsCursor;
 pub use rows_cells::Width;
 pub use rows_cells::cell_front;
 pub use rows_consts::BINLOG_CHECKSUM_ALG_DESC_LEN;
@@ -97,6 +101,8 @@ pub use rows_jsonb::StorageFormat;
 pub use rows_jsonb::UnknownJsonDiffOperation;
 pub use rows_jsonb::UnknownJsonbType;
 pub use rows_jsonb::UnknownLiteralType;
+pub use rows_jsonb::check_json_diffs;
+pub use rows_jsonb::json_diffs;
 pub use rows_jsonb::{self as jsonb};
 pub use rows_values::Bits;
 pub use rows_values::BitsIter;

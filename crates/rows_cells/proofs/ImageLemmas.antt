@@ -5,24 +5,25 @@ use Rattle.rows_values.specs.declared.fault.RowsError.{RowsError}
 use Rattle.rows_jsonb.specs.JsonbValues.{◌>>=◌}
 use Rattle.rows_cells.specs.declared.form.Width.TheVariants.{One}
 use Rattle.rows_cells.specs.declared.form.CellForm.TheVariants.{Signed}
+use Rattle.rows_cells.specs.declared.form.CellForm.{CellForm}
 use Rattle.rows_cells.specs.declared.image.ImageColumn.{ImageColumn}
 use Rattle.rows_cells.specs.CellValues.{CellValue}
-use Rattle.rows_cells.specs.Images.{bit, field_at, cells_at}
+use Rattle.rows_cells.specs.Images.{bit, form_in, field_at, cells_at}
 
 -- what indexing answers where there is no such column
 abbrev pub no_column : ImageColumn
-no_column = record { place = 0; form = Signed One }
+no_column = record { place = 0; form = Signed One; json_index = 0 }
 
-pub all_given : (nulls : List ℕ) (columns : List ImageColumn) (bytes : List ℕ) (k : ℕ) → length columns ≤ k → cells_at nulls k (drop k columns) bytes ≡ Ok ([], bytes)
+pub all_given : (bits nulls : List ℕ) (columns : List ImageColumn) (bytes : List ℕ) (k : ℕ) → length columns ≤ k → cells_at bits nulls k (drop k columns) bytes ≡ Ok ([], bytes)
 unfolding cells_at
-all_given nulls columns bytes k le = rw (drop_all k columns le) refl
+all_given bits nulls columns bytes k le = rw (drop_all k columns le) refl
 
-pub one_refused : (nulls : List ℕ) (columns : List ImageColumn) (bytes : List ℕ) (k : ℕ) (b : Bool) (e : RowsError) → k < length columns → b ≡ bit nulls k → field_at b (get_or columns k no_column).form bytes ≡ Err e
-    → cells_at nulls k (drop k columns) bytes ≡ Err e
-unfolding cells_at
-one_refused nulls columns bytes k b e lt here h = rw (drop_more columns k no_column lt, ← here, h) refl
+module _ (bits nulls : List ℕ) (columns : List ImageColumn) (bytes : List ℕ) (k : ℕ) (b : Bool) (f : CellForm) (lt : k < length columns) (null : b ≡ bit nulls k) (form : f ≡ form_in bits (get_or columns k no_column)) where
+  pub one_refused : (e : RowsError) → field_at b f bytes ≡ Err e → cells_at bits nulls k (drop k columns) bytes ≡ Err e
+  unfolding cells_at
+  one_refused e h = rw (drop_more columns k no_column lt, ← null, ← form, h) refl
 
-pub one_given : (nulls : List ℕ) (columns : List ImageColumn) (bytes : List ℕ) (k : ℕ) (b : Bool) (v : CellValue) (after : List ℕ) → k < length columns → b ≡ bit nulls k → field_at b (get_or columns k no_column).form bytes ≡ Ok (v, after)
-    → cells_at nulls k (drop k columns) bytes ≡ (cells_at nulls (k + 1) (drop (k + 1) columns) after >>= λ x. Ok (record { place = (get_or columns k no_column).place; value = v } ∷ x.0, x.1))
-unfolding cells_at
-one_given nulls columns bytes k b v after lt here h = rw (drop_more columns k no_column lt, ← here, h) refl
+  pub one_given : (v : CellValue) (after : List ℕ) → field_at b f bytes ≡ Ok (v, after)
+      → cells_at bits nulls k (drop k columns) bytes ≡ (cells_at bits nulls (k + 1) (drop (k + 1) columns) after >>= λ x. Ok (record { place = (get_or columns k no_column).place; value = v } ∷ x.0, x.1))
+  unfolding cells_at
+  one_given v after h = rw (drop_more columns k no_column lt, ← null, ← form, h) refl

@@ -1,3 +1,5 @@
 pub mod FieldLemmas
 pub mod CellLemmas
+pub mod RowLemmas
+pub mod CursorLemmas
 pub mod ImageLemmas

@@ -42,5 +42,6 @@ size_of (form.Decimal precision scale) = decimal_size precision scale
 size_of (form.Plain n) = exactly n
 size_of (form.Counted w) = behind (bytes_of w)
 size_of form.Json = behind 4
+size_of form.JsonDiffs = behind 4
 size_of form.NoMetadata = nowhere Metadata
 size_of form.NoCells = nowhere Cell

@@ -8,15 +8,18 @@ use Rattle.rows_values.specs.PackedTimes.{fraction_len, time2, datetime2, timest
 use Rattle.rows_values.specs.TimeFields.{span_fields, date_fields}
 use Rattle.rows_values.specs.TimeTexts.{padded}
 use Rattle.rows_values.specs.declared.times.mysql_time.MysqlTimestampType.TheVariants.{MYSQL_TIMESTAMP_DATETIME}
+use Rattle.rows_values.specs.declared.fault.RowsError.{RowsError}
 use Rattle.rows_values.specs.declared.fault.RowsError.TheVariants.{Metadata, Cell, Decimal as BadDecimal}
 use Rattle.rows_decimal.specs.Unpacked.{packed_text}
 use Rattle.rows_jsonb.specs.JsonbValues.{Reading, ◌>>=◌, document}
+use Rattle.rows_jsonb.specs.Items.{items_at}
+use Rattle.rows_jsonb.specs.JsonDiffs.{diff_at}
 use Rattle.rows_cells.specs.declared.form.Width.TheVariants as width
 use Rattle.rows_cells.specs.declared.form.CellForm.{CellForm}
 use Rattle.rows_cells.specs.declared.form.CellForm.TheVariants as form
 use Rattle.rows_cells.specs.CellForms.{bytes_of}
 
--- the value of a cell, without where it lies in memory; a document is its bytes
+-- the value of a cell, without where it lies in memory; a document, and changes of one, are their bytes
 pub data CellValue : Type 0 where
   null : CellValue
   bytes : List ℕ → CellValue
@@ -27,6 +30,7 @@ pub data CellValue : Type 0 where
   date : ℕ → ℕ → ℕ → ℕ → ℕ → ℕ → ℕ → CellValue
   time : Bool → ℕ → ℕ → ℕ → ℕ → ℕ → CellValue
   json : List ℕ → CellValue
+  json_diffs : List ℕ → CellValue
 
 -- a date with a time, which has no sign
 abbrev pub date_of : ℤ → CellValue
@@ -68,6 +72,11 @@ abbrev pub decimal_value : Option (List ℕ) → Reading CellValue
 decimal_value None = Err BadDecimal
 decimal_value (Some text) = Ok (bytes text)
 
+-- the value, where there is no fault
+abbrev pub unless : {A : Type 0} → Option RowsError → A → Reading A
+unless None v = Ok v
+unless (Some e) v = Err e
+
 -- the value of a cell's content
 abbrev pub worth : CellForm → List ℕ → Reading CellValue
 worth (form.Signed w) content = Ok (int (little_signed (bytes_of w) content))
@@ -86,5 +95,6 @@ worth (form.Decimal precision scale) content = decimal_value (packed_text precis
 worth (form.Plain n) content = Ok (bytes content)
 worth (form.Counted w) content = Ok (bytes content)
 worth form.Json content = document content >>= λ v. Ok (json content)
+worth form.JsonDiffs content = unless (items_at diff_at content).fault (json_diffs content)
 worth form.NoMetadata content = Err Metadata
 worth form.NoCells content = Err Cell

@@ -1,17 +1,22 @@
 -- The value that a borrowed cell stands for, and the value in memory of its own that is made of it.
-use Rattle.std.specs.Prelude.{◌≡◌, ℕ, ◌+◌, List, [], Option, Some, None}
-use Rattle.std.specs.declared.result.Result.TheVariants.{Ok}
+use Rattle.std.specs.Prelude.{◌≡◌, ℕ, ◌+◌, List, [], map, Option, Some, None}
+use Rattle.std.specs.declared.result.Result.TheVariants.{Ok, Err}
 use Rattle.std.specs.Fmt.{decimal}
 use Rattle.rows_decimal.specs.Unpacked.{packed_text}
+use Rattle.rows_values.specs.declared.fault.RowsError.{RowsError}
+use Rattle.rows_values.specs.declared.fault.RowsError.TheVariants.{Decimal as BadDecimal}
 use Rattle.rows_values.specs.declared.rows.value.Value.{Value}
 use Rattle.rows_values.specs.declared.rows.value.Value.TheVariants as value
 use Rattle.rows_jsonb.specs.JsonbValues.{document}
 use Rattle.rows_jsonb.specs.JsonbViews.{jsonb_value}
+use Rattle.rows_jsonb.specs.Items.{items_at, all_found}
+use Rattle.rows_jsonb.specs.JsonDiffs.{diff_at}
+use Rattle.rows_jsonb.specs.JsonDiffViews.{diff_view}
 use Rattle.rows_cells.specs.declared.binlog_value.BinlogValue.{BinlogValue}
 use Rattle.rows_cells.specs.declared.binlog_value.BinlogValue.TheVariants as made
 use Rattle.rows_cells.specs.declared.cell.CellRef.{CellRef}
 use Rattle.rows_cells.specs.declared.cell.CellRef.TheVariants as ref
-use Rattle.rows_cells.specs.CellValues.{CellValue, null, bytes, int, uint, float, double, date, time, json, date_of, span_of, new_date, old_time, old_datetime, timestamp_text}
+use Rattle.rows_cells.specs.CellValues.{CellValue, null, bytes, int, uint, float, double, date, time, json, json_diffs, date_of, span_of, new_date, old_time, old_datetime, timestamp_text}
 
 -- the text, where there is one
 abbrev pub text_or_none : Option (List ℕ) → List ℕ
@@ -34,6 +39,7 @@ cell_value (ref.Datetime packed) = date_of packed
 cell_value (ref.Time packed) = span_of packed
 cell_value (ref.Decimal precision scale b) = bytes (text_or_none (packed_text precision scale b.now))
 cell_value (ref.Json b) = json b.now
+cell_value (ref.JsonDiffs b) = json_diffs b.now
 
 -- a value, without where its bytes lie
 abbrev pub value_view : Value → CellValue
@@ -46,8 +52,17 @@ value_view (value.Double bits) = double bits
 value_view (value.Date year month day hour minute second micros) = date year month day hour minute second micros
 value_view (value.Time negative days hours minutes seconds micros) = time negative days hours minutes seconds micros
 
--- the value that was made of a cell: a document is what its bytes say
+-- the value that was made of a cell: a document, and changes of one, are what their bytes say
 abbrev pub Holds : CellValue → BinlogValue → Type 0
 Holds v (made.Value w) = v ≡ value_view w
 Holds (json b) (made.Jsonb d) = document b ≡ Ok (jsonb_value d)
+Holds (json_diffs b) (made.JsonDiff ds) = items_at diff_at b ≡ all_found (map diff_view ds.items)
 Holds v (made.Jsonb d) = ⊥
+Holds v (made.JsonDiff ds) = ⊥
+
+-- why a cell that wasn't read from bytes has no value
+abbrev pub IsRefused : CellRef → RowsError → Type 0
+IsRefused (ref.Decimal precision scale b) e = (e ≡ BadDecimal) × (packed_text precision scale b.now ≡ None)
+IsRefused (ref.Json b) e = document b.now ≡ Err e
+IsRefused (ref.JsonDiffs b) e = (items_at diff_at b.now).fault ≡ Some e
+IsRefused _ e = ⊥

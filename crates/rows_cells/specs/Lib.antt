@@ -6,3 +6,5 @@ pub mod CellViews
 pub mod Cells
 pub mod Images
 pub mod ImageViews
+pub mod EventRows
+pub mod RowViews

@@ -1,6 +1,6 @@
 //! The value of a cell, as callers keep it.
 
-use rows_jsonb::Value as JsonbValue;
+use rows_jsonb::{JsonDiff, Value as JsonbValue};
 use rows_values::Value;
 
 /// The value of a cell. Documents are borrowed from the bytes of the rows event.
@@ -10,4 +10,6 @@ pub enum BinlogValue<'a> {
     Value(Value),
     /// A JSON document.
     Jsonb(JsonbValue<'a>),
+    /// Changes of a JSON document, in order.
+    JsonDiff(Vec<JsonDiff<'a>>),
 }

@@ -34,4 +34,6 @@ pub enum CellRef<'a> {
     Decimal(u8, u8, &'a [u8]),
     /// A JSON document.
     Json(&'a [u8]),
+    /// Changes of a JSON document, one after the other to the end.
+    JsonDiffs(&'a [u8]),
 }

@@ -64,6 +64,8 @@ pub enum CellForm {
     Counted(Width),
     /// A length of four bytes, and then a JSON document.
     Json,
+    /// A length of four bytes, and then changes of a JSON document, to the end of the cell.
+    JsonDiffs,
     /// The column's metadata is missing, or has no meaning for its type: no cell can be read.
     NoMetadata,
     /// The column's type has no cells that can be read.

@@ -13,7 +13,7 @@ use crate::fields::{counted_front, signed, split_front, unsigned};
 use crate::form::{CellForm, Width};
 use byteorder::{ByteOrder, LittleEndian};
 use rows_decimal::{decimal_bin_size, packs_decimal};
-use rows_jsonb::Value;
+use rows_jsonb::{Value, check_json_diffs};
 use rows_values::{RowsError, datetime_of, fraction_size, time_of, timestamp_of};
 use wire_buf::ParseBuf;
 
@@ -51,7 +51,7 @@ fn content_front(form: CellForm, bytes: &[u8]) -> Result<(&[u8], &[u8]), RowsErr
         CellForm::Decimal(precision, scale) => decimal_front(bytes, precision, scale),
         CellForm::Plain(len) => split_front(bytes, usize::from(len)),
         CellForm::Counted(width) => counted_front(bytes, width),
-        CellForm::Json => counted_front(bytes, Width::Four),
+        CellForm::Json | CellForm::JsonDiffs => counted_front(bytes, Width::Four),
         CellForm::NoMetadata => Err(RowsError::Metadata),
         CellForm::NoCells => Err(RowsError::Cell),
     }
@@ -99,6 +99,10 @@ fn cell_of(form: CellForm, content: &[u8]) -> Result<CellRef<'_>, RowsError>
         CellForm::Plain(_) | CellForm::Counted(_) => Ok(CellRef::Bytes(content)),
         CellForm::Json => match Value::read_document(&mut ParseBuf(content)) {
             Ok(_) => Ok(CellRef::Json(content)),
+            Err(fault) => Err(fault),
+        },
+        CellForm::JsonDiffs => match check_json_diffs(content) {
+            Ok(()) => Ok(CellRef::JsonDiffs(content)),
             Err(fault) => Err(fault),
         },
         CellForm::NoMetadata => Err(RowsError::Metadata),

@@ -1,11 +1,13 @@
-//! Laws of cells and images. Each is a function that does nothing, whose contract is the law.
+//! Laws of cells, images and rows. Each is a function that does nothing, whose contract is the law.
 
 ghost use Rattle.std.specs.Prelude.{◌≡◌, ◌↔◌, ◌++◌, ℕ, List, Ok};
 ghost use Rattle.rows_cells.specs.declared.form.CellForm.{CellForm};
 ghost use Rattle.rows_cells.specs.CellValues.{CellValue};
-ghost use Rattle.rows_cells.specs.declared.image.ImageColumn.{ImageColumn};
+ghost use Rattle.wire_buf.specs.Spelling.{Alone};
+ghost use Rattle.rows_jsonb.specs.Items.{Walked, Finds, items_at};
 ghost use Rattle.rows_cells.specs.Cells.{IsCell, cell_at};
-ghost use Rattle.rows_cells.specs.Images.{PlacedValue, IsImage, image_at};
+ghost use Rattle.rows_cells.specs.Images.{PlacedValue, ImageShape, IsImage, image_at};
+ghost use Rattle.rows_cells.specs.EventRows.{IsRow, row_at};
 
 /// The cell that is read at the front of bytes is the one that they spell there, whatever follows it.
 pub fn cells_are_read()
@@ -21,12 +23,27 @@ pub fn no_cell_begins_another()
 
 /// The image that is read at the front of bytes is the one that they spell there, whatever follows it.
 pub fn images_are_read()
-    ensures { (columns : List ImageColumn) (row : List PlacedValue) (bytes rest : List ℕ)
-        → (image_at columns bytes ≡ Ok (row, rest)) ↔ ((own : List ℕ) × (bytes ≡ own ++ rest) × IsImage columns row own) }
+    ensures { (shape : ImageShape) (row : List PlacedValue) (bytes rest : List ℕ)
+        → (image_at shape bytes ≡ Ok (row, rest)) ↔ ((own : List ℕ) × (bytes ≡ own ++ rest) × IsImage shape row own) }
 {}
 
 /// No spelling of an image begins another.
 pub fn no_image_begins_another()
-    ensures { (columns : List ImageColumn) (v w : List PlacedValue) (a b x y : List ℕ) → IsImage columns v a
-        → IsImage columns w b → a ++ x ≡ b ++ y → (v ≡ w) × (x ≡ y) }
+    ensures { (shape : ImageShape) (v w : List PlacedValue) (a b x y : List ℕ) → IsImage shape v a
+        → IsImage shape w b → a ++ x ≡ b ++ y → (v ≡ w) × (x ≡ y) }
+{}
+
+/// The row that is read at the front of bytes is the one that they spell there, whatever follows it.
+pub fn rows_are_read()
+    ensures { (shapes : List ImageShape) (row : List (List PlacedValue)) (bytes rest : List ℕ)
+        → (row_at shapes bytes ≡ Ok (row, rest)) ↔ ((own : List ℕ) × (bytes ≡ own ++ rest) × IsRow shapes row own) }
+{}
+
+/// The rows that are found in rows data are those that it spells, up to the end or to what is no row; and there
+/// are no others.
+pub fn lists_of_rows_are_read()
+    ensures found { (shapes : List ImageShape) (bytes : List ℕ)
+        → Finds (Alone (IsRow shapes)) (row_at shapes) (items_at (row_at shapes) bytes) bytes }
+    ensures only { (shapes : List ImageShape) (found : Walked (List (List PlacedValue))) (bytes : List ℕ)
+        → Finds (Alone (IsRow shapes)) (row_at shapes) found bytes → items_at (row_at shapes) bytes ≡ found }
 {}

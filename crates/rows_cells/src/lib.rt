@@ -14,9 +14,11 @@ mod front;
 mod image;
 pub mod laws;
 mod owned;
+mod rows;
 
 pub use binlog_value::BinlogValue;
 pub use cell::CellRef;
 pub use form::{CellForm, Width};
 pub use front::cell_front;
-pub use image::{ImageCells, ImageColumn};
+pub use image::{ImageCells, ImageColumn, ImagePlan};
+pub use rows::{RowPart, RowPlan, RowsCursor};

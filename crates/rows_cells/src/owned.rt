@@ -1,17 +1,18 @@
 //! Borrowed cells as values in memory of their own.
 
-ghost use Rattle.std.specs.Prelude.{◌≡◌, ◌≤◌, ◌+◌, ◌++◌, IfOk, OnOk, Some};
+ghost use Rattle.std.specs.Prelude.{◌≡◌, ◌≤◌, ◌+◌, ◌++◌, ◌⊎◌, IfOk, IfErr, OnOk, Some, None};
 ghost use Rattle.std.specs.Fmt.{decimal};
 ghost use Rattle.rows_values.specs.TimeTexts.{padded};
 ghost use Rattle.rows_decimal.specs.Unpacked.{packed_text};
 ghost use Rattle.rows_cells.specs.CellValues.{new_date as new_date_value, old_time as old_time_value, old_datetime as old_datetime_value, timestamp_text as timestamp_text_of, micros_text};
-ghost use Rattle.rows_cells.specs.CellViews.{cell_value, value_view, Holds};
+ghost use Rattle.rows_cells.specs.CellViews.{cell_value, value_view, Holds, IsRefused};
+ghost use Rattle.rows_values.specs.declared.fault.RowsError.TheVariants.{Memory, Decimal as BadDecimal};
 
 use crate::binlog_value::BinlogValue;
 use crate::cell::CellRef;
 use itoa::Buffer;
 use rows_decimal::put_decimal_text;
-use rows_jsonb::Value as JsonbValue;
+use rows_jsonb::{Value as JsonbValue, json_diffs};
 use rows_values::{RowsError, Value, datetime_from_packed, time_from_packed};
 use std::alloc::{AllocError, Global};
 use wire_buf::ParseBuf;
@@ -20,9 +21,10 @@ impl<'a> CellRef<'a> {
     /// The value in memory of its own; a document stays borrowed.
     ///
     /// Want of memory is `Memory`. A cell that was read is refused for nothing else; one that was made of bytes
-    /// that pack no decimal is `Decimal`, and of bytes that are no document `Jsonb`.
+    /// that pack no decimal is `Decimal`, and of bytes that are no document, or no changes of one, `Jsonb`.
     pub fn to_value(self, alloc: Global) -> Result<BinlogValue<'a>, RowsError>
-        ensures { IfOk result (λ v. Holds (cell_value self.entry) v) }
+        ensures ok { IfOk result (λ v. Holds (cell_value self.entry) v) }
+        ensures err { IfErr result (λ e. e ≡ Memory ⊎ IsRefused self.entry e) }
     {
         let value = match self {
             CellRef::Null => Value::NULL,
@@ -46,6 +48,9 @@ impl<'a> CellRef<'a> {
             CellRef::Json(bytes) => {
                 let document = JsonbValue::read_document(&mut ParseBuf(bytes))?;
                 return Ok(BinlogValue::Jsonb(document));
+            }
+            CellRef::JsonDiffs(bytes) => {
+                return Ok(BinlogValue::JsonDiff(json_diffs(alloc, bytes)?));
             }
         };
         Ok(BinlogValue::Value(value))
@@ -143,7 +148,8 @@ fn append_padded(width: usize, number: u32, text: &mut Vec<u8>) -> Result<(), Al
 
 /// The text of a packed decimal.
 fn decimal_text(alloc: Global, precision: u8, scale: u8, bytes: &[u8]) -> Result<Vec<u8>, RowsError>
-    ensures { IfOk result (λ text. packed_text precision scale bytes.now ≡ Some text.items) }
+    ensures ok { IfOk result (λ text. packed_text precision scale bytes.now ≡ Some text.items) }
+    ensures err { IfErr result (λ e. e ≡ Memory ⊎ ((e ≡ BadDecimal) × (packed_text precision scale bytes.now ≡ None))) }
 {
     let (precision, scale) = (usize::from(precision), usize::from(scale));
     let mut text = Vec::new(alloc);

@@ -2,16 +2,17 @@
 
 use feed_text::{put_json, put_value};
 use mysql_binlog_rows::{
-    BinlogValue, CellForm, CellRef, ImageCells, ImageColumn, RowsError, Value, Width, cell_front,
+    BinlogValue, CellForm, CellRef, RowsError, Value, Width, cell_front,
 };
 use std::alloc::Global;
 use wire_consts::ColumnType;
 
 /// Appends the text of a cell.
-fn put_cell(alloc: Global, cell: CellRef<'_>, out: &mut Vec<u8>) -> Result<(), RowsError> {
+pub fn put_cell(alloc: Global, cell: CellRef<'_>, out: &mut Vec<u8>) -> Result<(), RowsError> {
     match cell.to_value(alloc)? {
         BinlogValue::Value(value) => put_value(&value, out),
         BinlogValue::Jsonb(document) => put_json(&document.parse(alloc)?, out),
+        BinlogValue::JsonDiff(_) => Err(RowsError::Cell),
     }
 }
 
@@ -331,93 +332,4 @@ fn cells_refused(rt: HostRuntime) {
     for (kind, metadata, bytes, fault) in rows {
         assert!(rt; refusal(kind, metadata, bytes) == Some(fault));
     }
-}
-
-/// The text of an image's cells, each behind its column's place and `=`.
-fn image_text(
-    alloc: Global,
-    columns: &[ImageColumn],
-    bytes: &[u8],
-) -> Result<(Vec<u8>, usize), RowsError> {
-    let mut cells = ImageCells::of(columns, bytes)?;
-    let mut out = Vec::new(alloc);
-    for _ in 0..columns.len() {
-        if let Some((place, cell)) = cells.next_cell()? {
-            put_value(&Value::UInt(u64::from(place)), &mut out)?;
-            out.push(b'=')?;
-            put_cell(alloc, cell, &mut out)?;
-        }
-    }
-    Ok((out, cells.rest().len()))
-}
-
-/// Whether the bytes begin with an image of the columns that has this text, and so many bytes follow it.
-fn is_image(
-    alloc: Global,
-    columns: &[ImageColumn],
-    bytes: &[u8],
-    text: &[u8],
-    left: usize,
-) -> bool {
-    match image_text(alloc, columns, bytes) {
-        Ok(found) => found.0.as_slice() == text && found.1 == left,
-        Err(_) => false,
-    }
-}
-
-/// A column of signed integers of four bytes.
-fn long_column(place: u32) -> ImageColumn {
-    ImageColumn {
-        place,
-        form: CellForm::Signed(Width::Four),
-    }
-}
-
-// Of two columns the second is in the image: it has the first null bit.
-#[test]
-fn second_column_null(rt: HostRuntime) {
-    assert!(rt; is_image(rt.alloc(), &[long_column(1)], b"\x01", b"u1=NULL", 0));
-}
-
-#[test]
-fn images_of_rows(rt: HostRuntime) {
-    let columns = [long_column(0), long_column(7)];
-    assert!(rt;
-        is_image(
-            rt.alloc(),
-            &columns,
-            b"\x01\x05\0\0\0\xff",
-            b"u0=NULLu7=5",
-            1
-        ) && is_image(rt.alloc(), &columns, b"\xfe\x05\0\0\0", b"u0=5u7=NULL", 0)
-            && !is_image(
-                rt.alloc(),
-                &columns,
-                b"\xfc\x05\0\0\0\x06\0\0",
-                b"u0=5u7=6",
-                0
-            )
-            && is_image(rt.alloc(), &[], b"\x06", b"", 1)
-    );
-}
-
-/// How many cells of an image are NULL, and how many bytes follow the image: the example of the documentation.
-fn nulls(columns: &[ImageColumn], bytes: &[u8]) -> Result<(usize, usize), RowsError> {
-    let mut cells = ImageCells::of(columns, bytes)?;
-    let mut count = 0usize;
-    for _ in 0..columns.len() {
-        if let Some((_, CellRef::Null)) = cells.next_cell()? {
-            count = count.wrapping_add(1);
-        }
-    }
-    Ok((count, cells.rest().len()))
-}
-
-#[test]
-fn nulls_of_an_image(rt: HostRuntime) {
-    let columns = [long_column(0), long_column(1)];
-    assert!(rt;
-        nulls(&columns, b"\x02\x05\0\0\0\xff") == Ok((1, 1))
-            && nulls(&columns, b"\x02\x05\0\0") == Err(RowsError::EndOfBody)
-    );
 }

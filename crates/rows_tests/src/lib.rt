@@ -27,6 +27,8 @@ mod laws;
 #[cfg(test)]
 mod packed_decimals;
 #[cfg(test)]
+mod rows;
+#[cfg(test)]
 mod texts;
 #[cfg(test)]
 mod times;
