@@ -14,7 +14,7 @@ use Rattle.rows_decimal.specs.Unpacked.{unpacked, text_of, packed_text}
 use Rattle.rows_decimal.proofs.GroupLemmas.{drop_digits}
 use Rattle.rows_decimal.proofs.UnpackLemmas.{kept_are}
 use Rattle.rows_decimal.proofs.UnpackedLemmas.{unpacked-sound}
-use Rattle.feed_text.specs.Quoting.{is_plain_byte, quoted_byte, quoted}
+use Rattle.feed_writers.specs.Quoting.{is_plain_byte, quoted_byte, quoted}
 use Rattle.feed_text.specs.DecimalText.{quoted_decimal}
 
 -- ---- what stands for itself

@@ -4,7 +4,7 @@ ghost use Rattle.std.specs.Prelude.{◌≡◌, ◌∷◌, [], codes, ℕ, List};
 ghost use Rattle.wire_buf.specs.Spelling.{AreBytes};
 ghost use Rattle.rows_values.specs.PackedTimes.{fraction_len, time2, datetime2};
 ghost use Rattle.rows_values.specs.Values.{span_value, date_value};
-ghost use Rattle.feed_text.specs.Quoting.{quoted};
+ghost use Rattle.feed_writers.specs.Quoting.{quoted};
 ghost use Rattle.feed_text.specs.ValueText.{value_text};
 
 /// Equal quoted texts are of equal bytes.
