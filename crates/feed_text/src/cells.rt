@@ -13,7 +13,7 @@ ghost use Rattle.feed_text.specs.ShortTexts.{short_text};
 ghost use Rattle.feed_text.specs.ValueText.{value_text};
 ghost use Rattle.feed_text.specs.CellText.{label, cell_text, kept_cell_text, Appends, AppendsLabeled, IsTextRefused, IsCellRefused};
 
-use crate::decimals::write_quoted;
+use crate::decimals::put_decimal;
 use crate::documents::put_json;
 use crate::parts::CellParts;
 use crate::quoting::quote;
@@ -151,17 +151,15 @@ fn put_decimal_cell<A: Allocator>(
     ensures ok { OnOk result (AppendsLabeled place (quoted_decimal digits.0 digits.1 bytes.now) out.old.items out.new.items) }
     ensures err { IfErr result (λ e. IsDecimalRefused e (quoted_decimal digits.0 digits.1 bytes.now) out.old.items out.new.items) }
 {
-    let (precision, scale) = (usize::from(digits.0), usize::from(digits.1));
     let start = out.len();
-    out.resize(start + (LABEL + (precision + 5)), 0)?;
-    let text = out.as_mut_slice();
-    let end = put_label(text, start, place);
-    let Some(end) = write_quoted(text, end, precision, scale, bytes) else {
-        out.truncate(start);
-        return Err(RowsError::Decimal);
-    };
-    out.truncate(end);
-    Ok(())
+    append_label(place, out)?;
+    match put_decimal(bytes, digits.0, digits.1, out) {
+        Ok(()) => Ok(()),
+        Err(fault) => {
+            out.truncate(start);
+            Err(fault)
+        }
+    }
 }
 
 /// Appends a label and the text of a value, or nothing.

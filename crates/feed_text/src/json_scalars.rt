@@ -37,7 +37,7 @@ pub(crate) fn append_scalar<A: Allocator>(
 }
 
 /// Appends the text of a number, or nothing.
-#[tactic(auto, unfolding(crate::specs::JsonText::scalar_text))]
+#[tactic(auto, unfolding(crate::specs::JsonText::scalar_text, crate::specs::ShortTexts::short_text))]
 fn append_number<A: Allocator>(number: &JsonNumber, out: &mut Vec<u8, A>) -> Result<(), RowsError>
     ensures ok { OnOk result (out.new.items ≡ out.old.items ++ scalar_text (number_view number.now)) }
     ensures err { IfErr result (λ e. IsRefused e out.old.items out.new.items) }

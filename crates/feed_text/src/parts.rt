@@ -40,10 +40,14 @@ impl<'a> CellParts<'a> {
             CellRef::NewDate(bits) => CellParts::Short(new_date(bits)),
             CellRef::OldTime(digits) => CellParts::Short(old_time(digits)),
             CellRef::OldDatetime(digits) => CellParts::Short(old_datetime(digits)),
-            CellRef::Timestamp(seconds, micros) => CellParts::Short(Short::Timestamp(seconds, micros)),
+            CellRef::Timestamp(seconds, micros) => CellParts::Short(Short::Timestamp(
+                seconds, micros,
+            )),
             CellRef::Datetime(packed) => CellParts::Short(datetime(packed)),
             CellRef::Time(packed) => CellParts::Short(time(packed)),
-            CellRef::Decimal(precision, scale, bytes) => CellParts::Decimal(precision, scale, bytes),
+            CellRef::Decimal(precision, scale, bytes) => CellParts::Decimal(
+                precision, scale, bytes,
+            ),
             CellRef::Json(bytes) => CellParts::Json(bytes),
         }
     }

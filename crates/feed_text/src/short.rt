@@ -133,9 +133,20 @@ fn put_timestamp(text: &mut [u8], at: usize, seconds: i32, micros: i32) -> usize
     ensures text { take result text.new ≡ take at text.old ++ quoted (timestamp_text (seconds, micros)) }
 {
     let end = put_byte(text, at, b'\'');
-    let end = put_signed(text, end, i64::from(seconds));
-    let end = put_micros(text, end, micros);
+    let end = put_seconds(text, end, seconds, micros);
     put_byte(text, end, b'\'')
+}
+
+/// Writes seconds, and a point and microseconds where there are any.
+#[inline(always)]
+#[tactic(auto, unfolding(rows_cells::specs::CellValues::timestamp_text))]
+fn put_seconds(text: &mut [u8], at: usize, seconds: i32, micros: i32) -> usize
+    requires { at + 40 ≤ length text.old }
+    ensures most { result ≤ at + 40 }
+    ensures text { take result text.new ≡ take at text.old ++ timestamp_text (seconds, micros) }
+{
+    let end = put_signed(text, at, i64::from(seconds));
+    put_micros(text, end, micros)
 }
 
 /// Writes a point and microseconds, where there are any: six characters, in which a sign counts.

@@ -30,7 +30,10 @@ pub fn put_value<A: Allocator>(value: &Value, out: &mut Vec<u8, A>) -> Result<()
                 month: u32::from(*month),
                 day: u32::from(*day),
             };
-            append_short(Short::Date(day, clock(*hour, *minute, *second, *micros)), out)
+            append_short(
+                Short::Date(day, clock(*hour, *minute, *second, *micros)),
+                out,
+            )
         }
         Value::Time(is_negative, days, hours, minutes, seconds, micros) => {
             let clock = clock(*hours, *minutes, *seconds, *micros);
