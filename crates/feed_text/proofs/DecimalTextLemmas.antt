@@ -14,7 +14,7 @@ use Rattle.rows_decimal.specs.Unpacked.{unpacked, text_of, packed_text}
 use Rattle.rows_decimal.proofs.GroupLemmas.{drop_digits}
 use Rattle.rows_decimal.proofs.UnpackLemmas.{kept_are}
 use Rattle.rows_decimal.proofs.UnpackedLemmas.{unpacked-sound}
-use Rattle.feed_text.specs.Quoting.{is_plain_byte, quoted_byte, quoted}
+use Rattle.feed_writers.specs.Quoting.{is_plain_byte, quoted_byte, quoted}
 use Rattle.feed_text.specs.DecimalText.{quoted_decimal}
 
 -- ---- what stands for itself
@@ -23,7 +23,7 @@ use Rattle.feed_text.specs.DecimalText.{quoted_decimal}
 pub record AreLeft (text : List ℕ) : Type 0 where
   pub left : flat_map quoted_byte text ≡ text
 
-left_append : (s t : List ℕ) → AreLeft s → AreLeft t → AreLeft (s ++ t)
+pub left_append : (s t : List ℕ) → AreLeft s → AreLeft t → AreLeft (s ++ t)
 left_append s t a b = record { left = flat_map-append quoted_byte s t ∙ ap (λ l. l ++ flat_map quoted_byte t) a.left ∙ ap (λ l. s ++ l) b.left }
 
 digit_plain : (d : ℕ) → d < 10 → is_plain_byte (48 + d) ≡ true
@@ -38,6 +38,10 @@ digit_plain (suc (suc (suc (suc (suc (suc (suc zero))))))) h = refl
 digit_plain (suc (suc (suc (suc (suc (suc (suc (suc zero)))))))) h = refl
 digit_plain (suc (suc (suc (suc (suc (suc (suc (suc (suc zero))))))))) h = refl
 digit_plain (suc (suc (suc (suc (suc (suc (suc (suc (suc (suc d)))))))))) h = absurd (omega (arith, h))
+
+-- one digit
+pub digit_left : (d : ℕ) → d < 10 → AreLeft ((48 + d) ∷ [])
+digit_left d h = record { left = rw (digit_plain d h) refl }
 
 glyphs_left : (ds : List ℕ) → AreDigits ds → AreLeft (glyphs ds)
 glyphs_left [] h = record { left = refl }

@@ -3,7 +3,7 @@ use Rattle.std.proofs.Common.{◌≡◌, ℕ, List, [], ◌∷◌, ◌++◌, ref
 use Rattle.std.proofs.lemmas.List.{append-nil}
 use Rattle.std.specs.List.{join_with_byte}
 use Rattle.rows_jsonb.specs.JsonTrees.{Tree, Items, item, Members, member}
-use Rattle.feed_text.specs.Quoting.{quoted}
+use Rattle.feed_writers.specs.Quoting.{quoted}
 use Rattle.feed_text.specs.JsonText.{document_text, item_texts, member_texts}
 
 -- what is left to write, where a separator stands before it

@@ -3,7 +3,7 @@ use Rattle.std.proofs.Common.{◌≡◌, ◌<◌, ◌/◌, ◌%◌, ℕ, suc, Bo
 use Rattle.std.specs.Fmt.{digit_glyph}
 use Rattle.std.specs.List.{flat_map}
 use Rattle.wire_buf.specs.Spelling.{AreBytes}
-use Rattle.feed_text.specs.Quoting.{is_plain_byte, quoted_byte, quoted}
+use Rattle.feed_writers.specs.Quoting.{is_plain_byte, quoted_byte, quoted}
 
 cons_same : (x y : ℕ) (r s : List ℕ) → x ∷ r ≡ y ∷ s → (x ≡ y) × (r ≡ s)
 cons_same x y r s h = (cc, cc)

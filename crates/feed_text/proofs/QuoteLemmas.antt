@@ -6,7 +6,7 @@ use Rattle.std.specs.Prelude.{take_while, not}
 use Rattle.std.specs.List.{flat_map, prefix_len}
 use Rattle.rows_values.specs.declared.fault.RowsError.{RowsError}
 use Rattle.feed_text.specs.Pieces.{IsRefused}
-use Rattle.feed_text.specs.Quoting.{is_plain_byte, escape, quoted_byte, quoted}
+use Rattle.feed_writers.specs.Quoting.{is_plain_byte, escape, quoted_byte, quoted}
 
 -- the plain bytes at the front stand for themselves
 pub plain_run : (xs : List ℕ) → flat_map quoted_byte xs ≡ take (length (take_while is_plain_byte xs)) xs ++ flat_map quoted_byte (drop (length (take_while is_plain_byte xs)) xs)

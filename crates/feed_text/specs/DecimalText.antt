@@ -4,7 +4,7 @@ use Rattle.std.specs.Option.{option_map}
 use Rattle.rows_values.specs.declared.fault.RowsError.{RowsError}
 use Rattle.rows_values.specs.declared.fault.RowsError.TheVariants.{Memory, Decimal}
 use Rattle.rows_decimal.specs.Unpacked.{packed_text}
-use Rattle.feed_text.specs.Quoting.{quoted}
+use Rattle.feed_writers.specs.Quoting.{quoted}
 
 -- the quoted text of the decimal that bytes pack, where they pack one
 abbrev pub quoted_decimal : ℕ → ℕ → List ℕ → Option (List ℕ)

@@ -4,31 +4,31 @@ use Rattle.std.specs.List.{join_with_byte}
 use Rattle.std.specs.Fmt.{decimal, signed_decimal}
 use Rattle.std.specs.Int.{w64, to_be_bytes}
 use Rattle.hex.specs.Hex.{encode_lower}
-use Rattle.rows_values.specs.TimeTexts.{padded}
 use Rattle.rows_values.specs.declared.times.mysql_time.MysqlTime.{MysqlTime}
 use Rattle.rows_values.specs.declared.times.mysql_time.MysqlTimestampType.{MysqlTimestampType}
 use Rattle.rows_values.specs.declared.times.mysql_time.MysqlTimestampType.TheVariants.{MYSQL_TIMESTAMP_DATE, MYSQL_TIMESTAMP_TIME}
 use Rattle.rows_decimal.specs.Texts.{decimal_text, sign_text}
 use Rattle.rows_jsonb.specs.JsonTrees as tree
 use Rattle.rows_jsonb.specs.JsonTrees.{Tree, Items, no_items, item, Members, no_members, member}
-use Rattle.feed_text.specs.Quoting.{quoted}
-use Rattle.feed_text.specs.Pieces.{joined}
-use Rattle.feed_text.specs.ValueText.{clock_texts}
+use Rattle.feed_writers.specs.Quoting.{quoted}
+use Rattle.feed_writers.specs.declared.times.Clock.{Clock}
+use Rattle.feed_writers.specs.declared.times.Day.{Day}
+use Rattle.feed_writers.specs.TimesOfDay.{clock_text, day_text}
 
-abbrev pub day_texts : MysqlTime → List (List ℕ)
-day_texts t = padded 4 t.year ∷ codes "-" ∷ padded 2 t.month ∷ codes "-" ∷ padded 2 t.day ∷ []
+abbrev pub day_of : MysqlTime → Day
+day_of t = record { year = t.year; month = t.month; day = t.day }
 
-abbrev pub time_texts : MysqlTime → List (List ℕ)
-time_texts t = clock_texts t.hour t.minute t.second t.second_part
+abbrev pub clock_of : MysqlTime → Clock
+clock_of t = record { hour = t.hour; minute = t.minute; second = t.second; micros = t.second_part }
 
 -- a date, a span of time, or a date and a time of day
 unfoldable pub moment_text : MysqlTime → List ℕ
 moment_text t = text t.time_type
   where
     text : MysqlTimestampType → List ℕ
-    text MYSQL_TIMESTAMP_DATE = joined (day_texts t)
-    text MYSQL_TIMESTAMP_TIME = sign_text t.neg ++ joined (time_texts t)
-    text _ = joined (day_texts t) ++ 32 ∷ joined (time_texts t)
+    text MYSQL_TIMESTAMP_DATE = day_text (day_of t)
+    text MYSQL_TIMESTAMP_TIME = sign_text t.neg ++ clock_text (clock_of t)
+    text _ = day_text (day_of t) ++ 32 ∷ clock_text (clock_of t)
 
 -- numbers as in cells; a decimal, and a string between quotes
 unfoldable pub scalar_text : tree.Scalar → List ℕ

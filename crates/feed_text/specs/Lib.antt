@@ -1,5 +1,10 @@
-pub mod Quoting
+pub use Rattle.feed_writers.specs.Quoting
+pub use Rattle.feed_writers.specs.TimesOfDay
 pub mod Pieces
+pub mod Times
 pub mod ValueText
 pub mod DecimalText
 pub mod JsonText
+pub mod ShortTexts
+pub mod CellText
+pub mod CellParts

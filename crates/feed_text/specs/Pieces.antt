@@ -1,15 +1,11 @@
 -- Texts that are put one after the other.
-use Rattle.std.specs.Prelude.{◌≡◌, ℕ, List, [], ◌∷◌, ◌++◌}
+use Rattle.std.specs.Prelude.{◌≡◌, ℕ, List}
 use Rattle.std.specs.Borrow.{Bor}
 use Rattle.std.specs.List.{flat_map}
 use Rattle.rows_values.specs.declared.fault.RowsError.{RowsError}
 use Rattle.rows_values.specs.declared.fault.RowsError.TheVariants.{Memory}
 
-abbrev pub joined : List (List ℕ) → List ℕ
-joined [] = []
-joined (text ∷ texts) = text ++ joined texts
-
--- the same of the slices that hold them
+-- the texts that slices hold, one after the other
 abbrev pub pieces_text : List (Bor (List ℕ)) → List ℕ
 pieces_text pieces = flat_map (λ p. p.now) pieces
 

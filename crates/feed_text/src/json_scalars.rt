@@ -1,17 +1,16 @@
 //! The text of the scalars of JSON documents.
 
-ghost use Rattle.std.specs.Prelude.{◌≡◌, ◌++◌, ◌≤◌, OnOk, IfErr, length, take};
+ghost use Rattle.std.specs.Prelude.{◌≡◌, ◌++◌, ◌≤◌, ◌+◌, OnOk, IfErr, length, take};
 ghost use Rattle.rows_jsonb.specs.JsonTrees.{time as time_scalar, opaque};
 ghost use Rattle.rows_jsonb.specs.JsonTreeViews.{scalar_view, number_view};
 ghost use Rattle.wire_consts.specs.ColumnTypes.{column_type_number};
-ghost use Rattle.feed_text.specs.Pieces.{IsRefused, joined};
-ghost use Rattle.feed_text.specs.JsonText.{scalar_text, day_texts, time_texts};
+ghost use Rattle.feed_text.specs.Pieces.{IsRefused};
+ghost use Rattle.feed_text.specs.JsonText.{scalar_text, moment_text};
 
-use crate::digits::put_digits;
 use crate::pieces::append_all;
 use crate::quoting::quote;
-use crate::short_text::ShortText;
-use crate::values::sign;
+use crate::short::{Short, append_short};
+use feed_writers::{Clock, Day, put_byte, put_clock, put_day};
 use itoa::Buffer;
 use rows_jsonb::{JsonNumber, JsonOpaque, JsonScalar};
 use rows_values::{MysqlTime, MysqlTimestampType, RowsError};
@@ -38,21 +37,15 @@ pub(crate) fn append_scalar<A: Allocator>(
 }
 
 /// Appends the text of a number, or nothing.
-#[tactic(auto, unfolding(crate::specs::JsonText::scalar_text))]
+#[tactic(auto, unfolding(crate::specs::JsonText::scalar_text, crate::specs::ShortTexts::short_text))]
 fn append_number<A: Allocator>(number: &JsonNumber, out: &mut Vec<u8, A>) -> Result<(), RowsError>
     ensures ok { OnOk result (out.new.items ≡ out.old.items ++ scalar_text (number_view number.now)) }
     ensures err { IfErr result (λ e. IsRefused e out.old.items out.new.items) }
 {
     match number {
-        JsonNumber::Int(number) => {
-            let mut buffer = Buffer::new();
-            append_all(&[buffer.format(*number).as_bytes()], out)
-        }
-        JsonNumber::Uint(number) => {
-            let mut buffer = Buffer::new();
-            append_all(&[b"u".as_slice(), buffer.format(*number).as_bytes()], out)
-        }
-        JsonNumber::Double(bits) => put_digits(b'd', &bits.to_be_bytes(), out),
+        JsonNumber::Int(number) => append_short(Short::Int(*number), out),
+        JsonNumber::Uint(number) => append_short(Short::UInt(*number), out),
+        JsonNumber::Double(bits) => append_short(Short::Double(*bits), out),
         JsonNumber::Decimal(decimal) => {
             decimal.append_text(out)?;
             Ok(())
@@ -73,69 +66,58 @@ fn append_opaque<A: Allocator>(value: &JsonOpaque, out: &mut Vec<u8, A>) -> Resu
     quote(value.value(), out)
 }
 
+/// The most bytes of a quoted date and time of day.
+const MOMENT: usize = 80;
+
 /// Appends a quoted date, a span of time, or a date and a time of day; or nothing.
-#[tactic(auto, unfolding(crate::specs::JsonText::scalar_text, crate::specs::JsonText::moment_text))]
+#[tactic(auto, unfolding(crate::specs::JsonText::scalar_text))]
 fn append_moment<A: Allocator>(time: &MysqlTime, out: &mut Vec<u8, A>) -> Result<(), RowsError>
     ensures ok { OnOk result (out.new.items ≡ out.old.items ++ scalar_text (time_scalar time.now)) }
     ensures err { IfErr result (λ e. IsRefused e out.old.items out.new.items) }
 {
+    let start = out.len();
+    out.resize(start + MOMENT, 0)?;
+    let text = out.as_mut_slice();
+    let end = put_byte(text, start, b't');
+    let end = put_byte(text, end, b'\'');
+    let end = put_moment(text, end, time);
+    let end = put_byte(text, end, b'\'');
+    out.truncate(end);
+    Ok(())
+}
+
+/// Writes a date, a span of time, or a date and a time of day.
+#[tactic(auto, unfolding(crate::specs::JsonText::moment_text))]
+fn put_moment(text: &mut [u8], at: usize, time: &MysqlTime) -> usize
+    requires { at + 77 ≤ length text.old }
+    ensures most { result ≤ at + 76 }
+    ensures text { take result text.new ≡ take at text.old ++ moment_text time.now }
+{
+    let day = Day {
+        year: time.year,
+        month: time.month,
+        day: time.day,
+    };
+    let clock = Clock {
+        hour: time.hour,
+        minute: time.minute,
+        second: time.second,
+        micros: time.second_part,
+    };
     match time.time_type {
-        MysqlTimestampType::MYSQL_TIMESTAMP_DATE => {
-            let day = day_of(time);
-            append_all(&[b"t'".as_slice(), day.as_slice(), b"'".as_slice()], out)
-        }
+        MysqlTimestampType::MYSQL_TIMESTAMP_DATE => put_day(text, at, day),
         MysqlTimestampType::MYSQL_TIMESTAMP_TIME => {
-            let clock = clock_of(time);
-            append_all(
-                &[
-                    b"t'".as_slice(),
-                    sign(time.neg),
-                    clock.as_slice(),
-                    b"'".as_slice(),
-                ],
-                out,
-            )
+            let start = if time.neg {
+                put_byte(text, at, b'-')
+            } else {
+                at
+            };
+            put_clock(text, start, clock)
         }
         _ => {
-            let (day, clock) = (day_of(time), clock_of(time));
-            append_all(
-                &[
-                    b"t'".as_slice(),
-                    day.as_slice(),
-                    b" ".as_slice(),
-                    clock.as_slice(),
-                    b"'".as_slice(),
-                ],
-                out,
-            )
+            let end = put_day(text, at, day);
+            let end = put_byte(text, end, b' ');
+            put_clock(text, end, clock)
         }
     }
-}
-
-/// Year, month and day.
-fn day_of(time: &MysqlTime) -> ShortText
-    ensures { result ≡ joined (day_texts time.now) }
-{
-    let mut text = ShortText::new();
-    text.push_number(4, time.year);
-    text.push(b'-');
-    text.push_number(2, time.month);
-    text.push(b'-');
-    text.push_number(2, time.day);
-    text
-}
-
-/// Hours, minutes, seconds and microseconds.
-fn clock_of(time: &MysqlTime) -> ShortText
-    ensures { result ≡ joined (time_texts time.now) }
-{
-    let mut text = ShortText::new();
-    text.push_number(2, time.hour);
-    text.push(b':');
-    text.push_number(2, time.minute);
-    text.push(b':');
-    text.push_number(2, time.second);
-    text.push(b'.');
-    text.push_number(6, time.second_part);
-    text
 }

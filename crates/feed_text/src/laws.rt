@@ -1,15 +1,30 @@
 //! Laws of the texts, and worked texts. Each is a function that does nothing, whose contract is the law.
 
-ghost use Rattle.std.specs.Prelude.{◌≡◌, ◌∷◌, [], codes, ℕ, List};
+ghost use Rattle.std.specs.Prelude.{◌≡◌, ◌∷◌, [], codes, ℕ, List, Ok};
 ghost use Rattle.wire_buf.specs.Spelling.{AreBytes};
 ghost use Rattle.rows_values.specs.PackedTimes.{fraction_len, time2, datetime2};
 ghost use Rattle.rows_values.specs.Values.{span_value, date_value};
-ghost use Rattle.feed_text.specs.Quoting.{quoted};
+ghost use Rattle.feed_writers.specs.Quoting.{quoted};
+ghost use Rattle.rows_values.specs.declared.rows.value.Value.{Value};
+ghost use Rattle.rows_cells.specs.CellValues.{CellValue};
+ghost use Rattle.rows_cells.specs.CellViews.{value_view, Holds};
+ghost use Rattle.rows_cells.specs.declared.binlog_value.BinlogValue.{BinlogValue};
 ghost use Rattle.feed_text.specs.ValueText.{value_text};
+ghost use Rattle.feed_text.specs.CellText.{text_of, kept_text};
 
 /// Equal quoted texts are of equal bytes.
 pub fn equal_quotes_are_of_equal_bytes()
     ensures { (a b : List ℕ) → AreBytes a → AreBytes b → quoted a ≡ quoted b → a ≡ b }
+{}
+
+/// The text of a value is that of a cell of this value.
+pub fn values_have_the_texts_of_cells()
+    ensures { (v : Value) → text_of (value_view v) ≡ Ok (value_text v) }
+{}
+
+/// The value that was made of a cell has the cell's text.
+pub fn values_of_cells_have_their_texts()
+    ensures { (v : CellValue) (b : BinlogValue) → Holds v b → kept_text b ≡ text_of v }
 {}
 
 /// The text of the bytes `27 5c 0a 41`: a quote, a backslash, a line's end and a letter.

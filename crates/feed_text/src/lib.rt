@@ -5,17 +5,18 @@
 //! memory, and where bytes pack no decimal. `specs/` has the texts.
 #![tactic(auto)]
 
+mod cells;
 mod decimals;
-mod digits;
 mod documents;
 mod json_scalars;
 pub mod laws;
-mod padding;
+mod parts;
 mod pieces;
 mod quoting;
-mod short_text;
+mod short;
 mod values;
 
+pub use cells::{put_cell, put_cell_ref};
 pub use decimals::put_decimal;
 pub use documents::put_json;
 pub use quoting::quote;

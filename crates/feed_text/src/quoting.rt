@@ -1,9 +1,9 @@
 ghost use Rattle.std.specs.Prelude.{◌≡◌, ◌≤◌, ◌++◌, OnOk, IfErr, not, length, take, take_while};
 ghost use Rattle.std.specs.List.{flat_map};
-ghost use Rattle.feed_text.specs.Quoting.{is_plain_byte, escape, quoted};
+ghost use Rattle.feed_writers.specs.Quoting.{is_plain_byte, escape, quoted};
 ghost use Rattle.feed_text.specs.Pieces.{IsRefused};
 
-use crate::short_text::ShortText;
+use feed_writers::{is_plain, plain_len, put_escapes};
 use rows_values::RowsError;
 use std::alloc::Allocator;
 
@@ -54,11 +54,10 @@ fn append_escapes<A: Allocator>(bytes: &[u8], out: &mut Vec<u8, A>) -> Result<()
     ensures ok { OnOk result (out.new.items ≡ out.old.items ++ flat_map escape bytes.now) }
     ensures err { IfErr result (λ e. IsRefused e out.old.items out.new.items) }
 {
-    let mut text = ShortText::new();
-    for byte in bytes {
-        text.push_escape(*byte);
-    }
-    out.extend_from_slice(text.as_slice())?;
+    let start = out.len();
+    out.resize(start + 3 * bytes.len(), 0)?;
+    let end = put_escapes(out.as_mut_slice(), start, bytes);
+    out.truncate(end);
     Ok(())
 }
 
@@ -71,18 +70,4 @@ fn escaped_len(bytes: &[u8]) -> usize
         .take(ESCAPED_AT_ONCE)
         .take_while(|byte| !is_plain(**byte))
         .count()
-}
-
-/// How many bytes at the front stand for themselves.
-fn plain_len(bytes: &[u8]) -> usize
-    ensures { result ≡ length (take_while is_plain_byte bytes.now) }
-{
-    bytes.iter().take_while(|byte| is_plain(**byte)).count()
-}
-
-/// Whether a byte stands for itself between quotes: 0x20 to 0x7e, save quote and backslash.
-fn is_plain(byte: u8) -> bool
-    ensures { result ≡ is_plain_byte byte }
-{
-    (0x20..=0x7e).contains(&byte) && byte != b'\'' && byte != b'\\'
 }

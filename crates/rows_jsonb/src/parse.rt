@@ -1,6 +1,6 @@
 //! From a value in a document to its tree.
 
-ghost use Rattle.std.specs.Prelude.{◌≡◌, true, string_bytes};
+ghost use Rattle.std.specs.Prelude.{◌<◌, ◌^◌, ◌≡◌, true, string_bytes};
 ghost use Rattle.wire_consts.specs.ColumnTypes.{column_type_number};
 ghost use Rattle.rows_jsonb.specs.JsonTrees.{scalar, no_members};
 ghost use Rattle.rows_jsonb.specs.JsonbValues.{elem_in, key_of, count_in, is_object_in};
@@ -172,13 +172,14 @@ const MAX_DEPTH: usize = 100;
 impl Value<'_> {
     /// The bytes of a container.
     fn size(&self) -> usize
-        ensures { result ≡ size_of (jsonb_value self.now) }
+        ensures value { result ≡ size_of (jsonb_value self.now) }
+        ensures small { result < 2 ^ 63 }
     {
         match self {
-            Value::SmallArray(container) => container.bytes.len(),
-            Value::LargeArray(container) => container.bytes.len(),
-            Value::SmallObject(container) => container.bytes.len(),
-            Value::LargeObject(container) => container.bytes.len(),
+            Value::SmallArray(container) => container.bytes.as_slice().len(),
+            Value::LargeArray(container) => container.bytes.as_slice().len(),
+            Value::SmallObject(container) => container.bytes.as_slice().len(),
+            Value::LargeObject(container) => container.bytes.as_slice().len(),
             _ => 0,
         }
     }
@@ -189,8 +190,15 @@ impl Value<'_> {
     pub fn parse(self, alloc: Global) -> Result<JsonDom, RowsError>
         ensures { Parses view result (tree_in (jsonb_value self.entry)) }
     {
+        self.tree(alloc)
+    }
+
+    /// What [`parse`](Value::parse) answers, of a value that is kept.
+    pub fn tree(&self, alloc: Global) -> Result<JsonDom, RowsError>
+        ensures { Parses view result (tree_in (jsonb_value self.now)) }
+    {
         let mut budget = 1 + self.size();
-        let tree = parse_in(alloc, &self, MAX_DEPTH, &mut budget)?;
+        let tree = parse_in(alloc, self, MAX_DEPTH, &mut budget)?;
         Ok(tree)
     }
 }

@@ -1,7 +1,7 @@
 use Rattle.std.proofs.Common.{arith, ap, rules}
 use Rattle.std.specs.Option.{option_map}
 use Rattle.wire_buf.specs.Spelling.{AreBytes}
-use Rattle.feed_text.specs.Quoting.{quoted}
+use Rattle.feed_writers.specs.Quoting.{quoted}
 use Rattle.feed_text.proofs.DecimalTextLemmas.{packed_left, written_quoted, front_left, quoted_none}
 use Rattle.feed_text.proofs.decimals.write_quoted.Goals as goal
 

@@ -4,7 +4,7 @@ use Rattle.std.proofs.lemmas.Result.{on_ok_weaker}
 use Rattle.rows_jsonb.specs.JsonTrees.{array}
 use Rattle.rows_jsonb.specs.JsonTreeViews.{view, items_view, members_view}
 use Rattle.rows_jsonb.proofs.DomLemmas.{view-Scalar}
-use Rattle.feed_text.specs.Quoting.{quoted}
+use Rattle.feed_writers.specs.Quoting.{quoted}
 use Rattle.feed_text.specs.JsonText.{document_text, item_texts, member_texts}
 use Rattle.feed_text.proofs.QuoteLemmas.{kept_more, kept_twice}
 use Rattle.feed_text.proofs.DocumentLemmas.{one_more, closed, member_written, item_texts-item, member_texts-member}

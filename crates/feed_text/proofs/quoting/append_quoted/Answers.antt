@@ -5,7 +5,7 @@ use Rattle.feed_text.proofs.quoting.append_quoted.Goals as goal
 pub loop-rest-preserved : goal.loop-rest-preserved
 loop-rest-preserved g c = record {
   written =
-      run_more _ _ _ _ c.loop-rest.rest.now _ c.in_ok-extend_from_slice.ensures.items c.split_at.ensures.front c.split_at.ensures.back c.plain_len.ensures
+      run_more _ _ _ _ c.loop-rest.rest.now _ c.in_ok-extend_from_slice.ensures.items c.split_at.ensures.front c.split_at.ensures.back c.plain_len.ensures.value
       ∙ c.loop-rest.invariant.written;
   kept = kept_more _ _ _ _ c.loop-rest.invariant.kept c.in_ok-extend_from_slice.ensures.items;
 }

@@ -1,6 +1,6 @@
 use Rattle.std.proofs.Common.{◌≡◌, ◌++◌, ◌∷◌, [], length, take}
 use Rattle.std.specs.List.{flat_map}
-use Rattle.feed_text.specs.Quoting.{quoted_byte}
+use Rattle.feed_writers.specs.Quoting.{quoted_byte}
 use Rattle.feed_text.proofs.quoting.append_quoted.Given as goal
 
 -- what is written and what is left to write is all, and what stood there stands there

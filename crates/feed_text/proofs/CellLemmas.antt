@@ -1,0 +1,150 @@
+-- The texts of cells: what is appended, and why nothing is.
+use Rattle.std.proofs.Common.{◌≡◌, ℕ, List, ◌++◌, Option, Some, None, Result, Ok, Err, OnOk, IfErr, refl, sym, ap, subst, ◌∙◌, inl, inr}
+use Rattle.std.specs.Prelude.{◌⊎◌}
+use Rattle.std.specs.Option.{option_map}
+use Rattle.std.specs.Borrow.{Bor}
+use Rattle.rows_values.specs.declared.rows.value.Value.{Value}
+use Rattle.rows_values.specs.declared.rows.value.Value.TheVariants.{NULL, Bytes, Int, UInt, Float, Double, Date, Time}
+use Rattle.rows_values.specs.declared.fault.RowsError.{RowsError}
+use Rattle.rows_values.specs.declared.fault.RowsError.TheVariants.{EndOfBody, RemainingBytes, UnknownNumber, Metadata, Cell, Jsonb, Decimal, EmptyPair, Memory, Read}
+use Rattle.rows_decimal.specs.Unpacked.{packed_text}
+use Rattle.rows_jsonb.specs.JsonTrees.{Tree}
+use Rattle.rows_jsonb.specs.JsonbValues.{Reading, ◌>>=◌, document}
+use Rattle.rows_jsonb.specs.JsonbValues.{JsonbValue as Seen}
+use Rattle.rows_jsonb.specs.JsonbViews.{jsonb_value}
+use Rattle.rows_jsonb.specs.declared.value.Value.{Value as JsonbValue}
+use Rattle.rows_cells.specs.declared.binlog_value.BinlogValue.{BinlogValue}
+use Rattle.rows_cells.specs.declared.binlog_value.BinlogValue.TheVariants as made
+use Rattle.rows_jsonb.specs.JsonDiffs.{IsJsonbFault}
+use Rattle.rows_jsonb.specs.JsonParsing.{Parses}
+use Rattle.rows_jsonb.specs.DocumentTrees.{document_tree, tree_in}
+use Rattle.rows_jsonb.specs.declared.dom.JsonDom.{JsonDom}
+use Rattle.rows_jsonb.specs.JsonTreeViews.{view}
+use Rattle.rows_jsonb.proofs.SoundLemmas.{document_fault}
+use Rattle.rows_cells.specs.CellValues.{CellValue, null, bytes, int, uint, float, double, date, time, json}
+use Rattle.rows_cells.specs.CellViews.{cell_value, text_or_none, value_view, Holds}
+use Rattle.rows_cells.specs.declared.cell.CellRef.{CellRef}
+use Rattle.rows_cells.specs.declared.cell.CellRef.TheVariants as ref
+use Rattle.feed_writers.specs.Quoting.{quoted}
+use Rattle.feed_text.specs.Pieces.{IsRefused}
+use Rattle.feed_text.specs.DecimalText.{quoted_decimal, IsDecimalRefused}
+use Rattle.feed_text.specs.JsonText.{document_text}
+use Rattle.feed_text.specs.ValueText.{value_text}
+use Rattle.feed_text.specs.CellText.{label, text_of, tree_text, cell_text, kept_text, kept_cell_text, Appends, AppendsLabeled, PacksNone, IsCellRefused}
+
+-- the text that there is was appended
+pub appends : (place : ℕ) (found : Reading (List ℕ)) (text old new : List ℕ) → found ≡ Ok text → new ≡ old ++ (label place ++ text) → Appends (found >>= λ t. Ok (label place ++ t)) old new
+appends place found text old new h is = rw h is
+
+pub bytes_text : (v : CellValue) (b : List ℕ) → v ≡ bytes b → text_of v ≡ Ok (quoted b)
+unfolding text_of
+bytes_text v b h = rw h refl
+
+pub json_text : (v : CellValue) (b : List ℕ) → v ≡ json b → text_of v ≡ tree_text (document_tree b)
+unfolding text_of
+json_text v b h = rw h refl
+
+pub tree_written : (v : CellValue) (b : List ℕ) (t : Tree) → v ≡ json b → document_tree b ≡ Ok t → text_of v ≡ Ok (document_text t)
+tree_written v b t h e = json_text v b h ∙ ap tree_text e
+
+packed_appended : (place : ℕ) (o : Option (List ℕ)) (old new : List ℕ) → AppendsLabeled place (option_map quoted o) old new → Appends (cell_text place (bytes (text_or_none o))) old new
+unfolding text_of
+packed_appended place None old new h = absurd h
+packed_appended place (Some t) old new h = h
+
+pub decimal_appended : (place : ℕ) (cell : CellRef) (precision scale : ℕ) (b : Bor (List ℕ)) (old new : List ℕ) → cell ≡ ref.Decimal precision scale b
+    → AppendsLabeled place (quoted_decimal precision scale b.now) old new → Appends (cell_text place (cell_value cell)) old new
+decimal_appended place cell precision scale b old new h is = rw h (packed_appended place (packed_text precision scale b.now) old new is)
+
+unquoted_none : (o : Option (List ℕ)) → (let none : Option (List ℕ) = None in option_map quoted o ≡ none → o ≡ none)
+unquoted_none None h = refl
+unquoted_none (Some t) h = cc
+
+pub decimal_refused : (place : ℕ) (cell : CellRef) (precision scale : ℕ) (b : Bor (List ℕ)) (e : RowsError) (old new : List ℕ) → cell ≡ ref.Decimal precision scale b
+    → IsDecimalRefused e (quoted_decimal precision scale b.now) old new → IsCellRefused e cell (cell_text place (cell_value cell)) old new
+decimal_refused place cell precision scale b e old new h r = (why r.cause, r.unchanged)
+  where
+    why : (e ≡ Memory) ⊎ ((e ≡ Decimal) × (let none : Option (List ℕ) = None in quoted_decimal precision scale b.now ≡ none)) → ((e ≡ Decimal) × PacksNone cell) ⊎ Parses (λ (t : List ℕ). t) (Err e) (cell_text place (cell_value cell))
+    why (inl m) = inr (rw m tt)
+    why (inr d) = inl (d.0, rw h (unquoted_none (packed_text precision scale b.now) d.1))
+
+pub value_text_is : (v : Value) → text_of (value_view v) ≡ Ok (value_text v)
+unfolding text_of value_text
+value_text_is NULL = refl
+value_text_is (Bytes b) = refl
+value_text_is (Int z) = refl
+value_text_is (UInt n) = refl
+value_text_is (Float bits) = refl
+value_text_is (Double bits) = refl
+value_text_is (Date year month day hour minute second micros) = refl
+value_text_is (Time negative days hours minutes seconds micros) = refl
+
+-- a fault goes through each step
+pub no_more : {A B C : Type 0} (f : A → B) (e : RowsError) (found : Reading B) (next : B → Reading C) → Parses f (Err e) found → Parses (λ (c : C). c) (Err e) (found >>= next)
+no_more f Memory found next h = tt
+no_more f (Jsonb None) (Ok x) next h = absurd h
+no_more f (Jsonb None) (Err k) next h = tt
+no_more f (Jsonb (Some j)) found next h = rw h refl
+no_more f EndOfBody found next h = absurd h
+no_more f RemainingBytes found next h = absurd h
+no_more f UnknownNumber found next h = absurd h
+no_more f Metadata found next h = absurd h
+no_more f Cell found next h = absurd h
+no_more f Decimal found next h = absurd h
+no_more f EmptyPair found next h = absurd h
+no_more f Read found next h = absurd h
+
+-- the text of a document that has no tree
+pub no_text : (place : ℕ) (e : RowsError) (found : Reading Tree) → Parses view (Err e) found → Parses (λ (t : List ℕ). t) (Err e) (tree_text found >>= λ t. Ok (label place ++ t))
+no_text place e found h =
+    no_more (λ (t : List ℕ). t) e (tree_text found) (λ t. Ok (label place ++ t)) (no_more view e found (λ t. Ok (document_text t)) h)
+
+-- a document that can't be read has no tree
+pub no_document : (s : List ℕ) (e : RowsError) → (let fault : Reading JsonDom = Err e in document s ≡ Err e → Parses view fault (document_tree s))
+no_document s e h = rw h (own e (document_fault s e h))
+  where
+    own : (k : RowsError) → IsJsonbFault k → (let fault : Reading JsonDom = Err k in let found : Reading Tree = Err k in Parses view fault found)
+    own (Jsonb None) j = tt
+    own (Jsonb (Some x)) j = refl
+    own Memory j = absurd j
+    own EndOfBody j = absurd j
+    own RemainingBytes j = absurd j
+    own UnknownNumber j = absurd j
+    own Metadata j = absurd j
+    own Cell j = absurd j
+    own Decimal j = absurd j
+    own EmptyPair j = absurd j
+    own Read j = absurd j
+
+pub document_refused : (place : ℕ) (v : CellValue) (b : List ℕ) (e : RowsError) → (let fault : Reading JsonDom = Err e in let refused : Reading (List ℕ) = Err e in v ≡ json b → Parses view fault (document_tree b) → Parses (λ (t : List ℕ). t) refused (cell_text place v))
+document_refused place v b e h p = rw (json_text v b h) (no_text place e (document_tree b) p)
+
+-- ---- values that callers keep
+
+pub kept_value : (b : BinlogValue) (v : Value) → b ≡ made.Value v → kept_text b ≡ Ok (value_text v)
+unfolding kept_text
+kept_value b v h = ap kept_text h ∙ value_text_is v
+
+kept_document : (b : BinlogValue) (d : JsonbValue) → b ≡ made.Jsonb d → kept_text b ≡ tree_text (tree_in (jsonb_value d))
+unfolding kept_text
+kept_document b d h = rw h refl
+
+pub kept_tree : (b : BinlogValue) (d : JsonbValue) (t : Tree) → b ≡ made.Jsonb d → tree_in (jsonb_value d) ≡ Ok t → kept_text b ≡ Ok (document_text t)
+kept_tree b d t h e = kept_document b d h ∙ ap tree_text e
+
+pub kept_refused : (place : ℕ) (b : BinlogValue) (d : JsonbValue) (e : RowsError) → (let fault : Reading JsonDom = Err e in let refused : Reading (List ℕ) = Err e in b ≡ made.Jsonb d → Parses view fault (tree_in (jsonb_value d)) → Parses (λ (t : List ℕ). t) refused (kept_cell_text place b))
+kept_refused place b d e h p = rw (kept_document b d h) (no_text place e (tree_in (jsonb_value d)) p)
+
+-- the value that was made of a cell has the cell's text
+pub same_text : (v : CellValue) (b : BinlogValue) → Holds v b → kept_text b ≡ text_of v
+unfolding kept_text text_of
+same_text v (made.Value w) h = ap text_of (sym h)
+same_text (json b) (made.Jsonb d) h = ap (λ (o : Reading Seen). tree_text (o >>= tree_in)) (sym h)
+same_text null (made.Jsonb d) h = absurd h
+same_text (bytes b) (made.Jsonb d) h = absurd h
+same_text (int z) (made.Jsonb d) h = absurd h
+same_text (uint n) (made.Jsonb d) h = absurd h
+same_text (float n) (made.Jsonb d) h = absurd h
+same_text (double n) (made.Jsonb d) h = absurd h
+same_text (date year month day hour minute second micros) (made.Jsonb d) h = absurd h
+same_text (time negative days hours minutes seconds micros) (made.Jsonb d) h = absurd h

@@ -1,0 +1,16 @@
+use Rattle.std.proofs.Common.{refl}
+use Rattle.std.proofs.lemmas.Result.{on_ok_weaker}
+use Rattle.feed_text.specs.CellText.{kept_text}
+use Rattle.feed_text.proofs.CellLemmas.{appends, kept_value, kept_tree, kept_refused}
+use Rattle.feed_text.proofs.cells.put_cell.Goals as goal
+
+pub returns-in-Value-clause-ok : goal.returns-in-Value-clause-ok
+returns-in-Value-clause-ok g c =
+    on_ok_weaker c.put_value_cell.result (λ e. appends c.args.place (kept_text c.args.value.now) _ _ _ (kept_value _ _ c.in-Value.is) e) c.put_value_cell.ensures.ok
+
+pub returns-in-Ok-clause-ok : goal.returns-in-Ok-clause-ok
+returns-in-Ok-clause-ok g c =
+    on_ok_weaker c.put_tree_cell.result (λ e. appends c.args.place (kept_text c.args.value.now) _ _ _ (kept_tree _ _ _ c.in-Jsonb.is c.in-Ok.ensures) e) c.put_tree_cell.ensures.ok
+
+pub returns-in-Err-clause-err : goal.returns-in-Err-clause-err
+returns-in-Err-clause-err g c = (kept_refused c.args.place _ _ _ c.in-Jsonb.is c.in-Err.ensures, refl)

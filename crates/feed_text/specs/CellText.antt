@@ -1,0 +1,78 @@
+-- The text of the feed: cells.
+use Rattle.std.specs.Prelude.{◌≡◌, ◌⊎◌, ℕ, List, ◌∷◌, ◌++◌, [], codes, Option, Some, None}
+use Rattle.std.specs.declared.result.Result.TheVariants.{Ok, Err}
+use Rattle.std.specs.Fmt.{decimal, signed_decimal}
+use Rattle.rows_values.specs.declared.fault.RowsError.{RowsError}
+use Rattle.rows_values.specs.declared.fault.RowsError.TheVariants.{Decimal}
+use Rattle.rows_decimal.specs.Unpacked.{packed_text}
+use Rattle.rows_jsonb.specs.JsonTrees.{Tree}
+use Rattle.rows_jsonb.specs.JsonbValues.{Reading, ◌>>=◌}
+use Rattle.rows_jsonb.specs.JsonbViews.{jsonb_value}
+use Rattle.rows_jsonb.specs.DocumentTrees.{tree_in, document_tree}
+use Rattle.rows_jsonb.specs.JsonParsing.{Parses}
+use Rattle.rows_cells.specs.CellValues.{CellValue, null, bytes, int, uint, float, double, date, time, json}
+use Rattle.rows_cells.specs.CellViews.{value_view}
+use Rattle.rows_cells.specs.declared.cell.CellRef.{CellRef}
+use Rattle.rows_cells.specs.declared.cell.CellRef.TheVariants as ref
+use Rattle.rows_cells.specs.declared.binlog_value.BinlogValue.{BinlogValue}
+use Rattle.rows_cells.specs.declared.binlog_value.BinlogValue.TheVariants as made
+use Rattle.feed_writers.specs.Quoting.{quoted}
+use Rattle.feed_text.specs.Times.{date_text, span_text}
+use Rattle.feed_text.specs.ValueText.{float_text, double_text}
+use Rattle.feed_text.specs.JsonText.{document_text}
+
+-- the text of a tree, where there is one
+abbrev pub tree_text : Reading Tree → Reading (List ℕ)
+tree_text found = found >>= λ t. Ok (document_text t)
+
+-- the text of a value; a document that has no tree has none
+unfoldable pub text_of : CellValue → Reading (List ℕ)
+text_of null = Ok (codes "NULL")
+text_of (bytes b) = Ok (quoted b)
+text_of (int z) = Ok (signed_decimal z)
+text_of (uint n) = Ok (117 ∷ decimal n)
+text_of (float bits) = Ok (float_text bits)
+text_of (double bits) = Ok (double_text bits)
+text_of (date year month day hour minute second micros) =
+    Ok (date_text (record { year = year; month = month; day = day }) (record { hour = hour; minute = minute; second = second; micros = micros }))
+text_of (time negative days hours minutes seconds micros) =
+    Ok (span_text negative days (record { hour = hours; minute = minutes; second = seconds; micros = micros }))
+text_of (json b) = tree_text (document_tree b)
+
+-- a space, the column's place in the table, and `=`
+abbrev pub label : ℕ → List ℕ
+label place = 32 ∷ decimal place ++ 61 ∷ []
+
+-- a cell of the column at a place
+abbrev pub cell_text : ℕ → CellValue → Reading (List ℕ)
+cell_text place v = text_of v >>= λ t. Ok (label place ++ t)
+
+-- the same of a value that callers keep
+unfoldable pub kept_text : BinlogValue → Reading (List ℕ)
+kept_text (made.Value v) = text_of (value_view v)
+kept_text (made.Jsonb d) = tree_text (tree_in (jsonb_value d))
+
+abbrev pub kept_cell_text : ℕ → BinlogValue → Reading (List ℕ)
+kept_cell_text place v = kept_text v >>= λ t. Ok (label place ++ t)
+
+-- the text was appended
+abbrev pub Appends : Reading (List ℕ) → List ℕ → List ℕ → Type 0
+Appends (Ok text) old new = new ≡ old ++ text
+Appends (Err e) old new = ⊥
+
+-- a label and the text were appended, where there is one
+abbrev pub AppendsLabeled : ℕ → Option (List ℕ) → List ℕ → List ℕ → Type 0
+AppendsLabeled place None old new = ⊥
+AppendsLabeled place (Some text) old new = new ≡ old ++ (label place ++ text)
+
+-- nothing was: memory was refused, or there is no text, for this fault of its document
+abbrev pub IsTextRefused : RowsError → Reading (List ℕ) → List ℕ → List ℕ → Type 0
+IsTextRefused e text old new = Parses (λ t. t) (Err e) text × (new ≡ old)
+
+-- a decimal whose bytes pack none, which no cell that was read is
+abbrev pub PacksNone : CellRef → Type 0
+PacksNone (ref.Decimal precision scale b) = packed_text precision scale b.now ≡ None
+PacksNone cell = ⊥
+
+abbrev pub IsCellRefused : RowsError → CellRef → Reading (List ℕ) → List ℕ → List ℕ → Type 0
+IsCellRefused e cell text old new = (((e ≡ Decimal) × PacksNone cell) ⊎ Parses (λ t. t) (Err e) text) × (new ≡ old)

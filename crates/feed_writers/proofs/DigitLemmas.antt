@@ -1,0 +1,143 @@
+-- Numbers as text, by pairs of digits, and how many digits they have.
+use Rattle.std.proofs.Common.{◌≡◌, ℕ, zero, suc, ◌+◌, ◌-◌, ◌*◌, ◌/◌, ◌%◌, ◌^◌, ◌<◌, ◌≤◌, Bool, true, false, ◌&&◌, T, eqb, List, [], ◌∷◌, ◌++◌, length, take, drop, get_or, replicate, slice_index, refl, sym, ap, ◌∙◌, inl, inr, arith, eq-zero-or-pos, eqb→eq, append_assoc, length-append}
+use Rattle.std.specs.Prelude.{nat_lt}
+use Rattle.std.proofs.lemmas.Bool.{ltb-true, ltb-false, lt-ltb}
+use Rattle.std.proofs.lemmas.Fmt.{decimal_digit, decimal_step, length-decimal-le}
+use Rattle.std.proofs.lemmas.List.{replicate_more, take-append-drop}
+use Rattle.std.specs.Fmt.{decimal, digit_glyph}
+use Rattle.rows_values.specs.TimeTexts.{padded}
+use Rattle.feed_writers.specs.declared.digits.TheConstants.{PAIRS}
+use lib.Ieee.Fits.{and_l, and_r}
+
+abbrev pub pair : ℕ → List ℕ
+pair p = (48 + p / 10) ∷ (48 + p % 10) ∷ []
+
+abbrev are_pairs : ℕ → Bool
+are_pairs zero = true
+are_pairs (suc p) = (eqb (get_or PAIRS (p * 2) 0) (48 + p / 10) && eqb (get_or PAIRS (p * 2 + 1) 0) (48 + p % 10)) && are_pairs p
+
+below : (n p : ℕ) → T (are_pairs n) → p < n → (get_or PAIRS (p * 2) 0 ≡ 48 + p / 10) × (get_or PAIRS (p * 2 + 1) 0 ≡ 48 + p % 10)
+below zero p t h = absurd (omega arith)
+below (suc n) p t h =
+    elim (eq-zero-or-pos (n - p)) [
+      | inl z ↦ let e : p ≡ n = omega arith in let a = and_l _ (are_pairs n) t in rw e (eqb→eq _ _ (and_l _ _ a), eqb→eq _ _ (and_r _ _ a))
+      | inr g ↦ below n p (and_r _ (are_pairs n) t) (omega arith)
+    ]
+
+pub PAIRS_at : (p : ℕ) → p < 100 → (get_or PAIRS (p * 2) 0 ≡ 48 + p / 10) × (get_or PAIRS (p * 2 + 1) 0 ≡ 48 + p % 10)
+PAIRS_at p h = below 100 p tt h
+
+-- ---- how many digits
+
+pub count_one : (n : ℕ) → n < 10 → 1 ≡ length (decimal n)
+count_one n h = sym (ap length (decimal_digit n h))
+
+longer : (n : ℕ) → 10 ≤ n → n < 2 ^ 64 → length (decimal n) ≡ length (decimal (n / 10)) + 1
+longer n m h = ap length (decimal_step n m h) ∙ length-append (decimal (n / 10)) ((48 + n % 10) ∷ [])
+
+pub count_two : (n : ℕ) → 10 ≤ n → n < 100 → 2 ≡ length (decimal n)
+count_two n lo hi = omega (arith, longer n lo (omega arith), count_one (n / 10) (omega arith))
+
+pub count_three : (n : ℕ) → 100 ≤ n → n < 1000 → 3 ≡ length (decimal n)
+count_three n lo hi = omega (arith, longer n (omega arith) (omega arith), count_two (n / 10) (omega arith) (omega arith))
+
+pub count_four : (n : ℕ) → 1000 ≤ n → n < 10000 → 4 ≡ length (decimal n)
+count_four n lo hi = omega (arith, longer n (omega arith) (omega arith), count_three (n / 10) (omega arith) (omega arith))
+
+pub count_more : (n : ℕ) → 10000 ≤ n → n < 2 ^ 64 → length (decimal n) ≡ length (decimal (n / 10000)) + 4
+count_more n lo hi =
+    let a : n / 10 / 10 / 10 / 10 ≡ n / 10000 = omega arith in
+    omega (arith, longer n (omega arith) hi, longer (n / 10) (omega arith) (omega arith), longer (n / 10 / 10) (omega arith) (omega arith), longer (n / 10 / 10 / 10) (omega arith) (omega arith), ap (λ k. length (decimal k)) a)
+
+pub count_8 : (n : ℕ) → 100000000 ≤ n → n < 2 ^ 64 → length (decimal n) ≡ length (decimal (n / 100000000)) + 8
+count_8 n lo hi =
+    let a : n / 10000 / 10000 ≡ n / 100000000 = omega arith in
+    omega (arith, count_more n (omega arith) hi, count_more (n / 10000) (omega arith) (omega arith), ap (λ k. length (decimal k)) a)
+
+pub count_12 : (n : ℕ) → 1000000000000 ≤ n → n < 2 ^ 64 → length (decimal n) ≡ length (decimal (n / 1000000000000)) + 12
+count_12 n lo hi =
+    let a : n / 10000 / 100000000 ≡ n / 1000000000000 = omega arith in
+    omega (arith, count_more n (omega arith) hi, count_8 (n / 10000) (omega arith) (omega arith), ap (λ k. length (decimal k)) a)
+
+pub count_16 : (n : ℕ) → 10000000000000000 ≤ n → n < 2 ^ 64 → length (decimal n) ≡ length (decimal (n / 10000000000000000)) + 16
+count_16 n lo hi =
+    let a : n / 100000000 / 100000000 ≡ n / 10000000000000000 = omega arith in
+    omega (arith, count_8 n (omega arith) hi, count_8 (n / 100000000) (omega arith) (omega arith), ap (λ k. length (decimal k)) a)
+
+pub count_small : (n : ℕ) → n < 10000 → length (decimal n) ≤ 4
+count_small n h = length-decimal-le 4 n (omega arith) (omega (arith, h)) (omega (arith, h))
+
+-- ---- zeros in front
+
+-- the last digit stands apart
+pub padded_more : (k n : ℕ) → n < 2 ^ 64 → padded (suc (suc k)) n ≡ padded (suc k) (n / 10) ++ (48 + n % 10) ∷ []
+unfolding padded
+padded_more k n h = either (nat_lt n 10) refl
+  where
+    either : (b : Bool) → nat_lt n 10 ≡ b
+        → replicate (suc (suc k) - length (decimal n)) 48 ++ decimal n ≡ (replicate (suc k - length (decimal (n / 10))) 48 ++ decimal (n / 10)) ++ (48 + n % 10) ∷ []
+    either true few =
+        let l : n < 10 = ltb-true n 10 few in
+        let z : n / 10 ≡ 0 = omega (arith, l) in
+        let m : n % 10 ≡ n = omega (arith, l) in
+        let e : suc (suc k) - 1 ≡ k + 1 = omega arith in
+        let f : suc k - 1 ≡ k = omega arith in
+        rw (z, m, decimal_digit n l, decimal_digit 0 (omega arith), e, f) (ap (λ (t : List ℕ). t ++ (48 + n) ∷ []) {y = replicate k 48 ++ 48 ∷ []} (sym (replicate_more k 48)))
+    either false many =
+        let m : 10 ≤ n = ltb-false n 10 many in
+        let e : suc (suc k) - length (decimal n) ≡ suc k - length (decimal (n / 10)) = omega (arith, longer n m h) in
+        ap (λ (r : ℕ). replicate r 48 ++ decimal n) e
+        ∙ ap (λ (t : List ℕ). replicate (suc k - length (decimal (n / 10))) 48 ++ t) (decimal_step n m h)
+        ∙ sym (append_assoc (replicate (suc k - length (decimal (n / 10))) 48) (decimal (n / 10)) ((48 + n % 10) ∷ []))
+
+padded_one : (n : ℕ) → n < 10 → padded 1 n ≡ (48 + n) ∷ []
+unfolding padded
+padded_one n l = rw (decimal_digit n l) refl
+
+pub padded_pair : (n : ℕ) → n < 100 → padded 2 n ≡ pair n
+padded_pair n h = rw (padded_more 0 n (omega (arith, h)), padded_one (n / 10) (omega (arith, h))) refl
+
+-- the last two digits stand apart
+pub padded_two_more : (k n : ℕ) → n < 2 ^ 64 → padded (suc (suc (suc k))) n ≡ padded (suc k) (n / 100) ++ padded 2 (n % 100)
+padded_two_more k n h =
+    let a : n / 10 / 10 ≡ n / 100 = omega arith in
+    let b : n / 10 % 10 ≡ n % 100 / 10 = omega arith in
+    let c : n % 10 ≡ n % 100 % 10 = omega arith in
+    rw (padded_pair (n % 100) (omega arith), padded_more (suc k) n h, padded_more k (n / 10) (omega (arith, h)), append_assoc, a, b, ← c) refl
+
+-- the two bytes of a pair, one after the other
+pub put_pair_is : (base one two : List ℕ) (n tens ones : ℕ) → n < 100 → tens ≡ get_or PAIRS (n * 2) 0 → ones ≡ get_or PAIRS (n * 2 + 1) 0
+    → one ≡ base ++ tens ∷ [] → two ≡ one ++ ones ∷ [] → two ≡ base ++ padded 2 n
+put_pair_is base one two n tens ones h a b first second =
+    let p = PAIRS_at n h in
+    second ∙ ap (λ (t : List ℕ). t ++ ones ∷ []) first ∙ append_assoc base (tens ∷ []) (ones ∷ []) ∙ rw (padded_pair n h, a, b, p.0, p.1) refl
+
+-- two texts, one after the other
+pub joined_is : (base a b c mid new : List ℕ) → mid ≡ base ++ a → new ≡ mid ++ b → a ++ b ≡ c → new ≡ base ++ c
+joined_is base a b c mid new first second e = second ∙ ap (λ (t : List ℕ). t ++ b) first ∙ append_assoc base a b ∙ ap (λ (t : List ℕ). base ++ t) e
+
+pub padded_of : (width n : ℕ) → padded width n ≡ replicate (width - length (decimal n)) 48 ++ decimal n
+unfolding padded
+padded_of width n = refl
+
+-- no zeros
+pub padded_long : (base new : List ℕ) (width n count : ℕ) → count ≡ length (decimal n) → width ≤ count → new ≡ base ++ decimal n → new ≡ base ++ padded width n
+padded_long base new width n count e le h =
+    let none : width - length (decimal n) ≡ 0 = omega (arith, e, le) in
+    h ∙ ap (λ (t : List ℕ). base ++ t) (sym (padded_of width n ∙ rw none refl))
+
+-- one zero more
+pub zeros_more : (base one two : List ℕ) (c d : ℕ) → c ≤ d → one ≡ base ++ replicate (d - c) 48 → two ≡ one ++ 48 ∷ [] → two ≡ base ++ replicate (d + 1 - c) 48
+zeros_more base one two c d h e f =
+    let m : d + 1 - c ≡ d - c + 1 = omega (arith, h) in
+    f ∙ rw (e, m) (append_assoc base (replicate (d - c) 48) (48 ∷ []) ∙ ap (λ (t : List ℕ). base ++ t) {y = replicate (d - c + 1) 48} (replicate_more (d - c) 48))
+
+-- all zeros
+pub zeros_done : (base one new : List ℕ) (width n c d : ℕ) → c ≡ length (decimal n) → d ≡ width → one ≡ base ++ replicate (d - c) 48 → new ≡ one ++ decimal n → new ≡ base ++ padded width n
+zeros_done base one new width n c d e f h is =
+    let m : d - c ≡ width - length (decimal n) = omega (arith, e, f) in
+    joined_is base (replicate (width - length (decimal n)) 48) (decimal n) (padded width n) one new (h ∙ ap (λ (k : ℕ). base ++ replicate k 48) m) is (sym (padded_of width n))
+
+-- one digit
+pub one_digit : (base new : List ℕ) (n b : ℕ) → n < 10 → b ≡ 48 + n → new ≡ base ++ b ∷ [] → new ≡ base ++ decimal n
+one_digit base new n b h e is = is ∙ ap (λ (t : List ℕ). base ++ t) {y = decimal n} (rw e (sym (decimal_digit n h)))

@@ -1,0 +1,14 @@
+-- Escaped bytes, one at a time.
+use Rattle.std.proofs.Common.{◌≡◌, ◌<◌, ◌/◌, ◌%◌, slice_index, ℕ, List, false, [], ◌∷◌, ◌++◌, arith, append_assoc, ◌∙◌}
+use Rattle.std.specs.Fmt.{digit_glyph}
+use Rattle.feed_writers.specs.declared.escapes.TheConstants.{DIGITS}
+use Rattle.feed_writers.specs.Quoting.{escape}
+
+-- the digit of the table
+glyph_at : (d : ℕ) → d < 16 → slice_index DIGITS d ≡ digit_glyph false d
+glyph_at d h = grind arith
+
+pub escaped_is : (base one two three : List ℕ) (b high low : ℕ) → b < 256 → high ≡ b / 16 → low ≡ b % 16
+    → one ≡ base ++ 92 ∷ [] → two ≡ one ++ slice_index DIGITS high ∷ [] → three ≡ two ++ slice_index DIGITS low ∷ [] → three ≡ base ++ escape b
+escaped_is base one two three b high low h x y first second third =
+    third ∙ rw (second, first, x, y, glyph_at (b / 16) (omega (arith, h)), glyph_at (b % 16) (omega arith)) (simp append_assoc)

@@ -1,0 +1,127 @@
+-- From a vector's mask to bytes that stand for themselves. A mask that is computed lane by lane is held to a test of each of the 256 bytes.
+use Rattle.std.proofs.Common.{◌≡◌, ℕ, zero, suc, ◌+◌, ◌-◌, ◌*◌, ◌%◌, ◌^◌, ◌<◌, ◌≤◌, ltb, eqb, Bool, true, false, not, ◌&&◌, ◌||◌, ◌==◌, ◌⊎◌, inl, inr, cond, T, List, [], ◌∷◌, ◌++◌, length, take, drop, get_or, map, replicate, Fits, w8, refl, sym, ap, ap₂, ◌∙◌, subst, arith, add-one, get_or-take, get_or-drop, append_assoc, length-drop, not-suc-le-zero}
+use Rattle.std.proofs.lemmas.Bool.{eqb-true, cases_order}
+use Rattle.std.proofs.lemmas.Simd.{length-chunk, leading_from_mask_l, chunk-fits, zip2_splat, map-map, mask_l-mod}
+use Rattle.std.proofs.lemmas.List.{length-map}
+use Rattle.std.proofs.lemmas.List.Sums.{prefix_len-le-length}
+use Rattle.std.specs.Bool.{OnTrue}
+use Rattle.std.specs.List.{prefix_len}
+use Rattle.std.specs.Prelude.{take_while}
+use lib.Bits.{bit_or}
+use lib.Lanes.{chunk, mask_l, zip2, top, Each1}
+use Rattle.feed_writers.specs.Quoting.{is_plain_byte}
+use Rattle.feed_writers.specs.PlainBytes.{PlainTo}
+
+-- ---- a fact of each number below n, by computation
+abbrev upto : (ℕ → Bool) → ℕ → Bool
+upto p zero = true
+upto p (suc n) = p n && upto p n
+
+both : (a b : Bool) → T (a && b) → T a × T b
+both true b h = (tt, h)
+both false b h = absurd h
+
+upto_sound : (p : ℕ → Bool) (n : ℕ) → T (upto p n) → (i : ℕ) → i < n → T (p i)
+upto_sound p zero h i lt = absurd (not-suc-le-zero lt)
+upto_sound p (suc n) h i lt = go (upto_sound p n (both (p n) (upto p n) h).1 i) (cases_order i n)
+  where
+    go : (i < n → T (p i)) → (i ≡ n) ⊎ ((i < n) ⊎ (n < i)) → T (p i)
+    go below (inl e) = subst (λ x. T (p x)) (sym e) (both (p n) (upto p n) h).0
+    go below (inr (inl l)) = below l
+    go below (inr (inr g)) = let no : ⊥ = omega arith in absurd no
+
+abbrev same : Bool → Bool → Bool
+same true b = b
+same false b = not b
+
+same_is : (a b : Bool) → T (same a b) → a ≡ b
+same_is true true h = refl
+same_is false false h = refl
+same_is true false h = absurd h
+same_is false true h = absurd h
+
+-- ---- lanes
+abbrev hit : ℕ → ℕ → ℕ
+hit a b = cond (eqb a b) 255 0
+
+abbrev below : ℕ → ℕ → ℕ
+below a b = cond (ltb a b) 255 0
+
+zip2-map : (f g : ℕ → ℕ) (xs : List ℕ) → zip2 bit_or (map f xs) (map g xs) ≡ map (λ x. bit_or (f x) (g x)) xs
+zip2-map f g [] = refl
+zip2-map f g (x ∷ xs) = ap (λ r. bit_or (f x) (g x) ∷ r) (zip2-map f g xs)
+
+either : (f g : ℕ → ℕ) (v : List ℕ) {a b : List ℕ} → a ≡ map f v → b ≡ map g v → zip2 bit_or a b ≡ map (λ x. bit_or (f x) (g x)) v
+either f g v p q = ap₂ (zip2 bit_or) p q ∙ zip2-map f g v
+
+splat_left : (h : ℕ → ℕ → ℕ) (y : ℕ) (xs : List ℕ) → zip2 h (replicate (length xs) y) xs ≡ map (h y) xs
+splat_left h y [] = refl
+splat_left h y (x ∷ xs) = ap (λ r. h y x ∷ r) (splat_left h y xs)
+
+each_byte : (f : ℕ → ℕ) (p : ℕ → Bool) → T (upto (λ x. same (top 7 (f x)) (p x)) 256) → (v : List ℕ) → Each1 (Fits w8) v → map (top 7) (map f v) ≡ map p v
+each_byte f p all [] fits = refl
+each_byte f p all (x ∷ xs) fits = ap₂ (λ a b. a ∷ b) (same_is _ _ (upto_sound (λ y. same (top 7 (f y)) (p y)) 256 all x fits.0.fits)) (each_byte f p all xs fits.1)
+
+masked : (f : ℕ → ℕ) (p : ℕ → Bool) (v z : List ℕ) → length v ≤ 64 → Each1 (Fits w8) v → z ≡ map f v → T (upto (λ x. same (top 7 (f x)) (p x)) 256)
+    → mask_l (map (top 7) z) % 2 ^ 64 ≡ mask_l (map p v)
+masked f p v z short fits e all =
+    ap (λ l. mask_l l % 2 ^ 64) (ap (map (top 7)) e ∙ each_byte f p all v fits) ∙ mask_l-mod (map p v) 64 (omega (arith, length-map v p))
+
+-- ---- plain bytes
+abbrev is_stop : ℕ → Bool
+is_stop x = not (is_plain_byte x)
+
+no_stop : (b : Bool) → not (not b) ≡ true → b ≡ true
+no_stop true h = refl
+no_stop false h = h
+
+all_byte : (p : Bool) (n l : ℕ) → n ≤ l → cond p (1 + n) 0 ≡ suc l → (p ≡ true) × (n ≡ l)
+all_byte true n l h e = (refl, omega arith)
+all_byte false n l h e = absurd (omega arith)
+
+all_plain : (xs : List ℕ) → prefix_len (λ x. not (is_stop x)) xs ≡ length xs → (k : ℕ) → k < length xs → is_plain_byte (get_or xs k 0) ≡ true
+all_plain [] e k q = absurd (omega arith)
+all_plain (x ∷ xs) e zero q = no_stop (is_plain_byte x) (all_byte (not (is_stop x)) _ (length xs) (prefix_len-le-length (λ x. not (is_stop x)) xs) e).0
+all_plain (x ∷ xs) e (suc k) q = all_plain xs (all_byte (not (is_stop x)) _ (length xs) (prefix_len-le-length (λ x. not (is_stop x)) xs) e).1 k (omega arith)
+
+on_true : (b : Bool) (P : Type 0) → (b ≡ true → P) → OnTrue b P
+on_true true P f = f refl
+on_true false P f = tt
+
+plain_from_mask : (d : List ℕ) (n : ℕ) → n ≤ length d → mask_l (map is_stop (chunk 0 n d)) ≡ 0 → PlainTo d n
+plain_from_mask d n room none k q =
+    let long = length-chunk 0 n d (omega (arith, room)) in
+    ap is_plain_byte (sym (get_or-take n d k 0 q)) ∙ all_plain (chunk 0 n d) (leading_from_mask_l is_stop (chunk 0 n d) none) k (omega arith)
+
+-- the four tests of a vector of n lanes, as the code makes them
+pub plain_from_lanes : (d : List ℕ) (n : ℕ) → n ≤ length d → n ≤ 64 → ((k : ℕ) → Fits w8 (get_or d k 0))
+    → OnTrue (mask_l (map (top 7) (zip2 bit_or (zip2 bit_or (zip2 bit_or (zip2 hit (chunk 0 n d) (replicate n 39)) (zip2 hit (chunk 0 n d) (replicate n 92))) (zip2 below (chunk 0 n d) (replicate n 32))) (zip2 below (replicate n 126) (chunk 0 n d)))) % 2 ^ 64 == 0)
+    (PlainTo d n)
+plain_from_lanes d n room few fits =
+    let v = chunk 0 n d in
+    let long = length-chunk 0 n d (omega (arith, room)) in
+    let above : zip2 below (replicate n 126) v ≡ map (below 126) v = ap (λ k. zip2 below (replicate k 126) v) (sym long) ∙ splat_left below 126 v in
+    let mask = masked _ is_stop v _ (omega arith) (chunk-fits w8 0 n d fits) (either _ _ v (either _ _ v (either _ _ v (zip2_splat hit v n 39 long) (zip2_splat hit v n 92 long)) (zip2_splat below v n 32 long)) above) tt in
+    on_true _ _ (λ e. plain_from_mask d n room (sym mask ∙ eqb-true _ 0 e))
+
+one_up : (n : ℕ) → 1 + n ≡ suc n
+one_up n = omega arith
+
+first_more : (x : ℕ) (d : List ℕ) → is_plain_byte x ≡ true → length (take_while is_plain_byte (x ∷ d)) ≡ length (take_while is_plain_byte d) + 1
+first_more x d h = rw (h, one_up (prefix_len is_plain_byte d), add-one) refl
+
+-- plain bytes at the front are so many more
+pub plain_more : (n : ℕ) (d : List ℕ) → n ≤ length d → PlainTo d n → length (take_while is_plain_byte d) ≡ n + length (take_while is_plain_byte (drop n d))
+plain_more zero d room h = omega arith
+plain_more (suc n) [] room h = absurd (omega arith)
+plain_more (suc n) (x ∷ d) room h =
+    let e = plain_more n d (omega (arith, room)) (λ k q. h (suc k) (omega (arith, q))) in
+    let one : length (take_while is_plain_byte (x ∷ d)) ≡ length (take_while is_plain_byte d) + 1 = first_more x d (h 0 (omega arith)) in
+    omega (arith, e, one)
+
+-- n bytes were passed, and what is left begins behind them
+pub passed_more : (n : ℕ) (all rest after : List ℕ) → length rest ≤ length all → length (take_while is_plain_byte all) ≡ length all - length rest + length (take_while is_plain_byte rest) → n ≤ length rest → PlainTo rest n → after ≡ drop n rest
+    → length after + n ≡ length rest → length (take_while is_plain_byte all) ≡ length all - length after + length (take_while is_plain_byte after)
+passed_more n all rest after le e room plain is len =
+    let more : length (take_while is_plain_byte rest) ≡ n + length (take_while is_plain_byte after) = plain_more n rest room plain ∙ ap (λ (t : List ℕ). n + length (take_while is_plain_byte t)) (sym is) in
+    omega (arith, le, e, more, len)

@@ -1,0 +1,177 @@
+//! Bytes and numbers in decimal.
+
+ghost use Rattle.std.specs.Prelude.{◌≡◌, ◌≤◌, ◌<◌, ◌^◌, ◌+◌, ◌++◌, ◌∷◌, [], length, take};
+ghost use Rattle.std.specs.Fmt.{decimal, signed_decimal};
+ghost use Rattle.rows_values.specs.TimeTexts.{padded};
+
+use itoa::write_digits;
+
+/// The two digits of each number below 100.
+static PAIRS: [u8; 200] =
+    *b"00010203040506070809101112131415161718192021222324252627282930313233343536373839404142434445464748495051525354555657585960616263646566676869707172737475767778798081828384858687888990919293949596979899";
+
+/// Writes a byte.
+#[inline(always)]
+pub fn put_byte(text: &mut [u8], at: usize, byte: u8) -> usize
+    requires { at < length text.old }
+    ensures end { result ≡ at + 1 }
+    ensures text { take result text.new ≡ take at text.old ++ byte ∷ [] }
+{
+    text[at] = byte;
+    at + 1
+}
+
+/// Writes bytes as they stand.
+#[inline(always)]
+pub fn put_bytes(text: &mut [u8], at: usize, bytes: &[u8]) -> usize
+    requires { at + length bytes.now ≤ length text.old }
+    ensures end { result ≡ at + length bytes.now }
+    ensures text { take result text.new ≡ take at text.old ++ bytes.now }
+{
+    let end = at + bytes.len();
+    text[at..end].copy_from_slice(bytes);
+    end
+}
+
+/// Writes a number below 100 in two digits.
+#[inline(always)]
+pub(crate) fn put_two(text: &mut [u8], at: usize, number: u32) -> usize
+    requires small { number < 100 }
+    requires room { at + 2 ≤ length text.old }
+    ensures end { result ≡ at + 2 }
+    ensures text { take result text.new ≡ take at text.old ++ padded 2 number }
+{
+    let from = number as usize * 2;
+    let (tens, ones) = (PAIRS[from], PAIRS[from + 1]);
+    let end = put_byte(text, at, tens);
+    put_byte(text, end, ones)
+}
+
+/// Writes a number below 10,000 in four digits.
+#[inline(always)]
+pub(crate) fn put_four(text: &mut [u8], at: usize, number: u32) -> usize
+    requires small { number < 10000 }
+    requires room { at + 4 ≤ length text.old }
+    ensures end { result ≡ at + 4 }
+    ensures text { take result text.new ≡ take at text.old ++ padded 4 number }
+{
+    let end = put_two(text, at, number / 100);
+    put_two(text, end, number % 100)
+}
+
+/// Writes a number below 1,000,000 in six digits.
+#[inline(always)]
+pub(crate) fn put_six(text: &mut [u8], at: usize, number: u32) -> usize
+    requires small { number < 1000000 }
+    requires room { at + 6 ≤ length text.old }
+    ensures end { result ≡ at + 6 }
+    ensures text { take result text.new ≡ take at text.old ++ padded 6 number }
+{
+    let end = put_four(text, at, number / 100);
+    put_two(text, end, number % 100)
+}
+
+/// How many digits a number has that is below 10,000.
+#[inline(always)]
+fn short_count(number: u64) -> usize
+    requires { number < 10000 }
+    ensures value { result ≡ length (decimal number) }
+    ensures most { result ≤ 4 }
+{
+    if number < 100 {
+        if number < 10 { 1 } else { 2 }
+    } else if number < 1000 {
+        3
+    } else {
+        4
+    }
+}
+
+/// How many digits a number has.
+#[inline(always)]
+fn digit_count(number: u64) -> usize
+    ensures value { result ≡ length (decimal number) }
+    ensures most { result ≤ 20 }
+{
+    if number < 10_000 {
+        short_count(number)
+    } else if number < 100_000_000 {
+        4 + short_count(number / 10_000)
+    } else if number < 1_000_000_000_000 {
+        8 + short_count(number / 100_000_000)
+    } else if number < 10_000_000_000_000_000 {
+        12 + short_count(number / 1_000_000_000_000)
+    } else {
+        16 + short_count(number / 10_000_000_000_000_000)
+    }
+}
+
+/// Writes a number that has so many digits.
+#[inline(always)]
+fn put_counted(text: &mut [u8], at: usize, count: usize, number: u64) -> usize
+    requires count { count ≡ length (decimal number) }
+    requires room { at + count ≤ length text.old }
+    ensures end { result ≡ at + count }
+    ensures text { take result text.new ≡ take at text.old ++ decimal number }
+{
+    let end = at + count;
+    let _start = write_digits(number, text, end);
+    end
+}
+
+/// Writes a number in decimal.
+#[inline(always)]
+pub fn put_number(text: &mut [u8], at: usize, number: u64) -> usize
+    requires { at + 20 ≤ length text.old }
+    ensures end { result ≡ at + length (decimal number) }
+    ensures most { result ≤ at + 20 }
+    ensures text { take result text.new ≡ take at text.old ++ decimal number }
+{
+    if number < 10 {
+        return put_byte(text, at, b'0' + number as u8);
+    }
+    put_counted(text, at, digit_count(number), number)
+}
+
+/// Writes a signed number in decimal.
+#[inline(always)]
+pub fn put_signed(text: &mut [u8], at: usize, number: i64) -> usize
+    requires { at + 21 ≤ length text.old }
+    ensures most { result ≤ at + 21 }
+    ensures text { take result text.new ≡ take at text.old ++ signed_decimal number }
+{
+    if number >= 0 {
+        return put_number(text, at, number as u64);
+    }
+    let end = put_byte(text, at, b'-');
+    put_number(text, end, number.unsigned_abs())
+}
+
+/// Writes a number with zeros before it up to a least width.
+#[inline(never)]
+pub fn put_padded(text: &mut [u8], at: usize, width: usize, number: u32) -> usize
+    requires width { width ≤ 10 }
+    requires room { at + 10 ≤ length text.old }
+    ensures most { result ≤ at + 10 }
+    ensures text { take result text.new ≡ take at text.old ++ padded width number }
+{
+    let number = u64::from(number);
+    let count = short_digit_count(number);
+    if count >= width {
+        return put_counted(text, at, count, number);
+    }
+    let mut end = at;
+    for digit in count..width {
+        end = put_byte(text, end, b'0');
+    }
+    put_counted(text, end, count, number)
+}
+
+/// How many digits a number of 32 bits has.
+fn short_digit_count(number: u64) -> usize
+    requires { number < 2 ^ 32 }
+    ensures value { result ≡ length (decimal number) }
+    ensures most { result ≤ 10 }
+{
+    digit_count(number)
+}

@@ -1,0 +1,36 @@
+//! Bytes that don't stand for themselves between quotes.
+
+ghost use Rattle.std.specs.Prelude.{◌≡◌, ◌≤◌, ◌+◌, ◌*◌, ◌++◌, length, take};
+ghost use Rattle.std.specs.List.{flat_map};
+ghost use Rattle.feed_writers.specs.Quoting.{escape};
+
+use crate::digits::put_byte;
+
+/// The lower case hexadecimal digits.
+static DIGITS: [u8; 16] = *b"0123456789abcdef";
+
+/// Writes a backslash and the two hexadecimal digits of a byte.
+#[inline(always)]
+fn put_escape(text: &mut [u8], at: usize, byte: u8) -> usize
+    requires { at + 3 ≤ length text.old }
+    ensures end { result ≡ at + 3 }
+    ensures text { take result text.new ≡ take at text.old ++ escape byte }
+{
+    let end = put_byte(text, at, b'\\');
+    let end = put_byte(text, end, DIGITS[usize::from(byte / 16)]);
+    put_byte(text, end, DIGITS[usize::from(byte % 16)])
+}
+
+/// Writes a backslash and the two hexadecimal digits of each byte.
+#[inline(always)]
+pub fn put_escapes(text: &mut [u8], at: usize, bytes: &[u8]) -> usize
+    requires { at + 3 * length bytes.now ≤ length text.old }
+    ensures end { result ≡ at + 3 * length bytes.now }
+    ensures text { take result text.new ≡ take at text.old ++ flat_map escape bytes.now }
+{
+    let mut end = at;
+    for byte in bytes {
+        end = put_escape(text, end, *byte);
+    }
+    end
+}
