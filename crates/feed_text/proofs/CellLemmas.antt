@@ -1,6 +1,7 @@
 -- The texts of cells: what is appended, and why nothing is.
-use Rattle.std.proofs.Common.{◌≡◌, ℕ, List, ◌++◌, Option, Some, None, Result, Ok, Err, OnOk, IfErr, refl, sym, ap, subst, ◌∙◌, inl, inr}
-use Rattle.std.specs.Prelude.{◌⊎◌}
+use Rattle.std.proofs.Common.{◌≡◌, ℕ, List, ◌++◌, Option, Some, None, Ok, Err, refl, sym, ap, ◌∙◌, inl, inr}
+use Rattle.std.specs.Prelude.{◌⊎◌, map}
+use Rattle.std.proofs.Common.{Vec, Global}
 use Rattle.std.specs.Option.{option_map}
 use Rattle.std.specs.Borrow.{Bor}
 use Rattle.rows_values.specs.declared.rows.value.Value.{Value}
@@ -15,22 +16,26 @@ use Rattle.rows_jsonb.specs.JsonbViews.{jsonb_value}
 use Rattle.rows_jsonb.specs.declared.value.Value.{Value as JsonbValue}
 use Rattle.rows_cells.specs.declared.binlog_value.BinlogValue.{BinlogValue}
 use Rattle.rows_cells.specs.declared.binlog_value.BinlogValue.TheVariants as made
-use Rattle.rows_jsonb.specs.JsonDiffs.{IsJsonbFault}
+use Rattle.rows_jsonb.specs.JsonDiffs.{IsJsonbFault, Diff, diff_at}
+use Rattle.rows_jsonb.specs.JsonDiffViews.{diff_view}
+use Rattle.rows_jsonb.specs.declared.diff.JsonDiff.{JsonDiff}
+use Rattle.rows_jsonb.specs.Items.{items_at, all_found}
+use Rattle.rows_jsonb.proofs.DiffLemmas.{diffs_fault}
+use Rattle.feed_text.specs.DiffText.{diffs_text}
 use Rattle.rows_jsonb.specs.JsonParsing.{Parses}
 use Rattle.rows_jsonb.specs.DocumentTrees.{document_tree, tree_in}
 use Rattle.rows_jsonb.specs.declared.dom.JsonDom.{JsonDom}
 use Rattle.rows_jsonb.specs.JsonTreeViews.{view}
 use Rattle.rows_jsonb.proofs.SoundLemmas.{document_fault}
-use Rattle.rows_cells.specs.CellValues.{CellValue, null, bytes, int, uint, float, double, date, time, json}
+use Rattle.rows_cells.specs.CellValues.{CellValue, null, bytes, int, uint, float, double, date, time, json, json_diffs}
 use Rattle.rows_cells.specs.CellViews.{cell_value, text_or_none, value_view, Holds}
 use Rattle.rows_cells.specs.declared.cell.CellRef.{CellRef}
 use Rattle.rows_cells.specs.declared.cell.CellRef.TheVariants as ref
 use Rattle.feed_writers.specs.Quoting.{quoted}
-use Rattle.feed_text.specs.Pieces.{IsRefused}
 use Rattle.feed_text.specs.DecimalText.{quoted_decimal, IsDecimalRefused}
 use Rattle.feed_text.specs.JsonText.{document_text}
 use Rattle.feed_text.specs.ValueText.{value_text}
-use Rattle.feed_text.specs.CellText.{label, text_of, tree_text, cell_text, kept_text, kept_cell_text, Appends, AppendsLabeled, PacksNone, IsCellRefused}
+use Rattle.feed_text.specs.CellText.{label, text_of, tree_text, cell_text, kept_text, kept_cell_text, Appends, AppendsLabeled, AppendsBehind, IsTextRefused, PacksNone, IsCellRefused}
 
 -- the text that there is was appended
 pub appends : (place : ℕ) (found : Reading (List ℕ)) (text old new : List ℕ) → found ≡ Ok text → new ≡ old ++ (label place ++ text) → Appends (found >>= λ t. Ok (label place ++ t)) old new
@@ -148,3 +153,55 @@ same_text (float n) (made.Jsonb d) h = absurd h
 same_text (double n) (made.Jsonb d) h = absurd h
 same_text (date year month day hour minute second micros) (made.Jsonb d) h = absurd h
 same_text (time negative days hours minutes seconds micros) (made.Jsonb d) h = absurd h
+same_text (json_diffs b) (made.JsonDiff ds) h = rw h refl
+same_text null (made.JsonDiff ds) h = absurd h
+same_text (bytes b) (made.JsonDiff ds) h = absurd h
+same_text (int z) (made.JsonDiff ds) h = absurd h
+same_text (uint n) (made.JsonDiff ds) h = absurd h
+same_text (float n) (made.JsonDiff ds) h = absurd h
+same_text (double n) (made.JsonDiff ds) h = absurd h
+same_text (date year month day hour minute second micros) (made.JsonDiff ds) h = absurd h
+same_text (time negative days hours minutes seconds micros) (made.JsonDiff ds) h = absurd h
+same_text (json b) (made.JsonDiff ds) h = absurd h
+same_text (json_diffs b) (made.Jsonb d) h = absurd h
+
+-- ---- changes of documents
+
+pub kept_diffs : (b : BinlogValue) (ds : Vec JsonDiff Global) → b ≡ made.JsonDiff ds → kept_text b ≡ diffs_text (map diff_view ds.items)
+unfolding kept_text
+kept_diffs b ds h = rw h refl
+
+pub kept_diffs_refused : (place : ℕ) (b : BinlogValue) (ds : Vec JsonDiff Global) (old new : List ℕ) (e : RowsError) → b ≡ made.JsonDiff ds → IsTextRefused e (diffs_text (map diff_view ds.items)) old new
+    → IsTextRefused e (kept_cell_text place b) old new
+kept_diffs_refused place b ds old new e h p = (rw (kept_diffs b ds h) (no_more (λ (t : List ℕ). t) e (diffs_text (map diff_view ds.items)) (λ t. Ok (label place ++ t)) p.0), p.1)
+
+pub diffs_written : (v : CellValue) (b : List ℕ) (ds : List Diff) → v ≡ json_diffs b → items_at diff_at b ≡ all_found ds → text_of v ≡ diffs_text ds
+unfolding text_of
+diffs_written v b ds h e = rw (h, e) refl
+
+pub diffs_appended : (place : ℕ) (v : CellValue) (b : List ℕ) (ds : List Diff) (old new : List ℕ) → v ≡ json_diffs b → items_at diff_at b ≡ all_found ds → AppendsBehind place (diffs_text ds) old new → Appends (cell_text place v) old new
+diffs_appended place v b ds old new h e p = rw (diffs_written v b ds h e) p
+
+-- changes of which one has no text
+pub diffs_unwritten : (place : ℕ) (cell : CellRef) (b : List ℕ) (ds : List Diff) (old new : List ℕ) (e : RowsError) → cell_value cell ≡ json_diffs b → items_at diff_at b ≡ all_found ds → IsTextRefused e (diffs_text ds) old new
+    → IsCellRefused e cell (cell_text place (cell_value cell)) old new
+diffs_unwritten place cell b ds old new e h f p = (inr (rw (diffs_written (cell_value cell) b ds h f) (no_more (λ (t : List ℕ). t) e (diffs_text ds) (λ t. Ok (label place ++ t)) p.0)), p.1)
+
+-- bytes that aren't changes
+pub diffs_refused : (place : ℕ) (v : CellValue) (b : List ℕ) (e : RowsError) → v ≡ json_diffs b → (e ≡ Memory) ⊎ ((items_at diff_at b).fault ≡ Some e) → (let refused : Reading (List ℕ) = Err e in Parses (λ (t : List ℕ). t) refused (cell_text place v))
+unfolding text_of
+diffs_refused place v b e h (inl m) = rw m tt
+diffs_refused place v b e h (inr f) = rw (h, f) (own e (diffs_fault b e f))
+  where
+    own : (k : RowsError) → IsJsonbFault k → (let fault : Reading (List ℕ) = Err k in Parses (λ (t : List ℕ). t) fault fault)
+    own (Jsonb None) j = tt
+    own (Jsonb (Some x)) j = refl
+    own Memory j = absurd j
+    own EndOfBody j = absurd j
+    own RemainingBytes j = absurd j
+    own UnknownNumber j = absurd j
+    own Metadata j = absurd j
+    own Cell j = absurd j
+    own Decimal j = absurd j
+    own EmptyPair j = absurd j
+    own Read j = absurd j

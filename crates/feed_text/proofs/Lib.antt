@@ -6,3 +6,4 @@ pub mod DecimalTextLemmas
 pub mod PlainTextLemmas
 pub mod CellLemmas
 pub mod DocumentLemmas
+pub mod DiffTextLemmas

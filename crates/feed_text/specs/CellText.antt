@@ -1,5 +1,5 @@
 -- The text of the feed: cells.
-use Rattle.std.specs.Prelude.{◌≡◌, ◌⊎◌, ℕ, List, ◌∷◌, ◌++◌, [], codes, Option, Some, None}
+use Rattle.std.specs.Prelude.{◌≡◌, ◌⊎◌, ℕ, map, List, ◌∷◌, ◌++◌, [], codes, Option, Some, None}
 use Rattle.std.specs.declared.result.Result.TheVariants.{Ok, Err}
 use Rattle.std.specs.Fmt.{decimal, signed_decimal}
 use Rattle.rows_values.specs.declared.fault.RowsError.{RowsError}
@@ -10,7 +10,10 @@ use Rattle.rows_jsonb.specs.JsonbValues.{Reading, ◌>>=◌}
 use Rattle.rows_jsonb.specs.JsonbViews.{jsonb_value}
 use Rattle.rows_jsonb.specs.DocumentTrees.{tree_in, document_tree}
 use Rattle.rows_jsonb.specs.JsonParsing.{Parses}
-use Rattle.rows_cells.specs.CellValues.{CellValue, null, bytes, int, uint, float, double, date, time, json}
+use Rattle.rows_jsonb.specs.Items.{items_at}
+use Rattle.rows_jsonb.specs.JsonDiffs.{diff_at}
+use Rattle.rows_jsonb.specs.JsonDiffViews.{diff_view}
+use Rattle.rows_cells.specs.CellValues.{CellValue, null, bytes, int, uint, float, double, date, time, json, json_diffs, unless}
 use Rattle.rows_cells.specs.CellViews.{value_view}
 use Rattle.rows_cells.specs.declared.cell.CellRef.{CellRef}
 use Rattle.rows_cells.specs.declared.cell.CellRef.TheVariants as ref
@@ -20,12 +23,13 @@ use Rattle.feed_writers.specs.Quoting.{quoted}
 use Rattle.feed_text.specs.Times.{date_text, span_text}
 use Rattle.feed_text.specs.ValueText.{float_text, double_text}
 use Rattle.feed_text.specs.JsonText.{document_text}
+use Rattle.feed_text.specs.DiffText.{diffs_text}
 
 -- the text of a tree, where there is one
 abbrev pub tree_text : Reading Tree → Reading (List ℕ)
 tree_text found = found >>= λ t. Ok (document_text t)
 
--- the text of a value; a document that has no tree has none
+-- the text of a value; a document that has no tree has none, and neither have changes of which one has such a document
 unfoldable pub text_of : CellValue → Reading (List ℕ)
 text_of null = Ok (codes "NULL")
 text_of (bytes b) = Ok (quoted b)
@@ -38,6 +42,7 @@ text_of (date year month day hour minute second micros) =
 text_of (time negative days hours minutes seconds micros) =
     Ok (span_text negative days (record { hour = hours; minute = minutes; second = seconds; micros = micros }))
 text_of (json b) = tree_text (document_tree b)
+text_of (json_diffs b) = unless (items_at diff_at b).fault (items_at diff_at b).items >>= diffs_text
 
 -- a space, the column's place in the table, and `=`
 abbrev pub label : ℕ → List ℕ
@@ -51,6 +56,7 @@ cell_text place v = text_of v >>= λ t. Ok (label place ++ t)
 unfoldable pub kept_text : BinlogValue → Reading (List ℕ)
 kept_text (made.Value v) = text_of (value_view v)
 kept_text (made.Jsonb d) = tree_text (tree_in (jsonb_value d))
+kept_text (made.JsonDiff ds) = diffs_text (map diff_view ds.items)
 
 abbrev pub kept_cell_text : ℕ → BinlogValue → Reading (List ℕ)
 kept_cell_text place v = kept_text v >>= λ t. Ok (label place ++ t)
@@ -59,6 +65,10 @@ kept_cell_text place v = kept_text v >>= λ t. Ok (label place ++ t)
 abbrev pub Appends : Reading (List ℕ) → List ℕ → List ℕ → Type 0
 Appends (Ok text) old new = new ≡ old ++ text
 Appends (Err e) old new = ⊥
+
+-- a label and the text were appended
+abbrev pub AppendsBehind : ℕ → Reading (List ℕ) → List ℕ → List ℕ → Type 0
+AppendsBehind place text old new = Appends (text >>= λ t. Ok (label place ++ t)) old new
 
 -- a label and the text were appended, where there is one
 abbrev pub AppendsLabeled : ℕ → Option (List ℕ) → List ℕ → List ℕ → Type 0

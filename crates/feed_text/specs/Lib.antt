@@ -6,5 +6,6 @@ pub mod ValueText
 pub mod DecimalText
 pub mod JsonText
 pub mod ShortTexts
+pub mod DiffText
 pub mod CellText
 pub mod CellParts

@@ -1,6 +1,6 @@
 //! The text of cells.
 
-ghost use Rattle.std.specs.Prelude.{◌≡◌, ◌≤◌, ◌+◌, ◌++◌, OnOk, IfErr, IfOk, length, take};
+ghost use Rattle.std.specs.Prelude.{◌≡◌, ◌≤◌, ◌+◌, ◌++◌, OnOk, IfErr, IfOk, length, take, map};
 ghost use Rattle.rows_jsonb.specs.JsonTreeViews.{view};
 ghost use Rattle.rows_jsonb.specs.DocumentTrees.{document_tree};
 ghost use Rattle.rows_jsonb.specs.JsonParsing.{Parses};
@@ -8,12 +8,15 @@ ghost use Rattle.rows_cells.specs.CellViews.{cell_value};
 ghost use Rattle.feed_writers.specs.Quoting.{quoted};
 ghost use Rattle.feed_text.specs.Pieces.{IsRefused};
 ghost use Rattle.feed_text.specs.DecimalText.{quoted_decimal, IsDecimalRefused};
+ghost use Rattle.rows_jsonb.specs.JsonDiffViews.{diff_view};
 ghost use Rattle.feed_text.specs.JsonText.{document_text};
+ghost use Rattle.feed_text.specs.DiffText.{diffs_text};
 ghost use Rattle.feed_text.specs.ShortTexts.{short_text};
 ghost use Rattle.feed_text.specs.ValueText.{value_text};
-ghost use Rattle.feed_text.specs.CellText.{label, cell_text, kept_cell_text, Appends, AppendsLabeled, IsTextRefused, IsCellRefused};
+ghost use Rattle.feed_text.specs.CellText.{label, cell_text, kept_cell_text, Appends, AppendsLabeled, AppendsBehind, IsTextRefused, IsCellRefused};
 
 use crate::decimals::put_decimal;
+use crate::diffs::append_diffs;
 use crate::documents::put_json;
 use crate::parts::CellParts;
 use crate::quoting::quote;
@@ -21,7 +24,7 @@ use crate::short::{SHORT, Short, put_short};
 use crate::values::put_value;
 use feed_writers::{put_byte, put_number};
 use rows_cells::{BinlogValue, CellRef};
-use rows_jsonb::{JsonDom, Value as JsonbValue};
+use rows_jsonb::{JsonDiff, JsonDom, Value as JsonbValue, json_diffs};
 use rows_values::{RowsError, Value};
 use std::alloc::{Allocator, Global};
 use wire_buf::ParseBuf;
@@ -49,6 +52,7 @@ pub fn put_cell<A: Allocator>(
             Ok(tree) => put_tree_cell(place, &tree, out),
             Err(fault) => Err(fault),
         },
+        BinlogValue::JsonDiff(diffs) => put_diffs_cell(alloc, place, diffs, out),
     }
 }
 
@@ -75,6 +79,10 @@ pub fn put_cell_ref<A: Allocator>(
         }
         CellParts::Json(bytes) => match tree_of(alloc, bytes) {
             Ok(tree) => put_tree_cell(place, &tree, out),
+            Err(fault) => Err(fault),
+        },
+        CellParts::JsonDiffs(bytes) => match json_diffs(alloc, bytes) {
+            Ok(diffs) => put_diffs_cell(alloc, place, &diffs, out),
             Err(fault) => Err(fault),
         },
     }
@@ -196,6 +204,30 @@ fn put_tree_cell<A: Allocator>(
         return Err(RowsError::Memory);
     }
     Ok(())
+}
+
+/// Appends a label and the text of changes of a document, or nothing.
+fn put_diffs_cell<A: Allocator>(
+    alloc: Global,
+    place: u32,
+    diffs: &[JsonDiff<'_>],
+    out: &mut Vec<u8, A>,
+) -> Result<(), RowsError>
+    ensures ok { OnOk result (AppendsBehind place (diffs_text (map diff_view diffs.now)) out.old.items out.new.items) }
+    ensures err { IfErr result (λ e. IsTextRefused e (diffs_text (map diff_view diffs.now)) out.old.items out.new.items) }
+{
+    let start = out.len();
+    match append_label(place, out) {
+        Ok(()) => {}
+        Err(fault) => return Err(fault),
+    }
+    match append_diffs(alloc, diffs, out) {
+        Ok(()) => Ok(()),
+        Err(fault) => {
+            out.truncate(start);
+            Err(fault)
+        }
+    }
 }
 
 /// The tree of a document.

@@ -7,6 +7,7 @@
 
 mod cells;
 mod decimals;
+mod diffs;
 mod documents;
 mod json_scalars;
 pub mod laws;

@@ -18,6 +18,8 @@ pub(crate) enum CellParts<'a> {
     Decimal(u8, u8, &'a [u8]),
     /// A document.
     Json(&'a [u8]),
+    /// Changes of a document.
+    JsonDiffs(&'a [u8]),
 }
 
 impl<'a> CellParts<'a> {
@@ -49,6 +51,7 @@ impl<'a> CellParts<'a> {
                 precision, scale, bytes,
             ),
             CellRef::Json(bytes) => CellParts::Json(bytes),
+            CellRef::JsonDiffs(bytes) => CellParts::JsonDiffs(bytes),
         }
     }
 }

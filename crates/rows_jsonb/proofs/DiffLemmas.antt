@@ -1,5 +1,5 @@
 -- Changes that are read are spelled so, and those that are spelled so are read.
-use Rattle.std.proofs.Common.{◌≡◌, ◌≤◌, ◌<◌, ◌++◌, ℕ, List, [], ◌∷◌, length, take, drop, Bool, true, false, cond, leb, append_assoc, Option, Some, None, refl, sym, ap, subst, ◌∙◌, arith, inl, inr}
+use Rattle.std.proofs.Common.{◌≡◌, ◌≤◌, ◌<◌, ◌++◌, ℕ, List, [], ◌∷◌, length, take, drop, Bool, true, false, cond, leb, append_assoc, Option, Some, None, refl, sym, ap, subst, ◌∙◌, arith, inl, inr, ◌⊎◌}
 use Rattle.std.proofs.lemmas.Bool.{le-leb, leb-true}
 use Rattle.std.proofs.lemmas.Bool.Decides.{eqb_tells}
 use Rattle.std.proofs.lemmas.List.{length-append, length-take-le, take-append-drop}
@@ -11,7 +11,10 @@ use Rattle.wire_buf.specs.Fronts.{lenenc_front}
 use Rattle.wire_buf.proofs.LenencLemmas.{lenenc_front-complete, lenenc_front-sound}
 use Rattle.rows_values.specs.declared.fault.RowsError.{RowsError}
 use Rattle.rows_jsonb.specs.JsonbValues.{JsonbValue, Reading, ◌>>=◌, bad}
-use Rattle.rows_jsonb.specs.JsonDiffs.{IsEmbedded, IsOperation, IsDiffValue, Diff, IsDiff, operation_at, text_of_length, text_at, embedded_at, diff_value_at, diff_at}
+use Rattle.rows_jsonb.specs.JsonDiffs.{IsJsonbFault, IsEmbedded, IsOperation, IsDiffValue, Diff, IsDiff, operation_at, text_of_length, text_at, embedded_at, diff_value_at, diff_at}
+use Rattle.rows_jsonb.specs.Items.{StopsAt, items_at}
+use Rattle.rows_jsonb.proofs.ItemLemmas.{items-found}
+use Rattle.rows_jsonb.proofs.SoundLemmas.{document_fault}
 use Rattle.rows_jsonb.specs.declared.diff.JsonDiffOperation.{JsonDiffOperation}
 use Rattle.rows_jsonb.specs.declared.diff.JsonDiffOperation.TheVariants.{REPLACE, INSERT, REMOVE}
 
@@ -185,3 +188,71 @@ begins-shrinks d x r b =
 
 pub diff-shrinks : (x : List ℕ) (d : Diff) (r : List ℕ) → diff_at x ≡ Ok (d, r) → length r < length x
 diff-shrinks x d r h = begins-shrinks d x r (diff-sound x d r h)
+
+-- ---- why there is no change
+
+-- the fault of a step, or of what follows it
+bind-err : {A B : Type 0} (o : Reading A) (f : A → Reading B) (e : RowsError) → (o >>= f) ≡ Err e → (o ≡ Err e) ⊎ ((x : A) × (o ≡ Ok x) × (f x ≡ Err e))
+bind-err (Err k) f e h = inl cc
+bind-err (Ok x) f e h = inr (x, refl, h)
+
+only_bad : (e : RowsError) → bad ≡ e → IsJsonbFault e
+only_bad e h = subst IsJsonbFault h tt
+
+operation_fault : (x : List ℕ) (e : RowsError) → operation_at x ≡ Err e → IsJsonbFault e
+operation_fault [] e h = only_bad e cc
+operation_fault (n ∷ x) e h = elim (eqb_tells n 0) [
+  | inl t ↦ let g = rw t.0 at h in absurd cc
+  | inr t ↦ let g = rw t.0 at h in elim (eqb_tells n 1) [
+    | inl u ↦ let k = rw u.0 at g in absurd cc
+    | inr u ↦ let k = rw u.0 at g in elim (eqb_tells n 2) [
+      | inl w ↦ let m = rw w.0 at k in absurd cc
+      | inr w ↦ let m = rw w.0 at k in only_bad e cc
+    ]
+  ]
+]
+
+text_fault : (x : List ℕ) (e : RowsError) → text_at x ≡ Err e → IsJsonbFault e
+unfolding text_at
+text_fault x e h = of_length (lenenc_front x) h
+  where
+    of_length : (o : Option (ℕ × List ℕ)) → text_of_length o ≡ Err e → IsJsonbFault e
+    of_length None g = only_bad e cc
+    of_length (Some n) g = cut (leb n.0 (length n.1)) g
+      where
+        cut : (t : Bool) → cond {A = Reading (List ℕ × List ℕ)} t (Ok (take n.0 n.1, drop n.0 n.1)) (Err bad) ≡ Err e → IsJsonbFault e
+        cut true k = absurd cc
+        cut false k = only_bad e cc
+
+embedded_fault : (x : List ℕ) (e : RowsError) → embedded_at x ≡ Err e → IsJsonbFault e
+embedded_fault x e h = elim (bind-err _ _ e h) [
+  | inl t ↦ text_fault x e t
+  | inr t ↦ elim (bind-err _ _ e t.2) [
+    | inl d ↦ document_fault t.0.0 e d
+    | inr d ↦ absurd cc
+  ]
+]
+
+value_fault : (op : JsonDiffOperation) (x : List ℕ) (e : RowsError) → diff_value_at op x ≡ Err e → IsJsonbFault e
+value_fault REMOVE x e h = absurd cc
+value_fault REPLACE x e h = embedded_fault x e h
+value_fault INSERT x e h = embedded_fault x e h
+
+pub diff_fault : (x : List ℕ) (e : RowsError) → diff_at x ≡ Err e → IsJsonbFault e
+unfolding diff_at
+diff_fault x e h = elim (bind-err _ _ e h) [
+  | inl t ↦ operation_fault x e t
+  | inr t ↦ elim (bind-err _ _ e t.2) [
+    | inl u ↦ text_fault t.0.1 e u
+    | inr u ↦ elim (bind-err _ _ e u.2) [
+      | inl w ↦ value_fault t.0.0 u.0.1 e w
+      | inr w ↦ absurd cc
+    ]
+  ]
+]
+
+-- what stands where changes end before the bytes do
+pub diffs_fault : (x : List ℕ) (e : RowsError) → (items_at diff_at x).fault ≡ Some e → IsJsonbFault e
+diffs_fault x e h =
+    let found = items-found IsDiff diff_at diff-complete diff-sound diff-shrinks x in
+    diff_fault found.rest e (subst (λ (f : Option RowsError). StopsAt diff_at f found.rest) h found.stops).1

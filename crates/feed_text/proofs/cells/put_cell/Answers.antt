@@ -1,7 +1,7 @@
 use Rattle.std.proofs.Common.{refl}
-use Rattle.std.proofs.lemmas.Result.{on_ok_weaker}
+use Rattle.std.proofs.lemmas.Result.{on_ok_weaker, IfErr-weaker}
 use Rattle.feed_text.specs.CellText.{kept_text}
-use Rattle.feed_text.proofs.CellLemmas.{appends, kept_value, kept_tree, kept_refused}
+use Rattle.feed_text.proofs.CellLemmas.{appends, kept_value, kept_tree, kept_refused, kept_diffs, kept_diffs_refused}
 use Rattle.feed_text.proofs.cells.put_cell.Goals as goal
 
 pub returns-in-Value-clause-ok : goal.returns-in-Value-clause-ok
@@ -14,3 +14,10 @@ returns-in-Ok-clause-ok g c =
 
 pub returns-in-Err-clause-err : goal.returns-in-Err-clause-err
 returns-in-Err-clause-err g c = (kept_refused c.args.place _ _ _ c.in-Jsonb.is c.in-Err.ensures, refl)
+
+pub returns-in-JsonDiff-clause-ok : goal.returns-in-JsonDiff-clause-ok
+returns-in-JsonDiff-clause-ok g c = on_ok_weaker c.put_diffs_cell.result (λ e. rw (kept_diffs _ _ c.in-JsonDiff.is, ← c.deref.ensures.value) e) c.put_diffs_cell.ensures.ok
+
+pub returns-in-JsonDiff-clause-err : goal.returns-in-JsonDiff-clause-err
+returns-in-JsonDiff-clause-err g c =
+    IfErr-weaker c.put_diffs_cell.result _ _ (λ e p. kept_diffs_refused c.args.place _ _ _ _ e c.in-JsonDiff.is (rw (← c.deref.ensures.value) p)) c.put_diffs_cell.ensures.err

@@ -1,0 +1,93 @@
+//! The text of changes of JSON documents.
+
+ghost use Rattle.std.specs.Prelude.{◌≡◌, OnOk, IfErr, Err, length, take, map};
+ghost use Rattle.rows_jsonb.specs.JsonDiffViews.{diff_view};
+ghost use Rattle.rows_jsonb.specs.JsonParsing.{Parses};
+ghost use Rattle.feed_text.specs.CellText.{Appends};
+ghost use Rattle.feed_text.specs.DiffText.{operation_text, document_part, diff_text, diffs_text};
+ghost use Rattle.rows_jsonb.specs.JsonbViews.{jsonb_value};
+
+use crate::documents::put_json;
+use crate::quoting::quote;
+use rows_jsonb::{JsonDiff, JsonDiffOperation, Value};
+use rows_values::RowsError;
+use std::alloc::{Allocator, Global};
+
+/// What a change does, and a blank.
+fn operation_word(operation: JsonDiffOperation) -> &'static [u8]
+    ensures { result.now ≡ operation_text operation }
+{
+    match operation {
+        JsonDiffOperation::REPLACE => b"replace ",
+        JsonDiffOperation::INSERT => b"insert ",
+        JsonDiffOperation::REMOVE => b"remove ",
+    }
+}
+
+/// Appends the text of changes, or a part of it: `diff[`, the changes with commas between them, and `]`.
+///
+/// Want of memory is `Memory`; the document of a change that has no tree is `Jsonb`.
+pub(crate) fn append_diffs<A: Allocator>(
+    alloc: Global,
+    diffs: &[JsonDiff<'_>],
+    out: &mut Vec<u8, A>,
+) -> Result<(), RowsError>
+    ensures ok { OnOk result (Appends (diffs_text (map diff_view diffs.now)) out.old.items out.new.items) }
+    ensures err { IfErr result (λ e. Parses (λ t. t) (Err e) (diffs_text (map diff_view diffs.now))) }
+    ensures kept { take (length out.old.items) out.new.items ≡ out.old.items }
+{
+    out.extend_from_slice(b"diff[")?;
+    let mut separator = b"".as_slice();
+    for diff in diffs {
+        out.extend_from_slice(separator)?;
+        match append_diff(alloc, diff, out) {
+            Ok(()) => {}
+            Err(fault) => return Err(fault),
+        }
+        separator = b",".as_slice();
+    }
+    out.push(b']')?;
+    Ok(())
+}
+
+/// Appends the text of a change, or a part of it: what it does, the quoted path, and a value that is put there.
+fn append_diff<A: Allocator>(
+    alloc: Global,
+    diff: &JsonDiff<'_>,
+    out: &mut Vec<u8, A>,
+) -> Result<(), RowsError>
+    ensures ok { OnOk result (Appends (diff_text (diff_view diff.now)) out.old.items out.new.items) }
+    ensures err { IfErr result (λ e. Parses (λ t. t) (Err e) (diff_text (diff_view diff.now))) }
+    ensures kept { take (length out.old.items) out.new.items ≡ out.old.items }
+{
+    out.extend_from_slice(operation_word(diff.operation()))?;
+    match quote(diff.path(), out) {
+        Ok(()) => {}
+        Err(_) => return Err(RowsError::Memory),
+    }
+    match diff.value() {
+        Some(value) => append_value(alloc, value, out),
+        None => Ok(()),
+    }
+}
+
+/// Appends a blank and the text of a document, or a part of this.
+fn append_value<A: Allocator>(
+    alloc: Global,
+    value: &Value<'_>,
+    out: &mut Vec<u8, A>,
+) -> Result<(), RowsError>
+    ensures ok { OnOk result (Appends (document_part (jsonb_value value.now)) out.old.items out.new.items) }
+    ensures err { IfErr result (λ e. Parses (λ t. t) (Err e) (document_part (jsonb_value value.now))) }
+    ensures kept { take (length out.old.items) out.new.items ≡ out.old.items }
+{
+    let tree = match value.tree(alloc) {
+        Ok(tree) => tree,
+        Err(fault) => return Err(fault),
+    };
+    out.push(b' ')?;
+    match put_json(&tree, out) {
+        Ok(()) => Ok(()),
+        Err(_) => Err(RowsError::Memory),
+    }
+}
