@@ -1,28 +1,36 @@
 //! Cells of each column type, from their bytes to their text, and the images of rows.
 
-use feed_text::{put_json, put_value};
+use feed_text::{put_cell, put_cell_ref};
+use linked_list_allocator::LocalHeap;
 use mysql_binlog_rows::{
-    BinlogValue, CellForm, CellRef, ImageCells, ImageColumn, RowsError, Value, Width, cell_front,
+    CellForm, CellRef, ImageCells, ImageColumn, RowsError, Width, cell_front,
 };
 use std::alloc::Global;
 use wire_consts::ColumnType;
 
-/// Appends the text of a cell.
-fn put_cell(alloc: Global, cell: CellRef<'_>, out: &mut Vec<u8>) -> Result<(), RowsError> {
-    match cell.to_value(alloc)? {
-        BinlogValue::Value(value) => put_value(&value, out),
-        BinlogValue::Jsonb(document) => put_json(&document.parse(alloc)?, out),
-    }
+/// The text of the cell at the front of the bytes, in a column at a place, once straight from the borrowed cell and
+/// once by its value; and how many bytes follow it.
+fn texts(
+    alloc: Global,
+    form: CellForm,
+    bytes: &[u8],
+) -> Result<(Vec<u8>, Vec<u8>, usize), RowsError> {
+    let (cell, rest) = cell_front(form, bytes)?;
+    let mut borrowed = Vec::new(alloc);
+    put_cell_ref(alloc, 0, cell, &mut borrowed)?;
+    let mut kept = Vec::new(alloc);
+    put_cell(alloc, 0, &cell.to_value(alloc)?, &mut kept)?;
+    Ok((borrowed, kept, rest.len()))
 }
 
-/// Whether the bytes and one more are a cell of the form, with this text, and that one more.
+/// Whether the bytes and one more are a cell of the form, with this text behind ` 0=`, and that one more.
 fn reads(alloc: Global, form: CellForm, bytes: &[u8], text: &[u8]) -> Result<bool, RowsError> {
     let mut longer = Vec::from_slice(alloc, bytes)?;
     longer.push(0x5a)?;
-    let (cell, rest) = cell_front(form, longer.as_slice())?;
-    let mut out = Vec::new(alloc);
-    put_cell(alloc, cell, &mut out)?;
-    Ok(out.as_slice() == text && rest == b"\x5a".as_slice())
+    let mut wanted = Vec::from_slice(alloc, b" 0=")?;
+    wanted.extend_from_slice(text)?;
+    let (borrowed, kept, left) = texts(alloc, form, longer.as_slice())?;
+    Ok(borrowed == wanted && kept == wanted && left == 1)
 }
 
 /// Whether each row holds: a column's type and metadata, the bytes of a cell, and its text.
@@ -167,9 +175,15 @@ fn timestamp_fraction(rt: HostRuntime) {
 }
 
 #[test]
-fn cell_values_of_decimals_and_documents(rt: HostRuntime) {
+fn cell_values(rt: HostRuntime) {
     let array = b"\x0b\0\0\0\x02\x02\x00\x0a\x00\x05\x01\x00\x05\x02\x00";
-    let rows: [(ColumnType, &[u8], &[u8], &[u8]); 4] = [
+    let rows: [(ColumnType, &[u8], &[u8], &[u8]); 5] = [
+        (
+            ColumnType::MYSQL_TYPE_TIME2,
+            b"\x02",
+            b"\x7f\xff\xfe\xf6",
+            b"-0d00:00:01.100000",
+        ),
         (
             ColumnType::MYSQL_TYPE_NEWDECIMAL,
             b"\x0e\x04",
@@ -270,10 +284,20 @@ fn refusal(kind: ColumnType, metadata: &[u8], bytes: &[u8]) -> Option<RowsError>
     }
 }
 
+// Its cells can't be read, but NULL has no bytes.
 #[test]
 fn typed_array_cell(rt: HostRuntime) {
+    let alloc = rt.alloc();
     let kind = ColumnType::MYSQL_TYPE_TYPED_ARRAY;
-    assert!(rt; refusal(kind, b"\x03", b"\0\0\0\0") == Some(RowsError::Cell));
+    let columns = [ImageColumn {
+        place: 0,
+        form: CellForm::of_column(kind, b"\x03", false),
+    }];
+    assert!(rt;
+        refusal(kind, b"\x03", b"\0\0\0\0") == Some(RowsError::Cell)
+            && is_image(alloc, &columns, b"\x01", b" 0=NULL", 0)
+            && !is_image(alloc, &columns, b"\x00\0\0\0\0", b" 0=0", 0)
+    );
 }
 
 #[test]
@@ -333,7 +357,7 @@ fn cells_refused(rt: HostRuntime) {
     }
 }
 
-/// The text of an image's cells, each behind its column's place and `=`.
+/// The text of an image's cells.
 fn image_text(
     alloc: Global,
     columns: &[ImageColumn],
@@ -343,9 +367,7 @@ fn image_text(
     let mut out = Vec::new(alloc);
     for _ in 0..columns.len() {
         if let Some((place, cell)) = cells.next_cell()? {
-            put_value(&Value::UInt(u64::from(place)), &mut out)?;
-            out.push(b'=')?;
-            put_cell(alloc, cell, &mut out)?;
+            put_cell_ref(alloc, place, cell, &mut out)?;
         }
     }
     Ok((out, cells.rest().len()))
@@ -376,7 +398,7 @@ fn long_column(place: u32) -> ImageColumn {
 // Of two columns the second is in the image: it has the first null bit.
 #[test]
 fn second_column_null(rt: HostRuntime) {
-    assert!(rt; is_image(rt.alloc(), &[long_column(1)], b"\x01", b"u1=NULL", 0));
+    assert!(rt; is_image(rt.alloc(), &[long_column(1)], b"\x01", b" 1=NULL", 0));
 }
 
 #[test]
@@ -387,14 +409,14 @@ fn images_of_rows(rt: HostRuntime) {
             rt.alloc(),
             &columns,
             b"\x01\x05\0\0\0\xff",
-            b"u0=NULLu7=5",
+            b" 0=NULL 7=5",
             1
-        ) && is_image(rt.alloc(), &columns, b"\xfe\x05\0\0\0", b"u0=5u7=NULL", 0)
+        ) && is_image(rt.alloc(), &columns, b"\xfe\x05\0\0\0", b" 0=5 7=NULL", 0)
             && !is_image(
                 rt.alloc(),
                 &columns,
                 b"\xfc\x05\0\0\0\x06\0\0",
-                b"u0=5u7=6",
+                b" 0=5 7=6",
                 0
             )
             && is_image(rt.alloc(), &[], b"\x06", b"", 1)
@@ -419,5 +441,78 @@ fn nulls_of_an_image(rt: HostRuntime) {
     assert!(rt;
         nulls(&columns, b"\x02\x05\0\0\0\xff") == Ok((1, 1))
             && nulls(&columns, b"\x02\x05\0\0") == Err(RowsError::EndOfBody)
+    );
+}
+
+/// Whether the texts of so many rows are put one after the other where memory is for one row alone.
+fn rows_take_no_memory(alloc: Global, columns: &[ImageColumn], row: &[u8], count: u32) -> bool {
+    let Ok(heap) = LocalHeap::new(alloc, 512) else {
+        return false;
+    };
+    let mut out = Vec::new(&heap);
+    let mut room = 0usize;
+    for number in 0..count {
+        out.clear();
+        let Ok(mut cells) = ImageCells::of(columns, row) else {
+            return false;
+        };
+        for _ in 0..columns.len() {
+            let Ok(Some((place, cell))) = cells.next_cell() else {
+                return false;
+            };
+            let Ok(()) = put_cell_ref(alloc, place, cell, &mut out) else {
+                return false;
+            };
+        }
+        if number == 0 {
+            room = out.capacity();
+        }
+    }
+    out.capacity() == room && out.as_slice() == b" 0=5 1='a\\27' 2='-1.5' 3=2009-09-24T09:03:57.000000".as_slice()
+}
+
+#[test]
+fn no_memory_for_cells(rt: HostRuntime) {
+    let columns = [
+        long_column(0),
+        ImageColumn {
+            place: 1,
+            form: CellForm::Counted(Width::One),
+        },
+        ImageColumn {
+            place: 2,
+            form: CellForm::Decimal(2, 1),
+        },
+        ImageColumn {
+            place: 3,
+            form: CellForm::Datetime2(0),
+        },
+    ];
+    let row = b"\0\x05\0\0\0\x02a'\x7e\xfa\x99\x83\xb0\x90\xf9";
+    assert!(rt; rows_take_no_memory(rt.alloc(), &columns, row, 10_000));
+}
+
+/// What is answered where memory is for so many bytes, and how many stand there then.
+fn put_in(alloc: Global, cell: CellRef<'_>, size: usize) -> (Result<(), RowsError>, usize) {
+    let Ok(heap) = LocalHeap::new(alloc, size) else {
+        return (Ok(()), 0);
+    };
+    let mut out = Vec::new(&heap);
+    let Ok(()) = out.extend_from_slice(b"ab") else {
+        return (Ok(()), 0);
+    };
+    (put_cell_ref(alloc, 3, cell, &mut out), out.len())
+}
+
+// What a refused cell leaves: its label is taken back.
+#[test]
+fn refused_cells(rt: HostRuntime) {
+    let alloc = rt.alloc();
+    assert!(rt;
+        put_in(alloc, CellRef::Int(5), 512) == (Ok(()), 6)
+            && put_in(alloc, CellRef::Int(5), 64) == (Err(RowsError::Memory), 2)
+            && put_in(alloc, CellRef::Bytes(&[b'a'; 200]), 128) == (Err(RowsError::Memory), 2)
+            && put_in(alloc, CellRef::Decimal(2, 0, b"\xe4"), 512) == (Err(RowsError::Decimal), 2)
+            && put_in(alloc, CellRef::Json(b"\x0d"), 512) == (Err(RowsError::Jsonb(None)), 2)
     );
 }
