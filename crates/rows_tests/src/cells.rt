@@ -2,9 +2,7 @@
 
 use feed_text::{put_cell, put_cell_ref};
 use linked_list_allocator::LocalHeap;
-use mysql_binlog_rows::{
-    CellForm, CellRef, ImageCells, ImageColumn, RowsError, Width, cell_front,
-};
+use mysql_binlog_rows::{CellForm, CellRef, ImageCells, ImageColumn, RowsError, Width, cell_front};
 use std::alloc::Global;
 use wire_consts::ColumnType;
 
@@ -468,7 +466,8 @@ fn rows_take_no_memory(alloc: Global, columns: &[ImageColumn], row: &[u8], count
             room = out.capacity();
         }
     }
-    out.capacity() == room && out.as_slice() == b" 0=5 1='a\\27' 2='-1.5' 3=2009-09-24T09:03:57.000000".as_slice()
+    out.capacity() == room
+        && out.as_slice() == b" 0=5 1='a\\27' 2='-1.5' 3=2009-09-24T09:03:57.000000".as_slice()
 }
 
 #[test]
