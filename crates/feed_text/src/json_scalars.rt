@@ -1,16 +1,19 @@
 //! The text of the scalars of JSON documents.
 
-ghost use Rattle.std.specs.Prelude.{◌≡◌, ◌++◌, ◌≤◌, ◌+◌, OnOk, IfErr, length, take};
+ghost use Rattle.std.specs.Prelude.{◌≡◌, ◌++◌, ◌∷◌, ◌≤◌, ◌+◌, OnOk, IfErr, length, take};
 ghost use Rattle.rows_jsonb.specs.JsonTrees.{time as time_scalar, opaque};
 ghost use Rattle.rows_jsonb.specs.JsonTreeViews.{scalar_view, number_view};
 ghost use Rattle.wire_consts.specs.ColumnTypes.{column_type_number};
+ghost use Rattle.std.specs.Fmt.{decimal, signed_decimal};
 ghost use Rattle.feed_text.specs.Pieces.{IsRefused};
+ghost use Rattle.feed_text.specs.ValueText.{double_text};
 ghost use Rattle.feed_text.specs.JsonText.{scalar_text, moment_text};
 
 use crate::pieces::append_all;
 use crate::quoting::quote;
-use crate::short::{Short, append_short};
-use feed_writers::{Clock, Day, put_byte, put_clock, put_day};
+use feed_writers::{
+    Clock, Day, put_byte, put_clock, put_day, put_hexadecimal, put_number, put_signed,
+};
 use itoa::Buffer;
 use rows_jsonb::{JsonNumber, JsonOpaque, JsonScalar};
 use rows_values::{MysqlTime, MysqlTimestampType, RowsError};
@@ -37,20 +40,63 @@ pub(crate) fn append_scalar<A: Allocator>(
 }
 
 /// Appends the text of a number, or nothing.
-#[tactic(auto, unfolding(crate::specs::JsonText::scalar_text, crate::specs::ShortTexts::short_text))]
+#[tactic(auto, unfolding(crate::specs::JsonText::scalar_text))]
 fn append_number<A: Allocator>(number: &JsonNumber, out: &mut Vec<u8, A>) -> Result<(), RowsError>
     ensures ok { OnOk result (out.new.items ≡ out.old.items ++ scalar_text (number_view number.now)) }
     ensures err { IfErr result (λ e. IsRefused e out.old.items out.new.items) }
 {
     match number {
-        JsonNumber::Int(number) => append_short(Short::Int(*number), out),
-        JsonNumber::Uint(number) => append_short(Short::UInt(*number), out),
-        JsonNumber::Double(bits) => append_short(Short::Double(*bits), out),
+        JsonNumber::Int(number) => append_int(*number, out),
+        JsonNumber::Uint(number) => append_uint(*number, out),
+        JsonNumber::Double(bits) => append_double(*bits, out),
         JsonNumber::Decimal(decimal) => {
             decimal.append_text(out)?;
             Ok(())
         }
     }
+}
+
+/// The most bytes of a number.
+const NUMBER: usize = 24;
+
+/// Appends an integer, or nothing.
+fn append_int<A: Allocator>(number: i64, out: &mut Vec<u8, A>) -> Result<(), RowsError>
+    ensures ok { OnOk result (out.new.items ≡ out.old.items ++ signed_decimal number) }
+    ensures err { IfErr result (λ e. IsRefused e out.old.items out.new.items) }
+{
+    let start = out.len();
+    out.resize(start + NUMBER, 0)?;
+    let end = put_signed(out.as_mut_slice(), start, number);
+    out.truncate(end);
+    Ok(())
+}
+
+/// Appends `u` and an unsigned integer, or nothing.
+fn append_uint<A: Allocator>(number: u64, out: &mut Vec<u8, A>) -> Result<(), RowsError>
+    ensures ok { OnOk result (out.new.items ≡ out.old.items ++ (117 ∷ decimal number)) }
+    ensures err { IfErr result (λ e. IsRefused e out.old.items out.new.items) }
+{
+    let start = out.len();
+    out.resize(start + NUMBER, 0)?;
+    let text = out.as_mut_slice();
+    let end = put_byte(text, start, b'u');
+    let end = put_number(text, end, number);
+    out.truncate(end);
+    Ok(())
+}
+
+/// Appends `d` and the hexadecimal digits of a double's bits, or nothing.
+fn append_double<A: Allocator>(bits: u64, out: &mut Vec<u8, A>) -> Result<(), RowsError>
+    ensures ok { OnOk result (out.new.items ≡ out.old.items ++ double_text bits) }
+    ensures err { IfErr result (λ e. IsRefused e out.old.items out.new.items) }
+{
+    let start = out.len();
+    out.resize(start + NUMBER, 0)?;
+    let text = out.as_mut_slice();
+    let end = put_byte(text, start, b'd');
+    let end = put_hexadecimal(text, end, &bits.to_be_bytes());
+    out.truncate(end);
+    Ok(())
 }
 
 /// Appends the number of a column's type and quoted bytes, or a part of this.

@@ -1,10 +1,9 @@
 //! Values whose text is short, so that room for it is asked for once.
 
-ghost use Rattle.std.specs.Prelude.{◌≡◌, ◌≤◌, ◌<◌, ◌+◌, ◌++◌, OnOk, IfErr, length, take};
+ghost use Rattle.std.specs.Prelude.{◌≡◌, ◌≤◌, ◌+◌, ◌++◌, length, take};
 ghost use Rattle.std.specs.Fmt.{decimal};
 ghost use Rattle.rows_cells.specs.CellValues.{timestamp_text, micros_text};
 ghost use Rattle.feed_writers.specs.Quoting.{quoted};
-ghost use Rattle.feed_text.specs.Pieces.{IsRefused};
 ghost use Rattle.feed_text.specs.Times.{date_text, span_text};
 ghost use Rattle.feed_text.specs.ShortTexts.{short_text};
 
@@ -12,8 +11,6 @@ use feed_writers::{
     Clock, Day, put_byte, put_bytes, put_clock, put_day, put_hexadecimal, put_number, put_padded,
     put_signed,
 };
-use rows_values::RowsError;
-use std::alloc::Allocator;
 
 /// The most bytes of a short text.
 pub(crate) const SHORT: usize = 76;
@@ -35,21 +32,6 @@ pub(crate) enum Short {
     Span(bool, u32, Clock),
     /// Seconds since 1970, and microseconds.
     Timestamp(i32, i32),
-}
-
-/// Appends a short text, or nothing.
-pub(crate) fn append_short<A: Allocator>(
-    short: Short,
-    out: &mut Vec<u8, A>,
-) -> Result<(), RowsError>
-    ensures ok { OnOk result (out.new.items ≡ out.old.items ++ short_text short) }
-    ensures err { IfErr result (λ e. IsRefused e out.old.items out.new.items) }
-{
-    let start = out.len();
-    out.resize(start + SHORT, 0)?;
-    let end = put_short(out.as_mut_slice(), start, short);
-    out.truncate(end);
-    Ok(())
 }
 
 /// Writes a short text, and answers where it ends.

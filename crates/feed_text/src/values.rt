@@ -1,9 +1,10 @@
 ghost use Rattle.std.specs.Prelude.{◌≡◌, ◌++◌, OnOk, IfErr};
 ghost use Rattle.feed_text.specs.Pieces.{IsRefused};
+ghost use Rattle.feed_text.specs.ShortTexts.{short_text};
 ghost use Rattle.feed_text.specs.ValueText.{value_text};
 
 use crate::quoting::quote;
-use crate::short::{Short, append_short};
+use crate::short::{SHORT, Short, put_short};
 use feed_writers::{Clock, Day};
 use rows_values::{RowsError, Value};
 use std::alloc::Allocator;
@@ -52,4 +53,16 @@ fn clock(hour: u8, minute: u8, second: u8, micros: u32) -> Clock
         second: u32::from(second),
         micros,
     }
+}
+
+/// Appends a short text, or nothing.
+fn append_short<A: Allocator>(short: Short, out: &mut Vec<u8, A>) -> Result<(), RowsError>
+    ensures ok { OnOk result (out.new.items ≡ out.old.items ++ short_text short) }
+    ensures err { IfErr result (λ e. IsRefused e out.old.items out.new.items) }
+{
+    let start = out.len();
+    out.resize(start + SHORT, 0)?;
+    let end = put_short(out.as_mut_slice(), start, short);
+    out.truncate(end);
+    Ok(())
 }

@@ -1,29 +1,34 @@
 //! Cells of each column type, from their bytes to their text, and the images of rows.
 
-use feed_text::{put_json, put_value};
-use mysql_binlog_rows::{
-    BinlogValue, CellForm, CellRef, RowsError, Value, Width, cell_front,
-};
+use feed_text::{put_cell, put_cell_ref};
+use linked_list_allocator::LocalHeap;
+use mysql_binlog_rows::{CellForm, CellRef, RowsError, cell_front};
 use std::alloc::Global;
 use wire_consts::ColumnType;
 
-/// Appends the text of a cell.
-pub fn put_cell(alloc: Global, cell: CellRef<'_>, out: &mut Vec<u8>) -> Result<(), RowsError> {
-    match cell.to_value(alloc)? {
-        BinlogValue::Value(value) => put_value(&value, out),
-        BinlogValue::Jsonb(document) => put_json(&document.parse(alloc)?, out),
-        BinlogValue::JsonDiff(_) => Err(RowsError::Cell),
-    }
+/// The text of the cell at the front of the bytes, in a column at a place, once straight from the borrowed cell and
+/// once by its value; and how many bytes follow it.
+fn texts(
+    alloc: Global,
+    form: CellForm,
+    bytes: &[u8],
+) -> Result<(Vec<u8>, Vec<u8>, usize), RowsError> {
+    let (cell, rest) = cell_front(form, bytes)?;
+    let mut borrowed = Vec::new(alloc);
+    put_cell_ref(alloc, 0, cell, &mut borrowed)?;
+    let mut kept = Vec::new(alloc);
+    put_cell(alloc, 0, &cell.to_value(alloc)?, &mut kept)?;
+    Ok((borrowed, kept, rest.len()))
 }
 
-/// Whether the bytes and one more are a cell of the form, with this text, and that one more.
+/// Whether the bytes and one more are a cell of the form, with this text behind ` 0=`, and that one more.
 fn reads(alloc: Global, form: CellForm, bytes: &[u8], text: &[u8]) -> Result<bool, RowsError> {
     let mut longer = Vec::from_slice(alloc, bytes)?;
     longer.push(0x5a)?;
-    let (cell, rest) = cell_front(form, longer.as_slice())?;
-    let mut out = Vec::new(alloc);
-    put_cell(alloc, cell, &mut out)?;
-    Ok(out.as_slice() == text && rest == b"\x5a".as_slice())
+    let mut wanted = Vec::from_slice(alloc, b" 0=")?;
+    wanted.extend_from_slice(text)?;
+    let (borrowed, kept, left) = texts(alloc, form, longer.as_slice())?;
+    Ok(borrowed == wanted && kept == wanted && left == 1)
 }
 
 /// Whether each row holds: a column's type and metadata, the bytes of a cell, and its text.
@@ -168,9 +173,15 @@ fn timestamp_fraction(rt: HostRuntime) {
 }
 
 #[test]
-fn cell_values_of_decimals_and_documents(rt: HostRuntime) {
+fn cell_values(rt: HostRuntime) {
     let array = b"\x0b\0\0\0\x02\x02\x00\x0a\x00\x05\x01\x00\x05\x02\x00";
-    let rows: [(ColumnType, &[u8], &[u8], &[u8]); 4] = [
+    let rows: [(ColumnType, &[u8], &[u8], &[u8]); 5] = [
+        (
+            ColumnType::MYSQL_TYPE_TIME2,
+            b"\x02",
+            b"\x7f\xff\xfe\xf6",
+            b"-0d00:00:01.100000",
+        ),
         (
             ColumnType::MYSQL_TYPE_NEWDECIMAL,
             b"\x0e\x04",
@@ -271,10 +282,20 @@ fn refusal(kind: ColumnType, metadata: &[u8], bytes: &[u8]) -> Option<RowsError>
     }
 }
 
+// Its cells can't be read, but NULL has no bytes.
 #[test]
 fn typed_array_cell(rt: HostRuntime) {
+    let alloc = rt.alloc();
     let kind = ColumnType::MYSQL_TYPE_TYPED_ARRAY;
-    assert!(rt; refusal(kind, b"\x03", b"\0\0\0\0") == Some(RowsError::Cell));
+    let columns = [ImageColumn {
+        place: 0,
+        form: CellForm::of_column(kind, b"\x03", false),
+    }];
+    assert!(rt;
+        refusal(kind, b"\x03", b"\0\0\0\0") == Some(RowsError::Cell)
+            && is_image(alloc, &columns, b"\x01", b" 0=NULL", 0)
+            && !is_image(alloc, &columns, b"\x00\0\0\0\0", b" 0=0", 0)
+    );
 }
 
 #[test]
@@ -332,4 +353,29 @@ fn cells_refused(rt: HostRuntime) {
     for (kind, metadata, bytes, fault) in rows {
         assert!(rt; refusal(kind, metadata, bytes) == Some(fault));
     }
+}
+
+/// What is answered where memory is for so many bytes, and how many stand there then.
+fn put_in(alloc: Global, cell: CellRef<'_>, size: usize) -> (Result<(), RowsError>, usize) {
+    let Ok(heap) = LocalHeap::new(alloc, size) else {
+        return (Ok(()), 0);
+    };
+    let mut out = Vec::new(&heap);
+    let Ok(()) = out.extend_from_slice(b"ab") else {
+        return (Ok(()), 0);
+    };
+    (put_cell_ref(alloc, 3, cell, &mut out), out.len())
+}
+
+// What a refused cell leaves: its label is taken back.
+#[test]
+fn refused_cells(rt: HostRuntime) {
+    let alloc = rt.alloc();
+    assert!(rt;
+        put_in(alloc, CellRef::Int(5), 512) == (Ok(()), 6)
+            && put_in(alloc, CellRef::Int(5), 64) == (Err(RowsError::Memory), 2)
+            && put_in(alloc, CellRef::Bytes(&[b'a'; 200]), 128) == (Err(RowsError::Memory), 2)
+            && put_in(alloc, CellRef::Decimal(2, 0, b"\xe4"), 512) == (Err(RowsError::Decimal), 2)
+            && put_in(alloc, CellRef::Json(b"\x0d"), 512) == (Err(RowsError::Jsonb(None)), 2)
+    );
 }

@@ -1,6 +1,7 @@
 //! The rows of events, part by part, and their images.
 
-use crate::cells::put_cell;
+use feed_text::put_cell_ref;
+use linked_list_allocator::LocalHeap;
 use mysql_binlog_rows::{
     BinlogValue, CellForm, CellRef, ImageCells, ImageColumn, ImagePlan, JsonDiff,
     JsonDiffOperation, RowPart, RowPlan, RowsCursor, RowsError, Width,
@@ -49,13 +50,7 @@ fn two_images(columns: &[ImageColumn]) -> RowPlan<'_> {
     }
 }
 
-/// The digit of a small number.
-fn digit(number: u32) -> u8 {
-    (number % 10) as u8 + b'0'
-}
-
-/// The text of the rows: of each cell a space, its column's place, `=` and the value, of the second image ` to`
-/// before it, of a row a line. With it why the rows end before the bytes do, where they do.
+/// The text of the rows: of a row a line, with ` to` before its second image. With it why the rows end before the bytes do, where they do.
 fn rows_text(
     alloc: Global,
     plan: RowPlan<'_>,
@@ -65,10 +60,7 @@ fn rows_text(
     let mut out = Vec::new(alloc);
     for _ in 0..100 {
         match rows.next_part() {
-            Ok(Some(RowPart::Cell(place, cell))) => {
-                out.extend_from_slice(&[b' ', digit(place), b'='])?;
-                put_cell(alloc, cell, &mut out)?;
-            }
+            Ok(Some(RowPart::Cell(place, cell))) => put_cell_ref(alloc, place, cell, &mut out)?,
             Ok(Some(RowPart::NextImage)) => out.extend_from_slice(b" to")?,
             Ok(Some(RowPart::EndOfRow)) => out.push(b'\n')?,
             Ok(None) => return Ok((out, None)),
@@ -210,7 +202,23 @@ fn is_one_diff(alloc: Global, plan: RowPlan<'_>, bytes: &[u8]) -> bool {
 fn json_diff_cell(rt: HostRuntime) {
     let columns = [json_column(4, 1)];
     let bytes = b"\x01\x02\0\x09\0\0\0\0\x03$.a\x03\x05\x01\0";
-    assert!(rt; is_one_diff(rt.alloc(), partial(&columns, 2), bytes));
+    assert!(rt;
+        is_one_diff(rt.alloc(), partial(&columns, 2), bytes)
+            && have_text(
+                rt.alloc(),
+                partial(&columns, 2),
+                bytes,
+                b" 4=diff[replace '$.a' 1]\n",
+                None
+            )
+            && have_text(
+                rt.alloc(),
+                partial(&columns, 2),
+                b"\x01\x02\0\x0d\0\0\0\x02\x03$.a\x01\x03$.b\x02\x04\x01\x01\x02\0\0\0\0",
+                b" 4=diff[remove '$.a',insert '$.b' true]\n 4=diff[]\n",
+                None
+            )
+    );
 }
 
 // Without a partial bit, and without partial bits, a document stands there.
@@ -277,4 +285,54 @@ fn nulls_of_an_image(rt: HostRuntime) {
         nulls(&columns, b"\x02\x05\0\0\0\xff") == Ok((1, 1))
             && nulls(&columns, b"\x02\x05\0\0") == Err(RowsError::EndOfBody)
     );
+}
+
+/// Whether the texts of so many rows are put one after the other where memory is for one row alone.
+fn rows_take_no_memory(alloc: Global, columns: &[ImageColumn], row: &[u8], count: u32) -> bool {
+    let Ok(heap) = LocalHeap::new(alloc, 512) else {
+        return false;
+    };
+    let mut out = Vec::new(&heap);
+    let mut room = 0usize;
+    for number in 0..count {
+        out.clear();
+        let mut rows = RowsCursor::of(one_image(columns), row);
+        for _ in 0..columns.len() {
+            let Ok(Some(RowPart::Cell(place, cell))) = rows.next_part() else {
+                return false;
+            };
+            let Ok(()) = put_cell_ref(alloc, place, cell, &mut out) else {
+                return false;
+            };
+        }
+        if number == 0 {
+            room = out.capacity();
+        }
+    }
+    out.capacity() == room
+        && out.as_slice() == b" 0=5 1='a\\27' 2='-1.5' 3=2009-09-24T09:03:57.000000".as_slice()
+}
+
+#[test]
+fn no_memory_for_cells(rt: HostRuntime) {
+    let columns = [
+        long_column(0),
+        ImageColumn {
+            place: 1,
+            form: CellForm::Counted(Width::One),
+            json_index: 0,
+        },
+        ImageColumn {
+            place: 2,
+            form: CellForm::Decimal(2, 1),
+            json_index: 0,
+        },
+        ImageColumn {
+            place: 3,
+            form: CellForm::Datetime2(0),
+            json_index: 0,
+        },
+    ];
+    let row = b"\0\x05\0\0\0\x02a'\x7e\xfa\x99\x83\xb0\x90\xf9";
+    assert!(rt; rows_take_no_memory(rt.alloc(), &columns, row, 10_000));
 }
