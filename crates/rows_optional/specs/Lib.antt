@@ -1,0 +1,4 @@
+pub mod Entries
+pub mod Lists
+pub mod Constants
+pub mod Views
