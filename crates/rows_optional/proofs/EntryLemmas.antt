@@ -1,5 +1,5 @@
 -- Entries that are read are spelled so, and those that are spelled so are read.
-use Rattle.std.proofs.Common.{◌≡◌, ℕ, ◌≤◌, ◌<◌, Bool, true, false, cond, List, ◌++◌, length, take, drop, Option, Some, None, Ok, Err, refl, sym, ap, ◌∙◌, arith, leb, append_assoc, length-append}
+use Rattle.std.proofs.Common.{◌≡◌, ℕ, zero, suc, ◌≤◌, ◌<◌, Bool, true, false, cond, List, [], ◌∷◌, ◌++◌, length, take, drop, Option, Some, None, Ok, Err, refl, sym, ap, ◌∙◌, arith, leb, append_assoc, length-append}
 use Rattle.std.proofs.lemmas.Bool.{le-leb, leb-true}
 use Rattle.std.proofs.lemmas.List.{length-take-le, take-append-drop}
 use Rattle.std.proofs.Math.Seq.{take-append_seam, drop-append_seam}
@@ -13,6 +13,8 @@ use Rattle.rows_values.specs.declared.fault.RowsError.{RowsError}
 use Rattle.rows_values.specs.declared.fault.RowsError.TheVariants.{EndOfBody}
 use Rattle.rows_jsonb.specs.JsonbValues.{Reading, ◌>>=◌}
 use Rattle.rows_optional.specs.Entries.{NumberForm, StringForm, PairForm, found, front, number_at, string_at, pair_at}
+use Rattle.rows_optional.specs.Fields.{tagged_at}
+use Rattle.rows_optional.specs.Members.{strings_in, members_at}
 use Rattle.rows_optional.specs.Lists.{TakesBytes}
 
 -- the step of a reading that found something
@@ -86,3 +88,25 @@ pair-takes x y h =
     let b = bind-ok (number_at a.0.1) _ y a.2 in
     let p = ok_pair (a.0.0, b.0.0) b.0.1 y b.2 in
     omega (arith, number-takes x a.0 a.1, number-takes a.0.1 b.0 b.1, ap length p.1)
+
+pub tagged-takes : TakesBytes tagged_at
+tagged-takes x y h =
+    let a = bind-ok (front 1 x) _ y h in
+    let b = bind-ok (string_at a.0.1) _ y a.2 in
+    let p = ok_pair _ b.0.1 y b.2 in
+    let f = front-is 1 x a.0 a.1 in
+    omega (arith, string-takes a.0.1 b.0 b.1, ap length f.0, length-append a.0.0 a.0.1, f.1, ap length p.1)
+
+strings-take : (n : ℕ) (x : List ℕ) (y : List (List ℕ) × List ℕ) → strings_in n x ≡ Ok y → length y.1 ≤ length x
+unfolding strings_in
+strings-take zero x y h = let p = ok_pair [] x y h in omega (arith, ap length p.1)
+strings-take (suc n) x y h =
+    let a = bind-ok (string_at x) _ y h in
+    let b = bind-ok (strings_in n a.0.1) _ y a.2 in
+    let p = ok_pair _ b.0.1 y b.2 in
+    omega (arith, string-takes x a.0 a.1, strings-take n a.0.1 b.0 b.1, ap length p.1)
+
+pub members-takes : TakesBytes members_at
+members-takes x y h =
+    let a = bind-ok (number_at x) _ y h in
+    omega (arith, number-takes x a.0 a.1, strings-take a.0.0 a.0.1 y a.2)

@@ -27,7 +27,7 @@ module _ {A : Type 0} (read : List ℕ → Reading (A × List ℕ)) (takes : Tak
   enough (suc n) (suc m) (b ∷ s) h k =
       same_after n m (read (b ∷ s)) (λ x e. let less = takes (b ∷ s) x e in enough n m x.1 (omega (arith, less, h)) (omega (arith, less, k)))
 
-  empty-items : items_of read [] ≡ []
+  pub empty-items : items_of read [] ≡ []
   unfolding items_of items_in
   empty-items = refl
 

@@ -1,6 +1,6 @@
 //! The character sets of columns: of character columns, or of `ENUM` and `SET` columns.
 
-ghost use Rattle.std.specs.Prelude.{◌≡◌, ◌%◌, map};
+ghost use Rattle.std.specs.Prelude.{◌≡◌, ◌%◌, [], map};
 ghost use Rattle.std.specs.Iterator.{YieldsFirst, YieldsFirstBy, item_count};
 ghost use Rattle.rows_jsonb.specs.JsonbViews.{shown};
 ghost use Rattle.rows_optional.specs.Entries.{number_at};
@@ -122,6 +122,15 @@ impl<'a> ColumnCharsets<'a> {
         ensures { result.charsets ≡ value.entry }
     {
         ColumnCharsets { charsets: value }
+    }
+
+    /// The pairs that a field without a default has: none.
+    pub(crate) fn no_pairs() -> IterNonDefault<'a>
+        ensures { non_default_left result ≡ pairs [] }
+    {
+        IterNonDefault {
+            entries: Entries::of(&[]),
+        }
     }
 
     /// The character sets, in the order of the columns.

@@ -6,6 +6,7 @@ ghost use Rattle.wire_ints.specs.Faults.{lenenc_fault};
 ghost use Rattle.rows_values.specs.Faults.{rows_error};
 ghost use Rattle.rows_jsonb.specs.JsonbViews.{shown};
 ghost use Rattle.rows_optional.specs.Entries.{number_at, string_at, pair_at};
+ghost use Rattle.rows_optional.specs.Fields.{tagged_at, tagged};
 ghost use Rattle.rows_optional.specs.Lists.{numbers, strings, pairs};
 
 use rows_values::RowsError;
@@ -52,6 +53,20 @@ pub(crate) fn pair_front(bytes: &[u8]) -> Result<((u64, u64), &[u8]), RowsError>
     let (first, rest) = number_front(bytes)?;
     let (second, rest) = number_front(rest)?;
     Ok(((first, second), rest))
+}
+
+/// The byte and the string at the front and what follows them. `EndOfBody` where no byte is there, and the
+/// refusals of `string_front`.
+pub(crate) fn tagged_front(bytes: &[u8]) -> Result<((u8, &[u8]), &[u8]), RowsError>
+    ensures { shown (λ x. ((x.0.0, x.0.1.now), x.1.now)) result ≡ tagged_at bytes.now }
+{
+    match bytes {
+        [] => Err(RowsError::EndOfBody),
+        [tag, rest @ ..] => {
+            let (value, rest) = string_front(rest)?;
+            Ok(((*tag, value), rest))
+        }
+    }
 }
 
 /// The entries of a list that are still to come. After a fault there are none.
@@ -117,6 +132,25 @@ impl<'a> Entries<'a> {
             Ok((pair, rest)) => {
                 self.bytes = rest;
                 Some(Ok(pair))
+            }
+            Err(fault) => {
+                self.bytes = &[];
+                Some(Err(fault))
+            }
+        }
+    }
+
+    /// The next entry, which is a byte and a string.
+    pub(crate) fn next_tagged(&mut self) -> Option<Result<(u8, &'a [u8]), RowsError>>
+        ensures { YieldsFirstBy (shown (λ x. (x.0, x.1.now))) (λ s. tagged s.bytes.now) self.old result self.new }
+    {
+        if self.bytes.is_empty() {
+            return None;
+        }
+        match tagged_front(self.bytes) {
+            Ok(((tag, value), rest)) => {
+                self.bytes = rest;
+                Some(Ok((tag, value)))
             }
             Err(fault) => {
                 self.bytes = &[];
