@@ -1,5 +1,5 @@
 -- Entries that are read are spelled so, and those that are spelled so are read.
-use Rattle.std.proofs.Common.{◌≡◌, ℕ, zero, suc, ◌≤◌, ◌<◌, Bool, true, false, cond, List, [], ◌∷◌, ◌++◌, length, take, drop, Option, Some, None, Ok, Err, refl, sym, ap, ◌∙◌, arith, leb, append_assoc, length-append}
+use Rattle.std.proofs.Common.{◌≡◌, ℕ, zero, suc, ◌≤◌, Bool, true, false, cond, List, [], ◌++◌, length, take, drop, Option, Some, None, Ok, Err, refl, sym, ap, ◌∙◌, arith, leb, length-append}
 use Rattle.std.proofs.lemmas.Bool.{le-leb, leb-true}
 use Rattle.std.proofs.lemmas.List.{length-take-le, take-append-drop}
 use Rattle.std.proofs.Math.Seq.{take-append_seam, drop-append_seam}
@@ -12,7 +12,7 @@ use Rattle.rows_values.specs.Faults.{rows_error}
 use Rattle.rows_values.specs.declared.fault.RowsError.{RowsError}
 use Rattle.rows_values.specs.declared.fault.RowsError.TheVariants.{EndOfBody}
 use Rattle.rows_jsonb.specs.JsonbValues.{Reading, ◌>>=◌}
-use Rattle.rows_optional.specs.Entries.{NumberForm, StringForm, PairForm, found, front, number_at, string_at, pair_at}
+use Rattle.rows_optional.specs.Entries.{found, front, number_at, string_at, pair_at}
 use Rattle.rows_optional.specs.Fields.{tagged_at}
 use Rattle.rows_optional.specs.Members.{strings_in, members_at}
 use Rattle.rows_optional.specs.Lists.{TakesBytes}

@@ -6,3 +6,6 @@ pub mod ExtractLemmas
 pub mod SignLemmas
 pub mod MemberLemmas
 pub mod ServedLemmas
+pub mod LawLemmas
+pub mod RefusalLemmas
+pub mod ItemLemmas

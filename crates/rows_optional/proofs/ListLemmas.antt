@@ -1,5 +1,5 @@
 -- The items of a list, one step at a time.
-use Rattle.std.proofs.Common.{◌≡◌, ◌≤◌, ◌<◌, ℕ, zero, suc, true, false, true≢false, List, [], ◌∷◌, length, Ok, Err, refl, sym, ap, ◌∙◌, arith, inl, inr}
+use Rattle.std.proofs.Common.{◌≡◌, ◌≤◌, ℕ, zero, suc, true, false, true≢false, List, [], ◌∷◌, length, Ok, Err, refl, sym, ap, ◌∙◌, arith, inl, inr}
 use Rattle.std.proofs.lemmas.Bool.Decides.{eqb_tells}
 use Rattle.std.specs.Prelude.{◌==◌}
 use Rattle.rows_values.specs.declared.fault.RowsError.{RowsError}
@@ -7,7 +7,7 @@ use Rattle.rows_jsonb.specs.JsonbValues.{Reading}
 use Rattle.rows_optional.specs.Lists.{and_then, items_in, items_of, TakesBytes}
 
 -- there is a byte
-some_bytes : (b : ℕ) (s : List ℕ) → (length (b ∷ s) == 0) ≡ false
+pub some_bytes : (b : ℕ) (s : List ℕ) → (length (b ∷ s) == 0) ≡ false
 some_bytes b s = elim (eqb_tells (length (b ∷ s)) 0) [ inl e ↦ let z = e.1 in absurd (omega (arith, z)) | inr e ↦ e.0 ]
 
 module _ {A : Type 0} (read : List ℕ → Reading (A × List ℕ)) (takes : TakesBytes read) where

@@ -1,8 +1,7 @@
 -- Bits, one at a time.
-use Rattle.std.proofs.Common.{◌≡◌, ◌≤◌, ◌<◌, ℕ, zero, suc, ◌+◌, ◌-◌, Bool, List, [], ◌∷◌, Option, Some, lt-ltb, refl, sym, ap, ◌∙◌, arith}
+use Rattle.std.proofs.Common.{◌≡◌, ◌≤◌, ◌<◌, ℕ, suc, ◌+◌, ◌-◌, Bool, [], ◌∷◌, Option, Some, lt-ltb, refl, ◌∙◌, arith}
 use Rattle.std.specs.Iterator.{YieldsFirst}
 use Rattle.rows_values.specs.BitLists.{bit_of, len_of, bit_at}
-use Rattle.rows_values.specs.declared.bits.Bits.{Bits}
 use Rattle.rows_optional.specs.declared.served.IterSignedness.{IterSignedness}
 use Rattle.rows_optional.specs.Views.{signs_left}
 use Rattle.rows_optional.specs.Fields.{bits_from}

@@ -1,5 +1,5 @@
 -- The fields of the optional metadata: a type in one byte, the length of the value, and the value.
-use Rattle.std.specs.Prelude.{◌≡◌, ℕ, zero, suc, ◌+◌, ◌/◌, ◌==◌, Bool, true, false, List, [], ◌∷◌, length, slice_index, map, find, count_by, Option, Some, None, nat_lt, if◌then◌else◌}
+use Rattle.std.specs.Prelude.{◌≡◌, ℕ, zero, suc, ◌+◌, ◌/◌, ◌==◌, Bool, false, List, [], ◌∷◌, length, slice_index, map, find, count_by, Option, Some, None, nat_lt, if◌then◌else◌}
 use Rattle.std.specs.declared.result.Result.TheVariants.{Ok, Err}
 use Rattle.wire_buf.specs.Spelling.{ByteForm, Both}
 use Rattle.wire_consts.specs.ColumnTypes.{column_type_number, is_numeric}

@@ -1,4 +1,5 @@
 pub mod Entries
+pub mod Refusals
 pub mod Lists
 pub mod Constants
 pub mod Fields

@@ -46,7 +46,7 @@ use Rattle.rows_optional.specs.Constants.{geometry_type}
 use Rattle.rows_optional.specs.Fields.{Field, signedness, default_charset, column_charset, column_name, set_str_value, enum_str_value, geometry_types, simple_primary_key, primary_key_with_prefix, enum_and_set_default_charset, enum_and_set_column_charset, column_visibility, dimensionality, bits_from, read_field, tagged}
 use Rattle.rows_optional.specs.Members.{members}
 use Rattle.rows_optional.specs.Extracted.{Extracted}
-use Rattle.rows_optional.specs.Served.{CharsetEntry, of_column, plain, chained, pair_entry, number_entry, charset_after}
+use Rattle.rows_optional.specs.Served.{CharsetEntry, of_column, plain, chained, pair_entry, charset_after}
 
 -- the number of a character set has 16 bits; of a longer one the lowest 16 stay
 abbrev pub charset : ℕ → ℕ

@@ -11,6 +11,7 @@ mod entries;
 mod extractor;
 mod field;
 mod geometry_types;
+pub mod laws;
 mod names;
 mod primary_keys;
 mod served;

@@ -1,6 +1,4 @@
-use Rattle.std.proofs.Common.{sym, ap, Err, ◌∙◌}
-use Rattle.rows_values.specs.declared.fault.RowsError.{RowsError}
-use Rattle.rows_jsonb.specs.JsonbValues.{Reading}
+use Rattle.std.proofs.Common.{sym}
 use Rattle.rows_optional.proofs.EntryLemmas.{number_found, number_missing}
 use Rattle.rows_optional.proofs.entries.number_front.Goals as goal
 

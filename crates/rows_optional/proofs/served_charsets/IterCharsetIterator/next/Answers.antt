@@ -1,4 +1,4 @@
-use Rattle.std.proofs.Common.{ℕ, List, [], sym, ap, ◌∙◌}
+use Rattle.std.proofs.Common.{List, [], sym, ap, ◌∙◌}
 use Rattle.rows_jsonb.specs.JsonbValues.{Reading}
 use Rattle.rows_optional.specs.Served.{CharsetEntry, charset_after, next_index}
 use Rattle.rows_optional.specs.Views.{entries_left}

@@ -1,4 +1,4 @@
-use Rattle.std.proofs.Common.{sym, refl, inl, inr, ap, Some, Err}
+use Rattle.std.proofs.Common.{inl, inr, ap, Some, Err}
 use Rattle.rows_values.specs.declared.fault.RowsError.{RowsError}
 use Rattle.rows_optional.specs.Members.{members_at}
 use Rattle.rows_optional.proofs.EntryLemmas.{members-takes}
