@@ -13,7 +13,7 @@ use Rattle.rows_values.specs.declared.fault.RowsError.{RowsError}
 use Rattle.rows_values.specs.declared.fault.RowsError.TheVariants.{EndOfBody}
 use Rattle.rows_jsonb.specs.JsonbValues.{Reading, ◌>>=◌}
 use Rattle.rows_optional.specs.Entries.{found, front, number_at, string_at, pair_at}
-use Rattle.rows_optional.specs.Fields.{tagged_at}
+use Rattle.rows_optional.specs.MetadataFields.{tagged_at}
 use Rattle.rows_optional.specs.Members.{strings_in, members_at}
 use Rattle.rows_optional.specs.Lists.{TakesBytes}
 

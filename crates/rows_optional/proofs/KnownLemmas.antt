@@ -10,7 +10,7 @@ use Rattle.rows_consts.specs.declared.optional_metadata_field_type.OptionalMetad
 use Rattle.rows_consts.specs.declared.optional_metadata_field_type.OptionalMetadataFieldType.TheVariants.{SIGNEDNESS, DEFAULT_CHARSET, COLUMN_CHARSET, COLUMN_NAME, SET_STR_VALUE, ENUM_STR_VALUE, GEOMETRY_TYPE, SIMPLE_PRIMARY_KEY, PRIMARY_KEY_WITH_PREFIX, ENUM_AND_SET_DEFAULT_CHARSET, ENUM_AND_SET_COLUMN_CHARSET, COLUMN_VISIBILITY, VECTOR_DIMENSIONALITY}
 use Rattle.rows_values.specs.declared.fault.RowsError.TheVariants.{UnknownNumber}
 use Rattle.rows_optional.specs.Entries.{found}
-use Rattle.rows_optional.specs.Constants.{geometry_type, geometry_types, field_type, field_types}
+use Rattle.rows_optional.specs.KnownConstants.{geometry_type, geometry_types, field_type, field_types}
 
 pub none_in : {A : Type 0} (number : A → ℕ) (n : ℕ) (ts : List A) → ((t : A) → number t ≡ n → ⊥) → find (λ t. number t == n) ts ≡ None
 none_in number n [] h = refl

@@ -3,7 +3,7 @@ use Rattle.std.proofs.Common.{◌≡◌, ◌↔◌, ℕ, List, [], ◌∷◌, �
 use Rattle.wire_buf.specs.Spelling.{Begins}
 use Rattle.wire_buf.specs.Numbers.{IsLenenc}
 use Rattle.rows_optional.specs.Entries.{NumberForm, StringForm, PairForm, front, number_at, string_at, pair_at}
-use Rattle.rows_optional.specs.Fields.{FieldForm, tagged_at}
+use Rattle.rows_optional.specs.MetadataFields.{FieldForm, tagged_at}
 use Rattle.rows_optional.proofs.EntryLemmas.{bind-ok, ok_pair, front-is, front-here, number-is, number-here}
 
 -- ---- entries

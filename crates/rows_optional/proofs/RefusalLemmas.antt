@@ -9,7 +9,7 @@ use Rattle.rows_values.specs.declared.fault.RowsError.{RowsError}
 use Rattle.rows_values.specs.declared.fault.RowsError.TheVariants.{EndOfBody}
 use Rattle.rows_jsonb.specs.JsonbValues.{Reading, ◌>>=◌}
 use Rattle.rows_optional.specs.Entries.{NumberForm, StringForm, PairForm, found, number_at, string_at, pair_at}
-use Rattle.rows_optional.specs.Refusals.{NumberRefusal, StringRefusal, PairRefusal}
+use Rattle.rows_optional.specs.EntryRefusals.{NumberRefusal, StringRefusal, PairRefusal}
 use Rattle.rows_optional.proofs.EntryLemmas.{number-is, number-here, number_missing}
 use Rattle.rows_optional.proofs.LawLemmas.{string-law}
 

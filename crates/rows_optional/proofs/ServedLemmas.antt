@@ -5,7 +5,7 @@ use Rattle.rows_jsonb.specs.JsonbValues.{Reading}
 use Rattle.rows_jsonb.specs.JsonbViews.{shown}
 use Rattle.std.specs.Prelude.{◌==◌}
 use Rattle.std.proofs.lemmas.Bool.Decides.{eqb_tells}
-use Rattle.rows_optional.specs.Views.{charset}
+use Rattle.rows_optional.specs.MetadataViews.{charset}
 use Rattle.rows_optional.specs.Lists.{numbers, pairs, items_in, items_of}
 use Rattle.rows_optional.specs.Served.{CharsetEntry, of_column, plain, chained, pair_entry, number_entry, key_indexes, charset_entries, default_item, next_index, charset_after}
 

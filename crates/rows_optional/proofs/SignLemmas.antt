@@ -3,8 +3,8 @@ use Rattle.std.proofs.Common.{◌≡◌, ◌≤◌, ◌<◌, ℕ, suc, ◌+◌, 
 use Rattle.std.specs.Iterator.{YieldsFirst}
 use Rattle.rows_values.specs.BitLists.{bit_of, len_of, bit_at}
 use Rattle.rows_optional.specs.declared.served.IterSignedness.{IterSignedness}
-use Rattle.rows_optional.specs.Views.{signs_left}
-use Rattle.rows_optional.specs.Fields.{bits_from}
+use Rattle.rows_optional.specs.MetadataViews.{signs_left}
+use Rattle.rows_optional.specs.MetadataFields.{bits_from}
 
 pub no_bits : (f : ℕ → Bool) (k n : ℕ) → n ≡ 0 → bits_from f k n ≡ []
 unfolding bits_from

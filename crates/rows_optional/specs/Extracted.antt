@@ -2,7 +2,7 @@
 use Rattle.std.specs.Prelude.{ℕ, Bool, List, [], ◌∷◌, Option, Some, None}
 use Rattle.std.specs.declared.result.Result.TheVariants.{Ok}
 use Rattle.rows_jsonb.specs.JsonbValues.{Reading, ◌>>=◌}
-use Rattle.rows_optional.specs.Fields.{Field, signedness, default_charset, column_charset, column_name, simple_primary_key, primary_key_with_prefix, enum_and_set_default_charset, enum_and_set_column_charset}
+use Rattle.rows_optional.specs.MetadataFields.{Field, signedness, default_charset, column_charset, column_name, simple_primary_key, primary_key_with_prefix, enum_and_set_default_charset, enum_and_set_column_charset}
 
 -- all values, or the first fault
 abbrev pub all_read : {A : Type 0} → List (Reading A) → Reading (List A)

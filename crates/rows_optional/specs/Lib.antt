@@ -1,9 +1,9 @@
 pub mod Entries
-pub mod Refusals
+pub mod EntryRefusals
 pub mod Lists
-pub mod Constants
-pub mod Fields
+pub mod KnownConstants
+pub mod MetadataFields
 pub mod Members
 pub mod Extracted
 pub mod Served
-pub mod Views
+pub mod MetadataViews

@@ -5,7 +5,7 @@ ghost use Rattle.std.specs.Iterator.{YieldsFirst, YieldsFirstBy, item_count};
 ghost use Rattle.rows_jsonb.specs.JsonbViews.{shown};
 ghost use Rattle.rows_optional.specs.Entries.{number_at};
 ghost use Rattle.rows_optional.specs.Lists.{numbers, pairs};
-ghost use Rattle.rows_optional.specs.Views.{charset as charset_of, default_charset_view, non_default_view, non_default_left, charsets_left};
+ghost use Rattle.rows_optional.specs.MetadataViews.{charset as charset_of, default_charset_view, non_default_view, non_default_left, charsets_left};
 
 use crate::entries::{Entries, number_front};
 use rows_values::RowsError;

@@ -3,7 +3,7 @@
 ghost use Rattle.std.specs.Prelude.{◌≡◌};
 ghost use Rattle.std.specs.Iterator.{YieldsFirst, item_count};
 ghost use Rattle.rows_optional.specs.Lists.{numbers};
-ghost use Rattle.rows_optional.specs.Views.{dimensionalities_left};
+ghost use Rattle.rows_optional.specs.MetadataViews.{dimensionalities_left};
 
 use crate::entries::Entries;
 use rows_values::RowsError;

@@ -6,7 +6,7 @@ ghost use Rattle.wire_ints.specs.Faults.{lenenc_fault};
 ghost use Rattle.rows_values.specs.Faults.{rows_error};
 ghost use Rattle.rows_jsonb.specs.JsonbViews.{shown};
 ghost use Rattle.rows_optional.specs.Entries.{number_at, string_at, pair_at};
-ghost use Rattle.rows_optional.specs.Fields.{tagged_at, tagged};
+ghost use Rattle.rows_optional.specs.MetadataFields.{tagged_at, tagged};
 ghost use Rattle.rows_optional.specs.Lists.{numbers, strings, pairs};
 
 use rows_values::RowsError;

@@ -5,7 +5,7 @@ ghost use Rattle.rows_jsonb.specs.JsonbViews.{shown};
 ghost use Rattle.rows_optional.specs.Lists.{strings};
 ghost use Rattle.rows_optional.specs.Extracted.{extracted, with_field, nothing};
 ghost use Rattle.rows_optional.specs.Served.{bytes_or_none, key_indexes, charset_item, signs_or_none};
-ghost use Rattle.rows_optional.specs.Views.{field_view, fields_left, extracted_view, names_left, signs_left, primary_key_left, GivesCharsets};
+ghost use Rattle.rows_optional.specs.MetadataViews.{field_view, fields_left, extracted_view, names_left, signs_left, primary_key_left, GivesCharsets};
 
 use crate::charsets::{ColumnCharsets, DefaultCharset};
 use crate::field::{OptionalMetadataField, OptionalMetadataIter};

@@ -3,9 +3,9 @@
 ghost use Rattle.std.specs.Prelude.{◌≡◌, count_by, length};
 ghost use Rattle.std.specs.Iterator.{YieldsFirstBy, item_count};
 ghost use Rattle.rows_jsonb.specs.JsonbViews.{shown};
-ghost use Rattle.rows_optional.specs.Constants.{field_type};
-ghost use Rattle.rows_optional.specs.Fields.{field_of as field_of_type, field_in, fields, bits_in, is_numeric_number, numeric_count};
-ghost use Rattle.rows_optional.specs.Views.{bits_view, field_view, fields_left};
+ghost use Rattle.rows_optional.specs.KnownConstants.{field_type};
+ghost use Rattle.rows_optional.specs.MetadataFields.{field_of as field_of_type, field_in, fields, bits_in, is_numeric_number, numeric_count};
+ghost use Rattle.rows_optional.specs.MetadataViews.{bits_view, field_view, fields_left};
 
 use crate::charsets::{ColumnCharsets, DefaultCharset};
 use crate::dimensionalities::VectorDimensionalities;

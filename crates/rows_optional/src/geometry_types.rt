@@ -2,9 +2,9 @@
 
 ghost use Rattle.std.specs.Prelude.{◌≡◌, ◌%◌, map};
 ghost use Rattle.std.specs.Iterator.{YieldsFirst, item_count};
-ghost use Rattle.rows_optional.specs.Constants.{geometry_type};
+ghost use Rattle.rows_optional.specs.KnownConstants.{geometry_type};
 ghost use Rattle.rows_optional.specs.Lists.{numbers};
-ghost use Rattle.rows_optional.specs.Views.{geometry, geometry_types_left};
+ghost use Rattle.rows_optional.specs.MetadataViews.{geometry, geometry_types_left};
 
 use crate::entries::Entries;
 use rows_values::RowsError;

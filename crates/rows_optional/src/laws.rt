@@ -4,8 +4,8 @@ ghost use Rattle.std.specs.Prelude.{◌≡◌, ◌↔◌, ℕ, List, Ok};
 ghost use Rattle.wire_buf.specs.Spelling.{Begins};
 ghost use Rattle.rows_jsonb.specs.JsonbValues.{Reading};
 ghost use Rattle.rows_optional.specs.Entries.{NumberForm, StringForm, PairForm, number_at, string_at, pair_at};
-ghost use Rattle.rows_optional.specs.Fields.{FieldForm, tagged_at};
-ghost use Rattle.rows_optional.specs.Refusals.{NumberRefusal, StringRefusal, PairRefusal};
+ghost use Rattle.rows_optional.specs.MetadataFields.{FieldForm, tagged_at};
+ghost use Rattle.rows_optional.specs.EntryRefusals.{NumberRefusal, StringRefusal, PairRefusal};
 ghost use Rattle.rows_optional.specs.Lists.{AreItems, numbers, strings, pairs};
 
 /// The entry that is read at the front of bytes is the one that they spell there, whatever follows it.

@@ -6,7 +6,7 @@ ghost use Rattle.std.specs.Iterator.{YieldsFirstBy, item_count};
 ghost use Rattle.std.specs.Str.Lossy.{utf8_lossy};
 ghost use Rattle.rows_jsonb.specs.JsonbViews.{shown};
 ghost use Rattle.rows_optional.specs.Lists.{strings};
-ghost use Rattle.rows_optional.specs.Views.{name_view, names_left};
+ghost use Rattle.rows_optional.specs.MetadataViews.{name_view, names_left};
 
 use crate::entries::Entries;
 use rows_values::RowsError;

@@ -4,7 +4,7 @@ ghost use Rattle.std.specs.Prelude.{◌≡◌};
 ghost use Rattle.std.specs.Iterator.{YieldsFirst, YieldsFirstBy, item_count};
 ghost use Rattle.rows_jsonb.specs.JsonbViews.{shown};
 ghost use Rattle.rows_optional.specs.Lists.{numbers, pairs};
-ghost use Rattle.rows_optional.specs.Views.{key_view, indexes_left, keys_left};
+ghost use Rattle.rows_optional.specs.MetadataViews.{key_view, indexes_left, keys_left};
 
 use crate::entries::Entries;
 use rows_values::RowsError;

@@ -4,7 +4,7 @@ ghost use Rattle.std.specs.Prelude.{◌≡◌, ◌-◌, [], option_map};
 ghost use Rattle.std.specs.Iterator.{YieldsFirst, at_most, item_count};
 ghost use Rattle.rows_values.specs.BitLists.{len_of};
 ghost use Rattle.rows_optional.specs.Served.{key_indexes, first_of};
-ghost use Rattle.rows_optional.specs.Views.{bits_view, signs_left, indexes_view, keys_view, key_indexes_left, primary_key_left};
+ghost use Rattle.rows_optional.specs.MetadataViews.{bits_view, signs_left, indexes_view, keys_view, key_indexes_left, primary_key_left};
 
 use crate::primary_keys::{IterIndexes, IterKeys, PrimaryKeysWithPrefix, SimplePrimaryKey};
 use rows_values::{Bits, RowsError};

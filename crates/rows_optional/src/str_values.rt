@@ -6,7 +6,7 @@ ghost use Rattle.std.specs.Iterator.{at_most};
 ghost use Rattle.std.specs.Str.Lossy.{utf8_lossy};
 ghost use Rattle.rows_values.specs.declared.fault.RowsError.TheVariants.{Memory};
 ghost use Rattle.rows_optional.specs.Members.{members, members_at};
-ghost use Rattle.rows_optional.specs.Views.{value_view, values_view, members_left, GivesMembers};
+ghost use Rattle.rows_optional.specs.MetadataViews.{value_view, values_view, members_left, GivesMembers};
 
 use crate::entries::{number_front, string_front};
 use rows_values::RowsError;

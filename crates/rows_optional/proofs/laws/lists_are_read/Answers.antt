@@ -1,5 +1,5 @@
 use Rattle.rows_optional.specs.Entries.{NumberForm, StringForm, PairForm, number_at, string_at, pair_at}
-use Rattle.rows_optional.specs.Refusals.{NumberRefusal, StringRefusal, PairRefusal}
+use Rattle.rows_optional.specs.EntryRefusals.{NumberRefusal, StringRefusal, PairRefusal}
 use Rattle.rows_optional.proofs.EntryLemmas.{number-takes, string-takes, pair-takes}
 use Rattle.rows_optional.proofs.LawLemmas.{number-law, string-law, pair-law}
 use Rattle.rows_optional.proofs.RefusalLemmas.{number-refused, number-why, string-refused, string-why, pair-refused, pair-why}

@@ -1,5 +1,5 @@
 use Rattle.std.proofs.Common.{ℕ, List, map, sym, ap, inr, ◌∙◌, ◌-◌, ◌+◌}
-use Rattle.rows_optional.specs.Views.{value_view}
+use Rattle.rows_optional.specs.MetadataViews.{value_view}
 use Rattle.rows_optional.proofs.EntryLemmas.{members-takes}
 use Rattle.rows_optional.proofs.MemberLemmas.{with_strings, string-read, string-refused, strings-begin, strings-end, members-are, member-kept}
 use Rattle.rows_optional.proofs.str_values.members_front.Goals as goal

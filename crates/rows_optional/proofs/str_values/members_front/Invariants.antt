@@ -1,6 +1,6 @@
 use Rattle.std.proofs.Common.{◌≡◌, ◌-◌, map}
 use Rattle.rows_optional.specs.Members.{strings_in}
-use Rattle.rows_optional.specs.Views.{value_view}
+use Rattle.rows_optional.specs.MetadataViews.{value_view}
 use Rattle.rows_optional.proofs.MemberLemmas.{with_strings}
 use Rattle.rows_optional.proofs.str_values.members_front.Given as goal
 

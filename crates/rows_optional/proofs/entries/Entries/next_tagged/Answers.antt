@@ -1,5 +1,5 @@
 use Rattle.std.proofs.Common.{sym}
-use Rattle.rows_optional.specs.Fields.{tagged_at}
+use Rattle.rows_optional.specs.MetadataFields.{tagged_at}
 use Rattle.rows_optional.proofs.EntryLemmas.{tagged-takes}
 use Rattle.rows_optional.proofs.ListLemmas.{items-none, items-ok, items-err}
 use Rattle.rows_optional.proofs.entries.Entries.next_tagged.Goals as goal

@@ -1,5 +1,5 @@
 use Rattle.std.proofs.Common.{sym, ap, ◌∙◌}
-use Rattle.rows_optional.specs.Views.{field_view, fields_left, extracted_view}
+use Rattle.rows_optional.specs.MetadataViews.{field_view, fields_left, extracted_view}
 use Rattle.rows_optional.specs.Extracted.{Extracted}
 use Rattle.rows_optional.proofs.ExtractLemmas.{onward, onward-ok}
 use Rattle.rows_optional.proofs.extractor.OptionalMetaExtractor.new.Goals as goal

@@ -1,6 +1,6 @@
 use Rattle.std.proofs.Common.{◌≡◌}
 use Rattle.rows_optional.specs.Extracted.{extracted}
-use Rattle.rows_optional.specs.Views.{fields_left, extracted_view}
+use Rattle.rows_optional.specs.MetadataViews.{fields_left, extracted_view}
 use Rattle.rows_optional.proofs.ExtractLemmas.{onward}
 use Rattle.rows_optional.proofs.extractor.OptionalMetaExtractor.new.Given as goal
 

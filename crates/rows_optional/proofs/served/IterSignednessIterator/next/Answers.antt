@@ -1,5 +1,5 @@
 use Rattle.std.proofs.Common.{◌≡◌, [], arith, refl}
-use Rattle.rows_optional.specs.Views.{signs_left}
+use Rattle.rows_optional.specs.MetadataViews.{signs_left}
 use Rattle.rows_optional.proofs.SignLemmas.{bits-none, sign_given}
 use Rattle.rows_optional.proofs.served.IterSignednessIterator.next.Goals as goal
 

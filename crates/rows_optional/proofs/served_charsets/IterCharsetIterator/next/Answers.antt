@@ -1,7 +1,7 @@
 use Rattle.std.proofs.Common.{List, [], sym, ap, ◌∙◌}
 use Rattle.rows_jsonb.specs.JsonbValues.{Reading}
 use Rattle.rows_optional.specs.Served.{CharsetEntry, charset_after, next_index}
-use Rattle.rows_optional.specs.Views.{entries_left}
+use Rattle.rows_optional.specs.MetadataViews.{entries_left}
 use Rattle.rows_optional.proofs.ServedLemmas.{default-first, default-then, fault-first, fault-then, plain-first, plain-then, same-first, same-then, other-first, other-then}
 use Rattle.rows_optional.proofs.served_charsets.IterCharsetIterator.next.Goals as goal
 

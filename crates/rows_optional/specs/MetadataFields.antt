@@ -12,7 +12,7 @@ use Rattle.rows_jsonb.specs.AllColumnTypes.{column_types}
 use Rattle.rows_jsonb.specs.JsonbValues.{Reading, ◌>>=◌}
 use Rattle.rows_optional.specs.Entries.{StringForm, front, number_at, string_at}
 use Rattle.rows_optional.specs.Lists.{items_of}
-use Rattle.rows_optional.specs.Constants.{field_type}
+use Rattle.rows_optional.specs.KnownConstants.{field_type}
 
 -- n bits, from the bit of index k on
 unfoldable pub bits_from : (ℕ → Bool) → ℕ → ℕ → List Bool

@@ -42,8 +42,8 @@ use Rattle.rows_optional.specs.declared.served_charsets.NextEntry.TheVariants as
 use Rattle.rows_optional.specs.declared.served_charsets.CharsetEntries.{CharsetEntries}
 use Rattle.rows_optional.specs.declared.served_charsets.IterCharset.{IterCharset}
 use Rattle.rows_optional.specs.Lists.{numbers, strings, pairs}
-use Rattle.rows_optional.specs.Constants.{geometry_type}
-use Rattle.rows_optional.specs.Fields.{Field, signedness, default_charset, column_charset, column_name, set_str_value, enum_str_value, geometry_types, simple_primary_key, primary_key_with_prefix, enum_and_set_default_charset, enum_and_set_column_charset, column_visibility, dimensionality, bits_from, read_field, tagged}
+use Rattle.rows_optional.specs.KnownConstants.{geometry_type}
+use Rattle.rows_optional.specs.MetadataFields.{Field, signedness, default_charset, column_charset, column_name, set_str_value, enum_str_value, geometry_types, simple_primary_key, primary_key_with_prefix, enum_and_set_default_charset, enum_and_set_column_charset, column_visibility, dimensionality, bits_from, read_field, tagged}
 use Rattle.rows_optional.specs.Members.{members}
 use Rattle.rows_optional.specs.Extracted.{Extracted}
 use Rattle.rows_optional.specs.Served.{CharsetEntry, of_column, plain, chained, pair_entry, charset_after}
