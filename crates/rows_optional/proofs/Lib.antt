@@ -9,3 +9,4 @@ pub mod ServedLemmas
 pub mod LawLemmas
 pub mod RefusalLemmas
 pub mod ItemLemmas
+pub mod MemberLawLemmas

@@ -1,16 +1,29 @@
 -- The members of ENUM and SET columns.
-use Rattle.std.specs.Prelude.{ℕ, zero, suc, List, [], ◌∷◌, length}
+use Rattle.std.specs.Prelude.{◌≡◌, ◌++◌, ℕ, zero, suc, List, [], ◌∷◌, length}
 use Rattle.std.specs.declared.result.Result.TheVariants.{Ok}
-use Rattle.wire_buf.specs.Spelling.{ByteForm, IsSequence, Follows}
+use Rattle.wire_buf.specs.Spelling.{ByteForm, Alone}
+use Rattle.wire_buf.specs.Numbers.{IsLenenc, IsLenencString}
 use Rattle.rows_jsonb.specs.JsonbValues.{Reading, ◌>>=◌}
-use Rattle.rows_optional.specs.Entries.{NumberForm, StringForm, number_at, string_at}
+use Rattle.rows_optional.specs.Entries.{number_at, string_at}
 use Rattle.rows_optional.specs.Lists.{items_of}
 
--- the form of a column's members: their count, and that many strings
-abbrev pub MembersForm : ByteForm (List (List ℕ))
-MembersForm members bytes rest = Follows NumberForm (IsSequence (length members) StringForm) (length members) members bytes rest
+-- strings, one after the other
+abbrev pub AreStrings : List (List ℕ) → List ℕ → Type 0
+AreStrings [] bytes = bytes ≡ []
+AreStrings (v ∷ vs) bytes = (own : List ℕ) × (more : List ℕ) × (bytes ≡ own ++ more) × IsLenencString v own × AreStrings vs more
 
--- The rest of this file computes what `MembersForm` says.
+-- the form of a column's members: their count, and that many strings
+pub record AreMembers (members : List (List ℕ)) (bytes : List ℕ) : Type 0 where
+  pub count : List ℕ
+  pub strings : List ℕ
+  pub joined : bytes ≡ count ++ strings
+  pub count_is : IsLenenc (length members) count
+  pub strings_are : AreStrings members strings
+
+abbrev pub MembersForm : ByteForm (List (List ℕ))
+MembersForm = Alone AreMembers
+
+-- The rest of this file computes what `MembersForm` says, as the law `entries_are_read` has it.
 
 -- n strings, one after the other, and what follows them
 unfoldable pub strings_in : ℕ → List ℕ → Reading (List (List ℕ) × List ℕ)

@@ -5,6 +5,7 @@ ghost use Rattle.wire_buf.specs.Spelling.{Begins};
 ghost use Rattle.rows_jsonb.specs.JsonbValues.{Reading};
 ghost use Rattle.rows_optional.specs.Entries.{NumberForm, StringForm, PairForm, number_at, string_at, pair_at};
 ghost use Rattle.rows_optional.specs.MetadataFields.{FieldForm, tagged_at};
+ghost use Rattle.rows_optional.specs.Members.{MembersForm, members_at};
 ghost use Rattle.rows_optional.specs.EntryRefusals.{NumberRefusal, StringRefusal, PairRefusal};
 ghost use Rattle.rows_optional.specs.Lists.{AreItems, numbers, strings, pairs};
 
@@ -18,6 +19,8 @@ pub fn entries_are_read()
         → (pair_at bytes ≡ Ok (v, rest)) ↔ Begins PairForm v bytes rest }
     ensures fields { (v : ℕ × List ℕ) (bytes rest : List ℕ)
         → (tagged_at bytes ≡ Ok (v, rest)) ↔ Begins FieldForm v bytes rest }
+    ensures members { (v : List (List ℕ)) (bytes rest : List ℕ)
+        → (members_at bytes ≡ Ok (v, rest)) ↔ Begins MembersForm v bytes rest }
 {}
 
 /// The items of a list are its entries in order, and where bytes are left that begin with no entry, the fault

@@ -1,4 +1,5 @@
 use Rattle.rows_optional.proofs.LawLemmas.{number-law, string-law, pair-law, tagged-law}
+use Rattle.rows_optional.proofs.MemberLawLemmas.{members-law}
 use Rattle.rows_optional.proofs.laws.entries_are_read.Goals as goal
 
 pub returns-clause-numbers : goal.returns-clause-numbers
@@ -12,3 +13,6 @@ returns-clause-pairs c = pair-law
 
 pub returns-clause-fields : goal.returns-clause-fields
 returns-clause-fields c = tagged-law
+
+pub returns-clause-members : goal.returns-clause-members
+returns-clause-members c = members-law
