@@ -44,3 +44,12 @@ pub use Rattle.rows_cells.specs.Images
 pub use Rattle.rows_cells.specs.ImageViews
 pub use Rattle.rows_cells.specs.EventRows
 pub use Rattle.rows_cells.specs.RowViews
+pub use Rattle.rows_optional.specs.Entries
+pub use Rattle.rows_optional.specs.EntryRefusals
+pub use Rattle.rows_optional.specs.Lists
+pub use Rattle.rows_optional.specs.KnownConstants
+pub use Rattle.rows_optional.specs.MetadataFields
+pub use Rattle.rows_optional.specs.Members
+pub use Rattle.rows_optional.specs.Extracted
+pub use Rattle.rows_optional.specs.Served
+pub use Rattle.rows_optional.specs.MetadataViews

@@ -12,6 +12,7 @@ pub use rows_decimal::laws::{
     worked_decimals, worked_unpacking,
 };
 pub use rows_jsonb::laws::{worked_budget, worked_depth, worked_objects, worked_pointer};
+pub use rows_optional::laws::{entries_are_read, lists_are_read};
 pub use rows_values::laws::{
     equal_columns_and_times_are_the_same, equal_rows_are_the_same, equal_values_are_the_same,
     fields_stand_at_their_places, times_by_cases, worked_bits, worked_date_and_time, worked_time,

@@ -3,8 +3,9 @@
 //!
 //! Each thing is made in a part of its own, which is re-exported whole: `rows_consts` and `rows_flags` have
 //! the constants, `rows_values` times, values, columns, bits and the faults of rows, `rows_decimal` the
-//! decimals, `rows_jsonb` JSON documents, whose values are `jsonb::Value`, and `rows_cells` the cells of columns,
-//! the images of rows, and rows. The parts stand on those of `mysql_wire`.
+//! decimals, `rows_jsonb` JSON documents, whose values are `jsonb::Value`, `rows_cells` the cells of columns,
+//! the images of rows, and rows, and `rows_optional` the optional metadata of table maps. The parts stand on
+//! those of `mysql_wire`.
 #![tactic(auto)]
 
 pub mod laws;
@@ -104,6 +105,41 @@ pub use rows_jsonb::UnknownLiteralType;
 pub use rows_jsonb::check_json_diffs;
 pub use rows_jsonb::json_diffs;
 pub use rows_jsonb::{self as jsonb};
+pub use rows_optional::ColumnCharsets;
+pub use rows_optional::ColumnName;
+pub use rows_optional::ColumnNames;
+pub use rows_optional::ColumnsStrValues;
+pub use rows_optional::DefaultCharset;
+pub use rows_optional::EnumStrValue;
+pub use rows_optional::EnumStrValues;
+pub use rows_optional::EnumsStrValues;
+pub use rows_optional::GeometryTypes;
+pub use rows_optional::IterCharset;
+pub use rows_optional::IterCharsets;
+pub use rows_optional::IterEnumStrValues;
+pub use rows_optional::IterGeometryTypes;
+pub use rows_optional::IterIndexes;
+pub use rows_optional::IterKeys;
+pub use rows_optional::IterNames;
+pub use rows_optional::IterNonDefault;
+pub use rows_optional::IterPrimaryKey;
+pub use rows_optional::IterSetStrValues;
+pub use rows_optional::IterSignedness;
+pub use rows_optional::IterStrValues;
+pub use rows_optional::IterVectorDimensionalities;
+pub use rows_optional::NonDefaultCharset;
+pub use rows_optional::OptionalMetaExtractor;
+pub use rows_optional::OptionalMetadataField;
+pub use rows_optional::OptionalMetadataIter;
+pub use rows_optional::PrimaryKeyWithPrefix;
+pub use rows_optional::PrimaryKeysWithPrefix;
+pub use rows_optional::SetStrValue;
+pub use rows_optional::SetStrValues;
+pub use rows_optional::SetsStrValues;
+pub use rows_optional::SimplePrimaryKey;
+pub use rows_optional::StrValue;
+pub use rows_optional::StrValues;
+pub use rows_optional::VectorDimensionalities;
 pub use rows_values::Bits;
 pub use rows_values::BitsIter;
 pub use rows_values::Column;

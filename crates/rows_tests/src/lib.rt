@@ -25,6 +25,8 @@ mod jsonb;
 #[cfg(test)]
 mod laws;
 #[cfg(test)]
+mod optional_metadata;
+#[cfg(test)]
 mod packed_decimals;
 #[cfg(test)]
 mod rows;

@@ -1,0 +1,12 @@
+pub mod EntryLemmas
+pub mod ListLemmas
+pub mod KnownLemmas
+pub mod NumericLemmas
+pub mod ExtractLemmas
+pub mod SignLemmas
+pub mod MemberLemmas
+pub mod ServedLemmas
+pub mod LawLemmas
+pub mod RefusalLemmas
+pub mod ItemLemmas
+pub mod MemberLawLemmas

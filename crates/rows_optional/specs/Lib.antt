@@ -1,0 +1,9 @@
+pub mod Entries
+pub mod EntryRefusals
+pub mod Lists
+pub mod KnownConstants
+pub mod MetadataFields
+pub mod Members
+pub mod Extracted
+pub mod Served
+pub mod MetadataViews

@@ -1,0 +1,70 @@
+//! The types of geometry columns.
+
+ghost use Rattle.std.specs.Prelude.{◌≡◌, ◌%◌, map};
+ghost use Rattle.std.specs.Iterator.{YieldsFirst, item_count};
+ghost use Rattle.rows_optional.specs.KnownConstants.{geometry_type};
+ghost use Rattle.rows_optional.specs.Lists.{numbers};
+ghost use Rattle.rows_optional.specs.MetadataViews.{geometry, geometry_types_left};
+
+use crate::entries::Entries;
+use rows_values::RowsError;
+use wire_consts::GeometryType;
+
+/// The type of each geometry column, in the field `GEOMETRY_TYPE`.
+#[derive(Clone, Copy, PartialEq, Eq)]
+pub struct GeometryTypes<'a> {
+    geometry_types: &'a [u8],
+}
+
+impl<'a> GeometryTypes<'a> {
+    /// The types in the value of a field: length-encoded integers.
+    pub(crate) fn of_value(value: &'a [u8]) -> GeometryTypes<'a>
+        ensures { result.geometry_types ≡ value.entry }
+    {
+        GeometryTypes {
+            geometry_types: value,
+        }
+    }
+
+    /// The types, in the order of the geometry columns.
+    pub fn iter_geometry_types(&self) -> IterGeometryTypes<'a>
+        ensures { geometry_types_left result ≡ map geometry (numbers self.now.geometry_types.now) }
+    {
+        IterGeometryTypes {
+            entries: Entries::of(self.geometry_types),
+        }
+    }
+}
+
+/// The entries of [`GeometryTypes::iter_geometry_types`], by the lowest 8 bits of their numbers. A number that
+/// no type has is `UnknownNumber`, and the next entries follow; an entry that can't be read is the last.
+#[derive(Clone, Copy)]
+pub struct IterGeometryTypes<'a> {
+    entries: Entries<'a>,
+}
+
+impl<'a> Iterator for IterGeometryTypes<'a> {
+    type Item = Result<GeometryType, RowsError>;
+
+    ghost next_gives = { YieldsFirst geometry_types_left };
+
+    ghost remaining = { item_count geometry_types_left };
+
+    fn next(&mut self) -> Option<Result<GeometryType, RowsError>> {
+        match self.entries.next_number() {
+            Some(Ok(number)) => Some(type_of((number % 256) as u8)),
+            Some(Err(fault)) => Some(Err(fault)),
+            None => None,
+        }
+    }
+}
+
+/// The type that has the number.
+fn type_of(number: u8) -> Result<GeometryType, RowsError>
+    ensures { result ≡ geometry_type number }
+{
+    match GeometryType::try_from(number) {
+        Ok(known) => Ok(known),
+        Err(_) => Err(RowsError::UnknownNumber),
+    }
+}

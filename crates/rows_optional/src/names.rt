@@ -1,0 +1,103 @@
+//! The names of columns.
+
+ghost use Rattle.std.specs.Prelude.{◌≡◌, IfOk};
+ghost use Rattle.std.specs.Cow.{cow_slice_items, cow_str_bytes, IsOwnedSlice};
+ghost use Rattle.std.specs.Iterator.{YieldsFirstBy, item_count};
+ghost use Rattle.std.specs.Str.Lossy.{utf8_lossy};
+ghost use Rattle.rows_jsonb.specs.JsonbViews.{shown};
+ghost use Rattle.rows_optional.specs.Lists.{strings};
+ghost use Rattle.rows_optional.specs.MetadataViews.{name_view, names_left};
+
+use crate::entries::Entries;
+use rows_values::RowsError;
+use std::alloc::{AllocError, Global};
+use std::borrow::{CowSlice, CowStr};
+use wire_forms::RawBytes;
+use wire_ints::LenEnc;
+
+/// The name of a column, which may not be UTF-8.
+#[derive(PartialEq, Eq, Drop)]
+pub struct ColumnName<'a> {
+    name: RawBytes<'a, LenEnc>,
+}
+
+impl<'a> ColumnName<'a> {
+    /// A column's name of these bytes.
+    pub fn new(name: CowSlice<'a, u8>) -> ColumnName<'a>
+        ensures { name_view result ≡ cow_slice_items name.entry }
+    {
+        ColumnName {
+            name: RawBytes::new(name),
+        }
+    }
+
+    /// The bytes of the name.
+    pub fn name_raw(&self) -> &[u8]
+        ensures { result.now ≡ name_view self.now }
+    {
+        self.name.as_bytes()
+    }
+
+    /// The name as text, with replacement characters where it isn't UTF-8.
+    pub fn name(&self, alloc: Global) -> Result<CowStr<'_>, AllocError>
+        ensures { IfOk result (λ t. cow_str_bytes t ≡ utf8_lossy (name_view self.now)) }
+    {
+        self.name.as_str(alloc)
+    }
+
+    /// The same name, borrowed from nothing.
+    pub fn into_owned(self, alloc: Global) -> Result<ColumnName<'static>, AllocError>
+        ensures name { IfOk result (λ n. name_view n ≡ name_view self.entry) }
+        ensures owned { IfOk result (λ n. IsOwnedSlice n.name.0) }
+    {
+        Ok(ColumnName {
+            name: self.name.into_owned(alloc)?,
+        })
+    }
+}
+
+/// The names of the columns, in the field `COLUMN_NAME`.
+#[derive(Clone, Copy, PartialEq, Eq)]
+pub struct ColumnNames<'a> {
+    names: &'a [u8],
+}
+
+impl<'a> ColumnNames<'a> {
+    /// The names in the value of a field: length-encoded strings.
+    pub(crate) fn of_value(value: &'a [u8]) -> ColumnNames<'a>
+        ensures { result.names ≡ value.entry }
+    {
+        ColumnNames { names: value }
+    }
+
+    /// The names, in the order of the columns.
+    pub fn iter_names(&self) -> IterNames<'a>
+        ensures { names_left result ≡ strings self.now.names.now }
+    {
+        IterNames {
+            entries: Entries::of(self.names),
+        }
+    }
+}
+
+/// The entries of [`ColumnNames::iter_names`], borrowed. One that can't be read is the last.
+#[derive(Clone, Copy)]
+pub struct IterNames<'a> {
+    entries: Entries<'a>,
+}
+
+impl<'a> Iterator for IterNames<'a> {
+    type Item = Result<ColumnName<'a>, RowsError>;
+
+    ghost next_gives = { YieldsFirstBy (shown name_view) names_left };
+
+    ghost remaining = { item_count names_left };
+
+    fn next(&mut self) -> Option<Result<ColumnName<'a>, RowsError>> {
+        match self.entries.next_string() {
+            Some(Ok(name)) => Some(Ok(ColumnName::new(CowSlice::Borrowed(name)))),
+            Some(Err(fault)) => Some(Err(fault)),
+            None => None,
+        }
+    }
+}
