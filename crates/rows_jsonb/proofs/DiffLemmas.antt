@@ -1,8 +1,8 @@
 -- Changes at the front of bytes.
 use Rattle.std.proofs.Common.{◌≡◌, ◌++◌, ℕ, List, Option, Some, None, refl, sym, ap, subst, ◌∙◌}
 use Rattle.std.specs.declared.result.Result.TheVariants.{Ok, Err}
-use Rattle.wire_buf.specs.Spelling.{Begins, Reads, Lacks, Alone, Both, SameBoth, Equal}
-use Rattle.wire_buf.proofs.SpellingLemmas.{Lacks-both, Lacks-both_first, Reads-both, Lacks-then, Lacks-then_first, Reads-then}
+use Rattle.wire_buf.specs.Spelling.{Begins, Reads, Lacks, Alone, Both}
+use Rattle.wire_buf.proofs.SpellingLemmas.{Lacks-both, Lacks-both_first, Reads-both, Lacks-led_head, Lacks-led_tail, Reads-led}
 use Rattle.wire_buf.specs.Numbers.{IsLenencString}
 use Rattle.rows_values.specs.declared.fault.RowsError.{RowsError}
 use Rattle.rows_jsonb.specs.JsonbValues.{JsonbValue, Reading, document}
@@ -35,7 +35,7 @@ put_value REPLACE s bytes rest h v = v
 put_value INSERT s bytes rest h v = v
 
 -- the document of a value that stands there
-content_at : (s : JsonbValue) (bytes x rest : List ℕ) → x ≡ bytes ++ rest → (e : IsEmbedded s bytes) → Begins (Alone IsLenencString) e.content x rest
+content_at : (s : JsonbValue) (bytes x rest : List ℕ) → x ≡ bytes ++ rest → (e : IsEmbedded s bytes) → Begins (Alone IsLenencString e.content) x rest
 content_at s bytes x rest joined e = record { bytes = bytes; joined = joined; is = e.content_is }
 
 pub value_lacks_string : (op : JsonDiffOperation) (x : List ℕ) → Puts op → Lacks (Alone IsLenencString) x → Lacks (IsDiffValue op) x
@@ -43,14 +43,14 @@ value_lacks_string op x h lacks o rest b =
     let v = embedded op o b.bytes rest h b.is in
     lacks v.1.1.content rest (content_at v.0 b.bytes x rest b.joined v.1.1)
 
-pub value_lacks_document : (op : JsonDiffOperation) (content x after : List ℕ) (e : RowsError) → Puts op → Reads (Alone IsLenencString) Equal content x after → document content ≡ Err e → Lacks (IsDiffValue op) x
+pub value_lacks_document : (op : JsonDiffOperation) (content x after : List ℕ) (e : RowsError) → Puts op → Reads (Alone IsLenencString) content x after → document content ≡ Err e → Lacks (IsDiffValue op) x
 value_lacks_document op content x after e h reads fails o rest b =
     let v = embedded op o b.bytes rest h b.is in
     let same = (reads.only v.1.1.content rest (content_at v.0 b.bytes x rest b.joined v.1.1)).1 in
     let found : document content ≡ Ok v.0 = ap document same ∙ v.1.1.seen_is in
     absurd cc
 
-pub value_reads : (op : JsonDiffOperation) (content x after : List ℕ) (s : JsonbValue) → Puts op → Reads (Alone IsLenencString) Equal content x after → document content ≡ Ok s → Reads (IsDiffValue op) Equal (Some s) x after
+pub value_reads : (op : JsonDiffOperation) (content x after : List ℕ) (s : JsonbValue) → Puts op → Reads (Alone IsLenencString) content x after → document content ≡ Ok s → Reads (IsDiffValue op) (Some s) x after
 value_reads op content x after s h reads found = record {
   begins = record {
     bytes = reads.begins.bytes;
@@ -69,28 +69,27 @@ value_reads op content x after s h reads found = record {
 abbrev Tail : JsonDiffOperation → List ℕ × Option JsonbValue → List ℕ → List ℕ → Type 0
 Tail op = Both (Alone IsLenencString) (IsDiffValue op)
 
-keeps : (v w : JsonDiffOperation) (p : List ℕ × Option JsonbValue) (x r : List ℕ) → v ≡ w → Begins (Tail w) p x r → Begins (Tail v) p x r
-keeps v w p x r e b = subst (λ (op : JsonDiffOperation). Begins (Tail op) p x r) (sym e) b
+abbrev op_of : JsonDiffOperation × (List ℕ × Option JsonbValue) → JsonDiffOperation
+op_of d = d.0
+
+abbrev tail_of : JsonDiffOperation × (List ℕ × Option JsonbValue) → List ℕ × Option JsonbValue
+tail_of d = d.1
+
+abbrev diff_of : JsonDiffOperation → List ℕ × Option JsonbValue → JsonDiffOperation × (List ℕ × Option JsonbValue)
+diff_of op t = (op, t)
 
 pub diff_lacks_operation : (x : List ℕ) → Lacks IsOperation x → Lacks IsDiff x
-diff_lacks_operation x lacks = Lacks-then_first IsOperation Tail Equal keeps x lacks
+diff_lacks_operation x lacks = Lacks-led_head op_of tail_of diff_of (λ q. refl) IsOperation Tail x lacks
 
-pub diff_lacks_path : (op : JsonDiffOperation) (x m : List ℕ) → Reads IsOperation Equal op x m → Lacks (Alone IsLenencString) m → Lacks IsDiff x
-diff_lacks_path op x m reads lacks = Lacks-then IsOperation Tail Equal keeps op x m reads (Lacks-both_first (Alone IsLenencString) (IsDiffValue op) m lacks)
+pub diff_lacks_path : (op : JsonDiffOperation) (x m : List ℕ) → Reads IsOperation op x m → Lacks (Alone IsLenencString) m → Lacks IsDiff x
+diff_lacks_path op x m reads lacks = Lacks-led_tail op_of tail_of diff_of (λ q. refl) IsOperation Tail op x m reads (Lacks-both_first (Alone IsLenencString) (IsDiffValue op) m lacks)
 
-pub diff_lacks_value : (op : JsonDiffOperation) (path x m r : List ℕ) → Reads IsOperation Equal op x m → Reads (Alone IsLenencString) Equal path m r → Lacks (IsDiffValue op) r → Lacks IsDiff x
+pub diff_lacks_value : (op : JsonDiffOperation) (path x m r : List ℕ) → Reads IsOperation op x m → Reads (Alone IsLenencString) path m r → Lacks (IsDiffValue op) r → Lacks IsDiff x
 diff_lacks_value op path x m r reads path_reads lacks =
-    Lacks-then IsOperation Tail Equal keeps op x m reads (Lacks-both (Alone IsLenencString) (IsDiffValue op) Equal path m r path_reads lacks)
+    Lacks-led_tail op_of tail_of diff_of (λ q. refl) IsOperation Tail op x m reads (Lacks-both (Alone IsLenencString) (IsDiffValue op) path m r path_reads lacks)
 
-all_same : (op : JsonDiffOperation) (path : List ℕ) (o : Option JsonbValue) (d : JsonDiffOperation × (List ℕ × Option JsonbValue)) → (op ≡ d.0) × ((path ≡ d.1.0) × (o ≡ d.1.1))
-    → ◌≡◌ {A = JsonDiffOperation × (List ℕ × Option JsonbValue)} (op, (path, o)) d
-all_same op path o d h = rw (h.0, h.1.0, h.1.1) refl
-
-pub diff_reads : (op : JsonDiffOperation) (path : List ℕ) (o : Option JsonbValue) (x m r after : List ℕ) → Reads IsOperation Equal op x m → Reads (Alone IsLenencString) Equal path m r → Reads (IsDiffValue op) Equal o r after
-    → Reads IsDiff Equal (op, (path, o)) x after
+pub diff_reads : (op : JsonDiffOperation) (path : List ℕ) (o : Option JsonbValue) (x m r after : List ℕ) → Reads IsOperation op x m → Reads (Alone IsLenencString) path m r → Reads (IsDiffValue op) o r after
+    → Reads IsDiff (op, (path, o)) x after
 diff_reads op path o x m r after first second third =
-    let whole = Reads-then IsOperation Tail Equal keeps (SameBoth Equal Equal) op (path, o) x m after first (Reads-both (Alone IsLenencString) (IsDiffValue op) Equal Equal path o m r after second third) in
-    record {
-      begins = whole.begins;
-      only = λ d rest b. let h = whole.only d rest b in (h.0, all_same op path o d h.1);
-    }
+    Reads-led op_of tail_of diff_of (λ q. refl) IsOperation Tail op (path, o) x m after first
+    (Reads-both (Alone IsLenencString) (IsDiffValue op) path o m r after second third) (λ bytes rest h. refl) refl

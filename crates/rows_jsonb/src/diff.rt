@@ -3,10 +3,9 @@
 ghost use Rattle.std.specs.Prelude.{◌≡◌, IfOk, IfErr, IfSome, IfNone, option_map};
 ghost use Rattle.std.specs.Cow.{cow_str_bytes, IsOwnedSlice};
 ghost use Rattle.std.specs.Str.Lossy.{utf8_lossy};
-ghost use Rattle.wire_buf.specs.Spelling.{Equal, SameBy, Holding, Reads, Lacks};
+ghost use Rattle.wire_buf.specs.Spelling.{Reads, Lacks};
 ghost use Rattle.wire_consts.specs.Numbering.{IsConstantOf};
 ghost use Rattle.wire_forms.specs.RawTexts.{text_of};
-ghost use Rattle.rows_values.specs.declared.fault.RowsError.TheVariants.{Memory};
 ghost use Rattle.rows_jsonb.specs.JsonDiffs.{json_diff_operation_number, IsOperation, IsDiffValue, IsDiff, IsJsonbFault};
 ghost use Rattle.rows_jsonb.specs.JsonbViews.{jsonb_value};
 
@@ -127,7 +126,7 @@ impl<'a> JsonDiff<'a> {
 
 /// The change of a number that stands at the front.
 fn read_operation(buf: &mut ParseBuf<'_>) -> Option<JsonDiffOperation>
-    ensures some { IfSome result (λ op. Reads IsOperation Equal op buf.old.0.now buf.new.0.now) }
+    ensures some { IfSome result (λ op. Reads IsOperation op buf.old.0.now buf.new.0.now) }
     ensures none { IfNone result (Lacks IsOperation buf.old.0.now) }
 {
     match JsonDiffOperation::try_from(buf.checked_eat_u8()?) {
@@ -143,7 +142,7 @@ fn read_value<'de>(
     buf: &mut ParseBuf<'de>,
 ) -> Result<Option<Value<'de>>, RowsError>
     ensures ok { IfOk result
-        (λ v. Reads (IsDiffValue operation) Equal (option_map jsonb_value v) buf.old.0.now buf.new.0.now) }
+        (λ v. Reads (IsDiffValue operation) (option_map jsonb_value v) buf.old.0.now buf.new.0.now) }
     ensures err { IfErr result (λ e. IsJsonbFault e × Lacks (IsDiffValue operation) buf.old.0.now) }
 {
     let found = match operation {
@@ -161,6 +160,9 @@ fn read_value<'de>(
 
 impl<'de> MyDeserialize<'de> for JsonDiff<'de> {
     ghost use Rattle.rows_jsonb.specs.JsonDiffViews.{diff_view};
+    ghost use Rattle.rows_jsonb.specs.JsonbValues.{JsonbValue};
+    ghost use Rattle.rows_jsonb.specs.declared.diff.JsonDiffOperation.{JsonDiffOperation as JsonDiffOperations};
+    ghost use Rattle.std.specs.Prelude.{List, ℕ, Option};
 
     const SIZE: Option<usize> = None;
 
@@ -170,13 +172,13 @@ impl<'de> MyDeserialize<'de> for JsonDiff<'de> {
 
     type Fault = RowsError;
 
-    ghost spells = { λ ctx. Holding diff_view IsDiff };
+    ghost View = { JsonDiffOperations × (List ℕ × Option JsonbValue) };
 
-    ghost same = { SameBy diff_view Equal };
+    ghost view = { diff_view };
+
+    ghost spells = { λ ctx. IsDiff };
 
     ghost refusal = { λ ctx x e. IsJsonbFault e };
-
-    ghost is_memory = { λ e. e ≡ Memory };
 
     /// The change's number, the path behind its length, and unless it is a removal a document behind its
     /// length. It takes no memory.
@@ -202,6 +204,4 @@ impl<'de> MyDeserialize<'de> for JsonDiff<'de> {
     }
 
     ghost sized = { λ ctx v bytes rest h. tt };
-
-    ghost tells_memory = { λ f h. h };
 }
