@@ -8,9 +8,12 @@
 pub mod laws;
 
 pub use wire_buf::AnySize;
+pub use wire_buf::FieldFault;
 pub use wire_buf::FixedSize;
+pub use wire_buf::Inner;
 pub use wire_buf::MyDeserialize;
 pub use wire_buf::MySerialize;
+pub use wire_buf::PairSize;
 pub use wire_buf::ParseBuf;
 pub use wire_buf::WireFault;
 pub use wire_buf::WireSize;
@@ -44,6 +47,7 @@ pub use wire_forms::ConstU32;
 pub use wire_forms::Either;
 pub use wire_forms::EofBytes;
 pub use wire_forms::FixedLengthText;
+pub use wire_forms::InnerBytes;
 pub use wire_forms::NullBytes;
 pub use wire_forms::RawBytes;
 pub use wire_forms::RawConst;

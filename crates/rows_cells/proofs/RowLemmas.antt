@@ -43,18 +43,18 @@ lenenc-here : (v : ℕ) (bytes r : List ℕ) → IsLenenc v bytes → lenenc_at 
 unfolding lenenc_at
 lenenc-here v bytes r h = rw (lenenc_front-complete v bytes r h) refl
 
-pub lenenc-read : (x : List ℕ) (v : ℕ) (r : List ℕ) → Begins (Alone IsLenenc) v x r → lenenc_at x ≡ Ok (v, r)
+pub lenenc-read : (x : List ℕ) (v : ℕ) (r : List ℕ) → Begins (Alone IsLenenc v) x r → lenenc_at x ≡ Ok (v, r)
 lenenc-read x v r b = rw b.joined (lenenc-here v b.bytes r b.is)
 
 of_front : (x : List ℕ) (o : Option (ℕ × List ℕ)) (v : ℕ × List ℕ) → lenenc_of x o ≡ Ok v → o ≡ Some v
 of_front x None v h = absurd cc
 of_front x (Some w) v h = let e : w ≡ v = cc in ap Some e
 
-lenenc-is : (x : List ℕ) (v : ℕ × List ℕ) → lenenc_at x ≡ Ok v → Begins (Alone IsLenenc) v.0 x v.1
+lenenc-is : (x : List ℕ) (v : ℕ × List ℕ) → lenenc_at x ≡ Ok v → Begins (Alone IsLenenc v.0) x v.1
 unfolding lenenc_at
 lenenc-is x v h = lenenc_front-sound v.0 x v.1 (of_front x (lenenc_front x) v h)
 
-pub lenenc-refused : (x : List ℕ) → ((v : ℕ) (r : List ℕ) → Begins (Alone IsLenenc) v x r → ⊥) → lenenc_at x ≡ Err (lenenc_fault x)
+pub lenenc-refused : (x : List ℕ) → ((v : ℕ) (r : List ℕ) → Begins (Alone IsLenenc v) x r → ⊥) → lenenc_at x ≡ Err (lenenc_fault x)
 unfolding lenenc_at
 lenenc-refused x lacks = none (lenenc_front x) refl
   where
@@ -158,7 +158,7 @@ taken-is n v x h = elim (leb_tells (suc (length v.1)) n) [
   | inr t ↦ let e = rw t.0 at h in absurd cc
 ]
 
-pub row-is : (shapes : List ImageShape) (s : List ℕ) (row : Row) (r : List ℕ) → row_at shapes s ≡ Ok (row, r) → Begins (Alone (IsRow shapes)) row s r
+pub row-is : (shapes : List ImageShape) (s : List ℕ) (row : Row) (r : List ℕ) → row_at shapes s ≡ Ok (row, r) → Begins (Alone (IsRow shapes) row) s r
 unfolding row_at
 row-is shapes s row r h =
     let a = bind-ok _ _ _ h in

@@ -5,7 +5,7 @@ use Rattle.std.proofs.lemmas.Bool.Decides.{eqb_tells}
 use Rattle.std.proofs.lemmas.List.{length-append, length-take-le, take-append-drop}
 use Rattle.std.proofs.Math.Seq.{take-append_seam, drop-append_seam}
 use Rattle.std.specs.declared.result.Result.TheVariants.{Ok, Err}
-use Rattle.wire_buf.specs.Spelling.{Begins, Reads, Lacks, Alone, Equal}
+use Rattle.wire_buf.specs.Spelling.{Begins, Reads, Lacks, Alone}
 use Rattle.wire_buf.specs.Numbers.{IsLenenc, IsLenencString}
 use Rattle.wire_buf.specs.Fronts.{lenenc_front}
 use Rattle.wire_buf.proofs.LenencLemmas.{lenenc_front-complete, lenenc_front-sound}
@@ -35,11 +35,11 @@ text-complete v bytes r h =
     let long : length v ≤ length (v ++ r) = omega (arith, length-append v r) in
     rw (h.joined, append_assoc h.front v r, lenenc_front-complete (length v) h.front (v ++ r) h.front_is, le-leb (length v) (length (v ++ r)) long, take-append_seam, drop-append_seam) refl
 
-of_length-sound : (x : List ℕ) (o : Option (ℕ × List ℕ)) (v r : List ℕ) → lenenc_front x ≡ o → text_of_length o ≡ Ok (v, r) → Begins (Alone IsLenencString) v x r
+of_length-sound : (x : List ℕ) (o : Option (ℕ × List ℕ)) (v r : List ℕ) → lenenc_front x ≡ o → text_of_length o ≡ Ok (v, r) → Begins (Alone IsLenencString v) x r
 of_length-sound x None v r e h = absurd cc
 of_length-sound x (Some n) v r e h = counted (leb n.0 (length n.1)) refl h
   where
-    counted : (t : Bool) → t ≡ leb n.0 (length n.1) → cond {A = Reading (List ℕ × List ℕ)} t (Ok (take n.0 n.1, drop n.0 n.1)) (Err bad) ≡ Ok (v, r) → Begins (Alone IsLenencString) v x r
+    counted : (t : Bool) → t ≡ leb n.0 (length n.1) → cond {A = Reading (List ℕ × List ℕ)} t (Ok (take n.0 n.1, drop n.0 n.1)) (Err bad) ≡ Ok (v, r) → Begins (Alone IsLenencString v) x r
     counted false f g = absurd cc
     counted true f g =
         let p = ok_pair (take n.0 n.1) (drop n.0 n.1) (v, r) g in
@@ -52,12 +52,12 @@ of_length-sound x (Some n) v r e h = counted (leb n.0 (length n.1)) refl h
           is = record { front = number.bytes; front_is = subst (λ (k : ℕ). IsLenenc k number.bytes) (sym size) number.is; joined = refl };
         }
 
-text-sound : (x v r : List ℕ) → text_at x ≡ Ok (v, r) → Begins (Alone IsLenencString) v x r
+text-sound : (x v r : List ℕ) → text_at x ≡ Ok (v, r) → Begins (Alone IsLenencString v) x r
 unfolding text_at
 text-sound x v r h = of_length-sound x (lenenc_front x) v r refl h
 
 -- a text that was read stands there
-pub text_read : (x v r : List ℕ) → Begins (Alone IsLenencString) v x r → text_at x ≡ Ok (v, r)
+pub text_read : (x v r : List ℕ) → Begins (Alone IsLenencString v) x r → text_at x ≡ Ok (v, r)
 text_read x v r b = rw b.joined (text-complete v b.bytes r b.is)
 
 -- there is no text
@@ -80,7 +80,7 @@ operation-complete REPLACE bytes rest r h = rw h refl
 operation-complete INSERT bytes rest r h = rw h refl
 operation-complete REMOVE bytes rest r h = rw h refl
 
-operation-sound : (x : List ℕ) (op : JsonDiffOperation) (r : List ℕ) → operation_at x ≡ Ok (op, r) → Begins IsOperation op x r
+operation-sound : (x : List ℕ) (op : JsonDiffOperation) (r : List ℕ) → operation_at x ≡ Ok (op, r) → Begins (IsOperation op) x r
 operation-sound [] op r h = absurd cc
 operation-sound (n ∷ x) op r h = elim (eqb_tells n 0) [
   | inl t ↦ let p = ok_pair REPLACE x (op, r) (rw t.0 at h) in record { bytes = n ∷ []; joined = ap (λ (s : List ℕ). n ∷ s) p.1; is = rw (← p.0, t.1) refl }
@@ -120,7 +120,7 @@ replaced s o bytes r e h = rw e h
 inserted : (s : JsonbValue) (o : Option JsonbValue) (bytes r : List ℕ) → o ≡ Some s → IsEmbedded s bytes → IsDiffValue INSERT o bytes r
 inserted s o bytes r e h = rw e h
 
-value-sound : (op : JsonDiffOperation) (x : List ℕ) (o : Option JsonbValue) (r : List ℕ) → diff_value_at op x ≡ Ok (o, r) → Begins (IsDiffValue op) o x r
+value-sound : (op : JsonDiffOperation) (x : List ℕ) (o : Option JsonbValue) (r : List ℕ) → diff_value_at op x ≡ Ok (o, r) → Begins (IsDiffValue op o) x r
 value-sound REMOVE x o r h = let p = ok_pair None x (o, r) h in record { bytes = []; joined = p.1; is = rw (← p.0) refl }
 value-sound REPLACE x o r h = let e = embedded-sound x o r h in record { bytes = e.1; joined = e.3; is = replaced e.0 o e.1 r e.2 e.4 }
 value-sound INSERT x o r h = let e = embedded-sound x o r h in record { bytes = e.1; joined = e.3; is = inserted e.0 o e.1 r e.2 e.4 }
@@ -139,10 +139,10 @@ diff-complete d bytes rest r h =
       value-complete d.0 d.1.1 tail.back rest r tail.second_is,
     ) refl
 
-same_diff : (d w : Diff) (x r s : List ℕ) → d ≡ w → r ≡ s → Begins IsDiff d x r → Begins IsDiff w x s
+same_diff : (d w : Diff) (x r s : List ℕ) → d ≡ w → r ≡ s → Begins (IsDiff d) x r → Begins (IsDiff w) x s
 same_diff d w x r s e f b = rw (← e, ← f) b
 
-pub diff-sound : (x : List ℕ) (d : Diff) (r : List ℕ) → diff_at x ≡ Ok (d, r) → Begins IsDiff d x r
+pub diff-sound : (x : List ℕ) (d : Diff) (r : List ℕ) → diff_at x ≡ Ok (d, r) → Begins (IsDiff d) x r
 unfolding diff_at
 diff-sound x d r h =
     let a = bind-ok _ _ _ h in
@@ -168,7 +168,7 @@ diff-sound x d r h =
     })
 
 -- the one change that is read
-pub diff_read : (x : List ℕ) (d : Diff) (r : List ℕ) → diff_at x ≡ Ok (d, r) → Reads IsDiff Equal d x r
+pub diff_read : (x : List ℕ) (d : Diff) (r : List ℕ) → diff_at x ≡ Ok (d, r) → Reads IsDiff d x r
 diff_read x d r h = record {
   begins = diff-sound x d r h;
   only = λ w s b.
@@ -181,7 +181,7 @@ pub diff_refused : (x : List ℕ) (e : RowsError) → diff_at x ≡ Err e → La
 diff_refused x e h w s b = let f : ◌≡◌ {A = Reading (Diff × List ℕ)} (Err e) (Ok (w, s)) = sym h ∙ rw b.joined (diff-complete w b.bytes s s b.is) in absurd cc
 
 -- a change takes some of the bytes
-begins-shrinks : (d : Diff) (x r : List ℕ) → Begins IsDiff d x r → length r < length x
+begins-shrinks : (d : Diff) (x r : List ℕ) → Begins (IsDiff d) x r → length r < length x
 begins-shrinks d x r b =
     let one : length b.is.front ≡ 1 = ap length b.is.first_is in
     omega (arith, one, ap length b.joined, length-append b.bytes r, ap length b.is.joined, length-append b.is.front b.is.back)

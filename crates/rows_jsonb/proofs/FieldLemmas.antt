@@ -6,7 +6,7 @@ use Rattle.std.specs.Result.{OnOk, IfOk}
 use Rattle.std.specs.declared.result.Result.{Result}
 use Rattle.std.specs.declared.result.Result.TheVariants.{Ok, Err}
 use Rattle.rows_values.specs.declared.fault.RowsError.{RowsError}
-use Rattle.wire_buf.specs.Spelling.{Reads, Lacks, Holding, SameBy, Equal}
+use Rattle.wire_buf.specs.Spelling.{Reads}
 use Rattle.rows_jsonb.specs.JsonbValues.{Reading}
 use Rattle.rows_jsonb.specs.JsonbFields.{IsTaken}
 use Rattle.rows_jsonb.specs.JsonbViews.{IsEaten, shown}
@@ -15,7 +15,7 @@ same_value : {A : Type 0} (v w : A) → ◌≡◌ {A = Reading A} (Ok v) (Ok w) 
 same_value v w e = cc
 
 module _ {A V : Type 0} (view : V → A) (found : List ℕ → Reading A) (taken : List ℕ → ℕ) where
-  pub reads_taken : (v : V) (x after : List ℕ) → Ok (view v) ≡ found x → IsEaten (taken x) x after → Reads (Holding view (IsTaken found taken)) (SameBy view Equal) v x after
+  pub reads_taken : (v : V) (x after : List ℕ) → Ok (view v) ≡ found x → IsEaten (taken x) x after → Reads (IsTaken found taken) (view v) x after
   reads_taken v x after is eaten =
       let front = take (taken x) x in
       let all : front ++ after ≡ x = rw eaten.rest (take-append-drop (taken x) x) in
@@ -27,21 +27,10 @@ module _ {A V : Type 0} (view : V → A) (found : List ℕ → Reading A) (taken
         };
         only = λ w rest h. (
           sym (eaten.rest ∙ ap (λ y. drop (taken y) y) h.joined ∙ ap (λ n. drop n (h.bytes ++ rest)) (sym h.is.whole) ∙ drop-append_seam h.bytes rest),
-          same_value (view v) (view w) (is ∙ ap found h.joined ∙ h.is.is),
+          same_value (view v) w (is ∙ ap found h.joined ∙ h.is.is),
         );
       }
 
-  pub reads_if_ok : (r : Result V RowsError) (x after : List ℕ) → shown view r ≡ found x → OnOk r (IsEaten (taken x) x after) → IfOk r (λ v. Reads (Holding view (IsTaken found taken)) (SameBy view Equal) v x after)
+  pub reads_if_ok : (r : Result V RowsError) (x after : List ℕ) → shown view r ≡ found x → OnOk r (IsEaten (taken x) x after) → IfOk r (λ v. Reads (IsTaken found taken) (view v) x after)
   reads_if_ok (Ok v) x after is eaten = reads_taken v x after is eaten
   reads_if_ok (Err e) x after is eaten = tt
-
--- what holds another is read as it
-module _ {A B C : Type 0} (outer : B → A) (shows : A → C) (form : C → List ℕ → List ℕ → Type 0) where
-  pub reads_held : (v : B) (x after : List ℕ) → Reads (Holding shows form) (SameBy shows Equal) (outer v) x after → Reads (Holding (λ s. shows (outer s)) form) (SameBy (λ s. shows (outer s)) Equal) v x after
-  reads_held v x after h = record {
-    begins = record { bytes = h.begins.bytes; joined = h.begins.joined; is = h.begins.is };
-    only = λ w rest b. h.only (outer w) rest (record { bytes = b.bytes; joined = b.joined; is = b.is });
-  }
-
-pub lacks_held : {B C : Type 0} (shows : B → C) (form : C → List ℕ → List ℕ → Type 0) (x : List ℕ) → Lacks form x → Lacks (Holding shows form) x
-lacks_held shows form x h w rest b = h (shows w) rest (record { bytes = b.bytes; joined = b.joined; is = b.is })

@@ -36,7 +36,7 @@ walked-parts v w vs f h = (ap (λ x. x.items) h, ap (λ x. x.fault) h)
 -- where what is at the front is found and takes some of the bytes, a walk finds all items, up to the first that can't be read
 module _ {A : Type 0} (spells : ByteForm A) (item_at : List ℕ → Reading (A × List ℕ))
     (complete : (v : A) (own rest r : List ℕ) → spells v own rest → item_at (own ++ r) ≡ Ok (v, r))
-    (sound : (x : List ℕ) (v : A) (r : List ℕ) → item_at x ≡ Ok (v, r) → Begins spells v x r)
+    (sound : (x : List ℕ) (v : A) (r : List ℕ) → item_at x ≡ Ok (v, r) → Begins (spells v) x r)
     (shrinks : (x : List ℕ) (v : A) (r : List ℕ) → item_at x ≡ Ok (v, r) → length r < length x) where
   walk-finds : (n : ℕ) (s : List ℕ) → length s ≤ n → Finds spells item_at (walk item_at n s) s
   walk-finds zero s le = let none : s ≡ [] = no_bytes s le in rw (none, walk_done item_at 0) (record { own = []; rest = []; parts = refl; items_are = refl; stops = refl })

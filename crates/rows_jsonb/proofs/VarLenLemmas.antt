@@ -3,13 +3,13 @@ use Rattle.std.proofs.Common.{◌≡◌, ◌≤◌, ◌<◌, ◌^◌, inl, inr, 
 use Rattle.std.proofs.Math.Seq.{drop-append-add}
 use Rattle.std.proofs.lemmas.Bool.Decides.{leb_tells}
 use Rattle.std.specs.declared.result.Result.TheVariants.{Ok, Err}
-use Rattle.wire_buf.specs.Spelling.{Reads, Lacks, Alone, Equal}
+use Rattle.wire_buf.specs.Spelling.{Reads, Lacks, Alone}
 use Rattle.wire_ints.specs.Sevens.{IsVarLen, sevens_front}
 use Rattle.wire_ints.proofs.SevenLemmas.{sevens_front-complete, sevens_front-sound}
 use Rattle.rows_jsonb.specs.JsonbViews.{IsEaten}
 use Rattle.rows_jsonb.specs.JsonbValues.{counted, counted_at, counted_taken, string_taken, bad}
 
-pub varlen_read : (v : ℕ) (x r : List ℕ) → Reads (Alone IsVarLen) Equal v x r → (sevens_front 5 x ≡ Some (v, r)) × (v < 2 ^ 32)
+pub varlen_read : (v : ℕ) (x r : List ℕ) → Reads (Alone IsVarLen) v x r → (sevens_front 5 x ≡ Some (v, r)) × (v < 2 ^ 32)
 varlen_read v x r h =
     (ap (sevens_front 5) h.begins.joined ∙ sevens_front-complete 5 v h.begins.bytes r h.begins.is.sevens, h.begins.is.fits)
 
@@ -23,7 +23,7 @@ none_counted x h (Some (v, r)) e = elim (leb_tells (suc v) (2 ^ 32)) [
 pub varlen_lacking : (x : List ℕ) → Lacks (Alone IsVarLen) x → counted_at x ≡ Err bad
 varlen_lacking x h = none_counted x h (sevens_front 5 x) refl
 
-pub counted_whole : (x r : List ℕ) (v : ℕ) → Reads (Alone IsVarLen) Equal v x r → v ≤ length r → counted_at x ≡ Ok (take v r)
+pub counted_whole : (x r : List ℕ) (v : ℕ) → Reads (Alone IsVarLen) v x r → v ≤ length r → counted_at x ≡ Ok (take v r)
 counted_whole x r v h room =
     let e = varlen_read v x r h in
     ap counted e.0 ∙ (elim (leb_tells (suc v) (2 ^ 32)) [
@@ -31,7 +31,7 @@ counted_whole x r v h room =
       | inr t ↦ absurd (omega (arith, t.1, e.1))
     ])
 
-pub counted_short : (x r : List ℕ) (v : ℕ) → Reads (Alone IsVarLen) Equal v x r → length r < v → counted_at x ≡ Err bad
+pub counted_short : (x r : List ℕ) (v : ℕ) → Reads (Alone IsVarLen) v x r → length r < v → counted_at x ≡ Err bad
 counted_short x r v h room =
     let e = varlen_read v x r h in
     ap counted e.0 ∙ (elim (leb_tells (suc v) (2 ^ 32)) [
@@ -45,7 +45,7 @@ drop_behind b r n =
     rw e (drop-append-add b r n)
 
 -- the string and its length are eaten
-pub counted_eaten : (x r after : List ℕ) (v : ℕ) → Reads (Alone IsVarLen) Equal v x r → v ≤ length r → after ≡ drop v r → IsEaten (counted_taken x) x after
+pub counted_eaten : (x r after : List ℕ) (v : ℕ) → Reads (Alone IsVarLen) v x r → v ≤ length r → after ≡ drop v r → IsEaten (counted_taken x) x after
 counted_eaten x r after v h room e =
     let front = varlen_read v x r h in
     let bytes = h.begins.bytes in

@@ -3,11 +3,10 @@
 ghost use Rattle.std.specs.Prelude.{◌≡◌, ◌⊎◌, IfOk, IfErr, Err, Some, option_map};
 ghost use Rattle.std.specs.Cow.{cow_str_bytes, IsOwnedSlice};
 ghost use Rattle.std.specs.Str.Lossy.{utf8_lossy};
-ghost use Rattle.wire_buf.specs.Spelling.{Equal, SameBy, Holding};
 ghost use Rattle.wire_consts.specs.Numbering.{IsConstantOf};
 ghost use Rattle.wire_forms.specs.RawTexts.{text_of};
 ghost use Rattle.rows_values.specs.declared.fault.RowsError.TheVariants.{Memory};
-ghost use Rattle.rows_jsonb.specs.JsonDiffs.{json_diff_operation_number, IsDiff, operation_at, text_at, diff_value_at, diff_at};
+ghost use Rattle.rows_jsonb.specs.JsonDiffs.{json_diff_operation_number, Diff, IsDiff, operation_at, text_at, diff_value_at, diff_at};
 ghost use Rattle.rows_jsonb.specs.Items.{items_at, all_found, behind_item, fault_of};
 ghost use Rattle.std.specs.Prelude.{map as list_map};
 ghost use Rattle.rows_jsonb.specs.JsonDiffViews.{diff_view};
@@ -245,13 +244,13 @@ impl<'de> MyDeserialize<'de> for JsonDiff<'de> {
 
     type Fault = RowsError;
 
-    ghost spells = { λ ctx. Holding diff_view IsDiff };
+    ghost View = { Diff };
 
-    ghost same = { SameBy diff_view Equal };
+    ghost view = { diff_view };
+
+    ghost spells = { λ ctx. IsDiff };
 
     ghost refusal = { λ ctx x e. diff_at x ≡ Err e };
-
-    ghost is_memory = { λ e. e ≡ Memory };
 
     /// The change's number, the path behind its length, and unless it is a removal a document behind its
     /// length. It takes no memory.
@@ -270,6 +269,4 @@ impl<'de> MyDeserialize<'de> for JsonDiff<'de> {
     }
 
     ghost sized = { λ ctx v bytes rest h. tt };
-
-    ghost tells_memory = { λ f h. h };
 }

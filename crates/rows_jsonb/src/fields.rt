@@ -1,15 +1,15 @@
 //! Documents, containers and strings as fields of what is read.
 
-ghost use Rattle.std.specs.Prelude.{◌≡◌, ⊤, take, Err, None, Some};
-ghost use Rattle.wire_buf.specs.Spelling.{Alone, Equal, SameBy, Holding};
-ghost use Rattle.rows_values.specs.declared.fault.RowsError.TheVariants.{Memory, Jsonb};
+ghost use Rattle.std.specs.Prelude.{◌≡◌, List, ℕ, take, Err, None, Some};
+ghost use Rattle.wire_buf.specs.Spelling.{Alone};
+ghost use Rattle.rows_values.specs.declared.fault.RowsError.TheVariants.{Jsonb};
 ghost use Rattle.std.specs.Cow.{cow_slice_items};
 ghost use Rattle.wire_buf.specs.Numbers.{IsCounted};
 ghost use Rattle.wire_ints.specs.Sevens.{IsVarLen};
 ghost use Rattle.wire_forms.specs.RawTexts.{text_of};
-ghost use Rattle.wire_forms.specs.Texts.{varlen_string_spelling, IsShortestText};
+ghost use Rattle.wire_forms.specs.Texts.{varlen_string_spelling};
 ghost use Rattle.rows_jsonb.specs.JsonbLayout.{form as form_of};
-ghost use Rattle.rows_jsonb.specs.JsonbValues.{document, container, container_at};
+ghost use Rattle.rows_jsonb.specs.JsonbValues.{JsonbValue, document, container, container_at};
 ghost use Rattle.rows_jsonb.specs.JsonbFields.{IsDocument, IsContainer};
 ghost use Rattle.rows_jsonb.specs.JsonbViews.{jsonb_value};
 
@@ -19,7 +19,7 @@ use crate::text::JsonbString;
 use crate::value::Value;
 use rows_values::RowsError;
 use std::alloc::{Allocator, Global};
-use wire_buf::{AnySize, MyDeserialize, MySerialize, ParseBuf, WireFault};
+use wire_buf::{AnySize, Inner, MyDeserialize, MySerialize, ParseBuf, WireFault};
 use wire_forms::RawBytes;
 
 impl<'de> MyDeserialize<'de> for Value<'de> {
@@ -31,13 +31,13 @@ impl<'de> MyDeserialize<'de> for Value<'de> {
 
     type Fault = RowsError;
 
-    ghost spells = { λ ctx. Holding jsonb_value IsDocument };
+    ghost View = { JsonbValue };
 
-    ghost same = { SameBy jsonb_value Equal };
+    ghost view = { jsonb_value };
+
+    ghost spells = { λ ctx. IsDocument };
 
     ghost refusal = { λ ctx x e. document x ≡ Err e };
-
-    ghost is_memory = { λ e. e ≡ Memory };
 
     /// A document: its type byte, and then the value. No bytes are null. It takes no memory.
     fn deserialize(
@@ -49,8 +49,6 @@ impl<'de> MyDeserialize<'de> for Value<'de> {
     }
 
     ghost sized = { λ ctx v bytes rest h. tt };
-
-    ghost tells_memory = { λ f h. h };
 }
 
 impl<'de, T: StorageFormat, U: ComplexType> MyDeserialize<'de> for ComplexValue<'de, T, U> {
@@ -62,13 +60,13 @@ impl<'de, T: StorageFormat, U: ComplexType> MyDeserialize<'de> for ComplexValue<
 
     type Fault = RowsError;
 
-    ghost spells = { λ ctx. Holding (λ c. container (form_of T.IS_LARGE U.IS_ARRAY) c.element_count (cow_slice_items c.bytes)) (IsContainer (form_of T.IS_LARGE U.IS_ARRAY)) };
+    ghost View = { JsonbValue };
 
-    ghost same = { SameBy (λ c. container (form_of T.IS_LARGE U.IS_ARRAY) c.element_count (cow_slice_items c.bytes)) Equal };
+    ghost view = { λ c. container (form_of T.IS_LARGE U.IS_ARRAY) c.element_count (cow_slice_items c.bytes) };
+
+    ghost spells = { λ ctx. IsContainer (form_of T.IS_LARGE U.IS_ARRAY) };
 
     ghost refusal = { λ ctx x e. container_at (form_of T.IS_LARGE U.IS_ARRAY) x ≡ Err e };
-
-    ghost is_memory = { λ e. e ≡ Memory };
 
     /// A container from its count on: as many bytes as its size says. It takes no memory.
     fn deserialize(
@@ -80,8 +78,6 @@ impl<'de, T: StorageFormat, U: ComplexType> MyDeserialize<'de> for ComplexValue<
     }
 
     ghost sized = { λ ctx v bytes rest h. tt };
-
-    ghost tells_memory = { λ f h. h };
 }
 
 impl<'de> MyDeserialize<'de> for JsonbString<'de> {
@@ -93,13 +89,13 @@ impl<'de> MyDeserialize<'de> for JsonbString<'de> {
 
     type Fault = RowsError;
 
-    ghost spells = { λ ctx. Holding (λ s. text_of s.0) (Alone (IsCounted IsVarLen)) };
+    ghost View = { List ℕ };
 
-    ghost same = { SameBy (λ s. text_of s.0) Equal };
+    ghost view = { λ s. text_of s.0 };
+
+    ghost spells = { λ ctx. Alone (IsCounted IsVarLen) };
 
     ghost refusal = { λ ctx x e. e ≡ Jsonb None };
-
-    ghost is_memory = { λ e. e ≡ Memory };
 
     /// A string behind its length, which is a VarLen. It takes no memory.
     fn deserialize(
@@ -114,17 +110,23 @@ impl<'de> MyDeserialize<'de> for JsonbString<'de> {
     }
 
     ghost sized = { λ ctx v bytes rest h. tt };
-
-    ghost tells_memory = { λ f h. h };
 }
 
 impl MySerialize for JsonbString<'_> {
-    ghost spelling = { λ v. Some (varlen_string_spelling (take 4294967295 (text_of v.0))) };
+    ghost View = { List ℕ };
 
-    ghost is_shortest = { λ v. IsShortestText {C = Unit {0}} (λ ctx. Alone (IsCounted IsVarLen)) (λ ctx text rest. ⊤) (take 4294967295 (text_of v.0)) };
+    ghost view = { λ v. take 4294967295 (text_of v.0) };
+
+    ghost form = { Alone (IsCounted IsVarLen) };
+
+    ghost spelling = { λ v. Some (varlen_string_spelling v) };
 
     /// The string behind its length. Of a longer one the first 4,294,967,295 bytes are written.
     fn serialize<A: Allocator>(&self, buf: &mut Vec<u8, A>) -> Result<(), WireFault> {
         self.0.serialize(buf)
     }
+}
+
+impl Inner for JsonbString<'_> {
+    ghost before_any = { λ rest. tt };
 }

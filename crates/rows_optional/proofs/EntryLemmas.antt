@@ -3,7 +3,7 @@ use Rattle.std.proofs.Common.{◌≡◌, ℕ, zero, suc, ◌≤◌, Bool, true, 
 use Rattle.std.proofs.lemmas.Bool.{le-leb, leb-true}
 use Rattle.std.proofs.lemmas.List.{length-take-le, take-append-drop}
 use Rattle.std.proofs.Math.Seq.{take-append_seam, drop-append_seam}
-use Rattle.wire_buf.specs.Spelling.{Begins, Reads, Lacks, Alone, Equal}
+use Rattle.wire_buf.specs.Spelling.{Begins, Reads, Lacks, Alone}
 use Rattle.wire_buf.specs.Numbers.{IsLenenc, one, two, three, eight}
 use Rattle.wire_buf.specs.Fronts.{lenenc_front}
 use Rattle.wire_buf.proofs.LenencLemmas.{lenenc_front-complete, lenenc_front-sound}
@@ -44,7 +44,7 @@ front-here n a r e =
 
 -- ---- numbers
 
-pub number_found : (v : ℕ) (x r : List ℕ) → Reads (Alone IsLenenc) Equal v x r → number_at x ≡ Ok (v, r)
+pub number_found : (v : ℕ) (x r : List ℕ) → Reads (Alone IsLenenc) v x r → number_at x ≡ Ok (v, r)
 number_found v x r h = ap (found (rows_error (lenenc_fault x))) (ap lenenc_front h.begins.joined ∙ lenenc_front-complete v h.begins.bytes r h.begins.is)
 
 none-front : (x : List ℕ) (o : Option (ℕ × List ℕ)) → Lacks (Alone IsLenenc) x → lenenc_front x ≡ o → o ≡ None
@@ -58,10 +58,10 @@ found-is : (x : List ℕ) (e : RowsError) (o : Option (ℕ × List ℕ)) (y : �
 found-is x e None y is h = absurd cc
 found-is x e (Some p) y is h = let q = ok_pair p.0 p.1 y h in is ∙ rw (q.0, q.1) refl
 
-pub number-is : (x : List ℕ) (y : ℕ × List ℕ) → number_at x ≡ Ok y → Begins (Alone IsLenenc) y.0 x y.1
+pub number-is : (x : List ℕ) (y : ℕ × List ℕ) → number_at x ≡ Ok y → Begins (Alone IsLenenc y.0) x y.1
 number-is x y h = lenenc_front-sound y.0 x y.1 (found-is x (rows_error (lenenc_fault x)) (lenenc_front x) y refl h)
 
-pub number-here : (v : ℕ) (x r : List ℕ) → Begins (Alone IsLenenc) v x r → number_at x ≡ Ok (v, r)
+pub number-here : (v : ℕ) (x r : List ℕ) → Begins (Alone IsLenenc v) x r → number_at x ≡ Ok (v, r)
 number-here v x r h = ap (found (rows_error (lenenc_fault x))) (ap lenenc_front h.joined ∙ lenenc_front-complete v h.bytes r h.is)
 
 -- a number takes a byte at least

@@ -16,7 +16,7 @@ cons_some b s h = let e : length (b ∷ s) ≡ 0 = ap length h in absurd (omega 
 
 module _ {A : Type 0} (read : List ℕ → Reading (A × List ℕ)) (spells : ByteForm A) (refuses : List ℕ → RowsError → Type 0)
     (takes : TakesBytes read)
-    (law : (v : A) (bytes rest : List ℕ) → (read bytes ≡ Ok (v, rest)) ↔ Begins spells v bytes rest)
+    (law : (v : A) (bytes rest : List ℕ) → (read bytes ≡ Ok (v, rest)) ↔ Begins (spells v) bytes rest)
     (refused : (bytes : List ℕ) (e : RowsError) → read bytes ≡ Err e → refuses bytes e)
     (why : (bytes : List ℕ) (e : RowsError) → Lacks spells bytes → refuses bytes e → read bytes ≡ Err e) where
   items-sound : (items : List (Reading A)) (bytes : List ℕ) → AreItems spells refuses bytes items → items_of read bytes ≡ items

@@ -9,7 +9,7 @@ use Rattle.rows_optional.specs.Entries.{number_at, string_at, pair_at}
 -- The items of a list: its entries in order, and where bytes are left that begin with no entry, the fault last. No item follows a fault.
 abbrev pub AreItems : {A : Type 0} → ByteForm A → (List ℕ → RowsError → Type 0) → List ℕ → List (Reading A) → Type 0
 AreItems spells refuses bytes [] = bytes ≡ []
-AreItems spells refuses bytes (Ok v ∷ items) = (rest : List ℕ) × Begins spells v bytes rest × AreItems spells refuses rest items
+AreItems spells refuses bytes (Ok v ∷ items) = (rest : List ℕ) × Begins (spells v) bytes rest × AreItems spells refuses rest items
 AreItems spells refuses bytes (Err e ∷ []) = (bytes ≢ []) × Lacks spells bytes × refuses bytes e
 AreItems spells refuses bytes (Err e ∷ (i ∷ items)) = ⊥
 

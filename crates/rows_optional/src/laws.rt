@@ -12,15 +12,15 @@ ghost use Rattle.rows_optional.specs.Lists.{AreItems, numbers, strings, pairs};
 /// The entry that is read at the front of bytes is the one that they spell there, whatever follows it.
 pub fn entries_are_read()
     ensures numbers { (v : ℕ) (bytes rest : List ℕ)
-        → (number_at bytes ≡ Ok (v, rest)) ↔ Begins NumberForm v bytes rest }
+        → (number_at bytes ≡ Ok (v, rest)) ↔ Begins (NumberForm v) bytes rest }
     ensures strings { (v bytes rest : List ℕ)
-        → (string_at bytes ≡ Ok (v, rest)) ↔ Begins StringForm v bytes rest }
+        → (string_at bytes ≡ Ok (v, rest)) ↔ Begins (StringForm v) bytes rest }
     ensures pairs { (v : ℕ × ℕ) (bytes rest : List ℕ)
-        → (pair_at bytes ≡ Ok (v, rest)) ↔ Begins PairForm v bytes rest }
+        → (pair_at bytes ≡ Ok (v, rest)) ↔ Begins (PairForm v) bytes rest }
     ensures fields { (v : ℕ × List ℕ) (bytes rest : List ℕ)
-        → (tagged_at bytes ≡ Ok (v, rest)) ↔ Begins FieldForm v bytes rest }
+        → (tagged_at bytes ≡ Ok (v, rest)) ↔ Begins (FieldForm v) bytes rest }
     ensures members { (v : List (List ℕ)) (bytes rest : List ℕ)
-        → (members_at bytes ≡ Ok (v, rest)) ↔ Begins MembersForm v bytes rest }
+        → (members_at bytes ≡ Ok (v, rest)) ↔ Begins (MembersForm v) bytes rest }
 {}
 
 /// The items of a list are its entries in order, and where bytes are left that begin with no entry, the fault

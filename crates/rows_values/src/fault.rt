@@ -4,7 +4,7 @@ ghost use Rattle.rows_values.specs.declared.fault.RowsError.TheVariants.{Memory,
 
 use std::alloc::{AllocError, AllocFailed};
 use thiserror::Error;
-use wire_buf::WireFault;
+use wire_buf::{FieldFault, WireFault};
 
 /// Why a table map, a row, a value or a document in one can't be read. In `mysql_common` these are
 /// `std::io::Error`s with a cause in a box.
@@ -99,4 +99,10 @@ impl From<WireFault> for RowsError {
             WireFault::Read | WireFault::Write => RowsError::Read,
         }
     }
+}
+
+impl FieldFault for RowsError {
+    ghost is_memory = { λ e. e ≡ Memory };
+
+    ghost tells_memory = { λ f h. h };
 }

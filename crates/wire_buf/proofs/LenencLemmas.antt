@@ -5,7 +5,7 @@ use Rattle.std.proofs.lemmas.List.{length-append, append-nil}
 use Rattle.std.proofs.Math.Seq.{drop-append_seam}
 use Rattle.byteorder.specs.Endian.{little_number, little_bytes}
 use Rattle.byteorder.specs.Numbers.{little_from-append, little_from-lt, little_number-reads_back, length-bytes_low_first}
-use Rattle.wire_buf.specs.Spelling.{Begins, Reads, Lacks, Alone, Equal, IsFixed, AreBytes, IsShortest}
+use Rattle.wire_buf.specs.Spelling.{Begins, Reads, Lacks, Alone, IsFixed, AreBytes, IsShortest}
 use Rattle.wire_buf.specs.Numbers.{IsLenenc, one, two, three, eight, lenenc_spelling}
 use Rattle.wire_buf.specs.Fronts.{number_front, lenenc_front}
 use Rattle.wire_buf.proofs.SpellingLemmas.{Reads-fixed, Reads-front, Lacks-front, same_parts}
@@ -22,7 +22,7 @@ number_front-complete n v bytes r h = elim (leb_tells n (length (bytes ++ r))) [
   | inr f ↦ let size = h.size in absurd (omega (arith, f.1, size, length-append bytes r))
 ]
 
-pub number_front-sound : (n v : ℕ) (x r : List ℕ) → number_front n x ≡ Some (v, r) → Begins (Alone (IsFixed (little_number n) n)) v x r
+pub number_front-sound : (n v : ℕ) (x r : List ℕ) → number_front n x ≡ Some (v, r) → Begins (Alone (IsFixed (little_number n) n) v) x r
 unfolding number_front
 number_front-sound n v x r e = elim (leb_tells n (length x)) [
   | inl t ↦
@@ -43,14 +43,14 @@ lenenc_front-complete v bytes r (three h) = number_front-complete 3 v _ r h
 lenenc_front-complete v bytes r (eight h) = number_front-complete 8 v _ r h
 
 -- a known byte first
-after_byte : (spells tail : ℕ → List ℕ → Type 0) (b k v : ℕ) (x r : List ℕ) → b ≡ k → ((bytes : List ℕ) → tail v bytes → spells v (k ∷ bytes)) → Begins (Alone tail) v x r → Begins (Alone spells) v (b ∷ x) r
+after_byte : (spells tail : ℕ → List ℕ → Type 0) (b k v : ℕ) (x r : List ℕ) → b ≡ k → ((bytes : List ℕ) → tail v bytes → spells v (k ∷ bytes)) → Begins (Alone tail v) x r → Begins (Alone spells v) (b ∷ x) r
 after_byte spells tail b k v x r e wider t = record {
   bytes = k ∷ t.bytes;
   joined = ap (λ (n : ℕ). n ∷ x) e ∙ ap (λ (l : List ℕ). k ∷ l) t.joined;
   is = wider t.bytes t.is;
 }
 
-pub lenenc_front-sound : (v : ℕ) (x r : List ℕ) → lenenc_front x ≡ Some (v, r) → Begins (Alone IsLenenc) v x r
+pub lenenc_front-sound : (v : ℕ) (x r : List ℕ) → lenenc_front x ≡ Some (v, r) → Begins (Alone IsLenenc v) x r
 unfolding lenenc_front
 lenenc_front-sound v [] r e = absurd cc
 lenenc_front-sound v (b ∷ x) r e = elim (leb_tells b 250) [
@@ -59,18 +59,18 @@ lenenc_front-sound v (b ∷ x) r e = elim (leb_tells b 250) [
       let p = same_parts b v x r f in
       record { bytes = v ∷ []; joined = rw (p.0, p.1) refl; is = one (omega (arith, t.1, p.0)) }
   | inr t ↦ let f = rw t.0 at e in elim (eqb_tells b 252) [
-    | inl k ↦ after_byte IsLenenc _ b 252 v x r k.1 (λ bytes h. two h) (number_front-sound 2 v x r (rw k.0 at f))
+    | inl k ↦ after_byte IsLenenc (IsFixed (little_number 2) 2) b 252 v x r k.1 (λ bytes h. two h) (number_front-sound 2 v x r (rw k.0 at f))
     | inr k ↦ let g = rw k.0 at f in elim (eqb_tells b 253) [
-      | inl m ↦ after_byte IsLenenc _ b 253 v x r m.1 (λ bytes h. three h) (number_front-sound 3 v x r (rw m.0 at g))
+      | inl m ↦ after_byte IsLenenc (IsFixed (little_number 3) 3) b 253 v x r m.1 (λ bytes h. three h) (number_front-sound 3 v x r (rw m.0 at g))
       | inr m ↦ let j = rw m.0 at g in elim (eqb_tells b 254) [
-        | inl n ↦ after_byte IsLenenc _ b 254 v x r n.1 (λ bytes h. eight h) (number_front-sound 8 v x r (rw n.0 at j))
+        | inl n ↦ after_byte IsLenenc (IsFixed (little_number 8) 8) b 254 v x r n.1 (λ bytes h. eight h) (number_front-sound 8 v x r (rw n.0 at j))
         | inr n ↦ let o = rw n.0 at j in absurd cc
       ]
     ]
   ]
 ]
 
-pub lenenc_reads : (v : ℕ) (x r : List ℕ) → lenenc_front x ≡ Some (v, r) → Reads (Alone IsLenenc) Equal v x r
+pub lenenc_reads : (v : ℕ) (x r : List ℕ) → lenenc_front x ≡ Some (v, r) → Reads (Alone IsLenenc) v x r
 lenenc_reads v x r e = Reads-front IsLenenc lenenc_front lenenc_front-complete v x r (lenenc_front-sound v x r e)
 
 pub lenenc_lacks : (x : List ℕ) → lenenc_front x ≡ None → Lacks (Alone IsLenenc) x

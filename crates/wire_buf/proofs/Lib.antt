@@ -2,3 +2,4 @@ pub mod SpellingLemmas
 pub mod NumberLemmas
 pub mod LenencLemmas
 pub mod StringLemmas
+pub mod WritingLemmas

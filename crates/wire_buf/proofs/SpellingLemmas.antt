@@ -3,11 +3,14 @@ use Rattle.std.proofs.Common.{◌≡◌, ◌++◌, ◌⊎◌, inl, inr, ℕ, zer
 use Rattle.std.proofs.lemmas.List.{take-append-drop, length-take-le}
 use Rattle.std.proofs.Math.Seq.{take-append_seam, drop-append_seam}
 use Rattle.std.proofs.lemmas.Result.{err_from_is_err_and}
-use Rattle.wire_buf.specs.Spelling.{BeginsWith, Begins, Lacks, Reads, Both, SameBoth, Alone, Equal, IsFixed, IsShortest, IsSequence, SameAll, Then}
-use Rattle.wire_buf.specs.Writing.{Writes, AppendsOf}
+use Rattle.wire_buf.specs.Spelling.{BeginsWith, Begins, Lacks, Reads, ◌⨾◌, Both, Alone, IsFixed, IsShortest, IsSequence}
+
+-- `cc` doesn't take pairs apart
+pair_same : {A B : Type 0} (a b : A) (c d : B) → a ≡ b → c ≡ d → ◌≡◌ {A = A × B} (a, c) (b, d)
+pair_same {A = A} {B = B} a b c d p q = rw (p, q) refl
 
 module _ {A B : Type 0} (first : A → List ℕ → List ℕ → Type 0) (second : B → List ℕ → List ℕ → Type 0) where
-  pub Begins-both : (v : A) (w : B) (x m r : List ℕ) → Begins first v x m → Begins second w m r → Begins (Both first second) (v, w) x r
+  pub Begins-both : (v : A) (w : B) (x m r : List ℕ) → Begins (first v) x m → Begins (second w) m r → Begins (Both first second (v, w)) x r
   Begins-both v w x m r p q = record {
     bytes = p.bytes ++ q.bytes;
     joined = p.joined ∙ ap (λ (t : List ℕ). p.bytes ++ t) q.joined ∙ sym (append_assoc p.bytes q.bytes r);
@@ -21,70 +24,64 @@ module _ {A B : Type 0} (first : A → List ℕ → List ℕ → Type 0) (second
   }
 
   -- the middle of a pair
-  pub Both-first : (v : A) (w : B) (x r : List ℕ) (t : Begins (Both first second) (v, w) x r) → Begins first v x (t.is.back ++ r)
+  pub Both-first : (v : A) (w : B) (x r : List ℕ) (t : Begins (Both first second (v, w)) x r) → Begins (first v) x (t.is.back ++ r)
   Both-first v w x r t = record {
     bytes = t.is.front;
     joined = t.joined ∙ ap (λ (b : List ℕ). b ++ r) t.is.joined ∙ append_assoc t.is.front t.is.back r;
     is = t.is.first_is;
   }
 
-  pub Both-second : (v : A) (w : B) (x r : List ℕ) (t : Begins (Both first second) (v, w) x r) → Begins second w (t.is.back ++ r) r
+  pub Both-second : (v : A) (w : B) (x r : List ℕ) (t : Begins (Both first second (v, w)) x r) → Begins (second w) (t.is.back ++ r) r
   Both-second v w x r t = record { bytes = t.is.back; joined = refl; is = t.is.second_is }
 
-  pub Lacks-both : (same : A → A → Type 0) (v : A) (x m : List ℕ) → Reads first same v x m → Lacks second m → Lacks (Both first second) x
-  Lacks-both same v x m p lacks (w1, w2) r t =
+  pub Lacks-both : (v : A) (x m : List ℕ) → Reads first v x m → Lacks second m → Lacks (Both first second) x
+  Lacks-both v x m p lacks (w1, w2) r t =
       let e = (p.only w1 (t.is.back ++ r) (Both-first w1 w2 x r t)).0 in
-      lacks w2 r (subst (λ (y : List ℕ). Begins second w2 y r) e (Both-second w1 w2 x r t))
+      lacks w2 r (subst (λ (y : List ℕ). Begins (second w2) y r) e (Both-second w1 w2 x r t))
 
-  pub Reads-both : (same : A → A → Type 0) (alike : B → B → Type 0) (v : A) (w : B) (x m r : List ℕ) → Reads first same v x m → Reads second alike w m r → Reads (Both first second) (SameBoth same alike) (v, w) x r
-  Reads-both same alike v w x m r p q = record {
+  pub Reads-both : (v : A) (w : B) (x m r : List ℕ) → Reads first v x m → Reads second w m r → Reads (Both first second) (v, w) x r
+  Reads-both v w x m r p q = record {
     begins = Begins-both v w x m r p.begins q.begins;
     only = λ (w1, w2) rest t.
         let e = p.only w1 (t.is.back ++ rest) (Both-first w1 w2 x rest t) in
-        let f = q.only w2 rest (subst (λ (y : List ℕ). Begins second w2 y rest) e.0 (Both-second w1 w2 x rest t)) in
-        (f.0, (e.1, f.1));
+        let f = q.only w2 rest (subst (λ (y : List ℕ). Begins (second w2) y rest) e.0 (Both-second w1 w2 x rest t)) in
+        (f.0, pair_same v w1 w w2 e.1 f.1);
   }
 
   pub Lacks-both_first : (x : List ℕ) → Lacks first x → Lacks (Both first second) x
   Lacks-both_first x lacks (w1, w2) r t = lacks w1 (t.is.back ++ r) (Both-first w1 w2 x r t)
 
 -- a row grows at its end
-module _ {A : Type 0} (spells : A → List ℕ → List ℕ → Type 0) (same : A → A → Type 0) where
-  Ends-both : (n : ℕ) (ws : List A) (x r : List ℕ) (t : Begins (IsSequence (suc n) spells) ws x r) → Begins (Both (IsSequence n spells) spells) (t.is.front, t.is.last) x r
+module _ {A : Type 0} (spells : A → List ℕ → List ℕ → Type 0) where
+  Ends-both : (n : ℕ) (ws : List A) (x r : List ℕ) (t : Begins (IsSequence (suc n) spells ws) x r) → Begins (Both (IsSequence n spells) spells (t.is.front, t.is.last)) x r
   Ends-both n ws x r t = record { bytes = t.bytes; joined = t.joined; is = t.is.spelled }
 
-  pub SameAll-snoc : (vs ws : List A) (v w : A) → SameAll same vs ws → same v w → SameAll same (vs ++ (v ∷ [])) (ws ++ (w ∷ []))
-  SameAll-snoc [] [] v w h k = (k, tt)
-  SameAll-snoc (a ∷ vs) (b ∷ ws) v w h k = (h.0, SameAll-snoc vs ws v w h.1 k)
-  SameAll-snoc [] (b ∷ ws) v w h k = absurd h
-  SameAll-snoc (a ∷ vs) [] v w h k = absurd h
-
-  pub Sequence-none : (x : List ℕ) → Reads (IsSequence zero spells) (SameAll same) [] x x
+  pub Sequence-none : (x : List ℕ) → Reads (IsSequence zero spells) [] x x
   Sequence-none x = record {
     begins = record { bytes = []; joined = refl; is = (refl, refl) };
     only = λ ws r t.
         let e : x ≡ r = t.joined ∙ ap (λ b. b ++ r) t.is.1 in
-        (sym e, subst (λ l. SameAll same [] l) (sym t.is.0) tt);
+        (sym e, sym t.is.0);
   }
 
-  pub Sequence-more : (n : ℕ) (vs : List A) (v : A) (x m r : List ℕ) → Reads (IsSequence n spells) (SameAll same) vs x m → Reads spells same v m r
-      → Reads (IsSequence (suc n) spells) (SameAll same) (vs ++ (v ∷ [])) x r
+  pub Sequence-more : (n : ℕ) (vs : List A) (v : A) (x m r : List ℕ) → Reads (IsSequence n spells) vs x m → Reads spells v m r
+      → Reads (IsSequence (suc n) spells) (vs ++ (v ∷ [])) x r
   Sequence-more n vs v x m r p q =
-      let both = Reads-both (IsSequence n spells) spells (SameAll same) same vs v x m r p q in
+      let whole = Reads-both (IsSequence n spells) spells vs v x m r p q in
       record {
         begins = record {
-          bytes = both.begins.bytes;
-          joined = both.begins.joined;
-          is = record { front = vs; last = v; items = refl; spelled = both.begins.is };
+          bytes = whole.begins.bytes;
+          joined = whole.begins.joined;
+          is = record { front = vs; last = v; items = refl; spelled = whole.begins.is };
         };
         only = λ ws s t.
-            let e = both.only (t.is.front, t.is.last) s (Ends-both n ws x s t) in
-            (e.0, subst (λ l. SameAll same (vs ++ (v ∷ [])) l) (sym t.is.items) (SameAll-snoc vs t.is.front v t.is.last e.1.0 e.1.1));
+            let e = whole.only (t.is.front, t.is.last) s (Ends-both n ws x s t) in
+            (e.0, ap (λ (p : List A × A). p.0 ++ (p.1 ∷ [])) e.1 ∙ sym t.is.items);
       }
 
-  pub Sequence-lacks : (n : ℕ) (vs : List A) (x m : List ℕ) → Reads (IsSequence n spells) (SameAll same) vs x m → Lacks spells m → Lacks (IsSequence (suc n) spells) x
+  pub Sequence-lacks : (n : ℕ) (vs : List A) (x m : List ℕ) → Reads (IsSequence n spells) vs x m → Lacks spells m → Lacks (IsSequence (suc n) spells) x
   Sequence-lacks n vs x m p lacks ws r t =
-      Lacks-both (IsSequence n spells) spells (SameAll same) vs x m p lacks (t.is.front, t.is.last) r (Ends-both n ws x r t)
+      Lacks-both (IsSequence n spells) spells vs x m p lacks (t.is.front, t.is.last) r (Ends-both n ws x r t)
 
   Sequence-lacks_suc : (n : ℕ) (x : List ℕ) → Lacks (IsSequence n spells) x → Lacks (IsSequence (suc n) spells) x
   Sequence-lacks_suc n x lacks ws r t = Lacks-both_first (IsSequence n spells) spells x lacks (t.is.front, t.is.last) r (Ends-both n ws x r t)
@@ -112,7 +109,7 @@ split_front n x bytes rest size joined = rw (joined, ← size) (take-append_seam
 -- n bytes are read by their value
 pub Reads-fixed : {A : Type 0} (value : List ℕ → A) (n : ℕ) (v : A) (x y : List ℕ)
     → ((a b : List ℕ) → n ≤ length a → value (a ++ b) ≡ value a) → n ≤ length x → v ≡ value x → y ≡ drop n x
-    → Reads (Alone (IsFixed value n)) Equal v x y
+    → Reads (Alone (IsFixed value n)) v x y
 Reads-fixed value n v x y local room is rest =
     let size = length-take-le n x room in
     let whole = take-append-drop n x in
@@ -138,24 +135,6 @@ IsShortest-fixed value n v bytes size is = record {
   least = λ other h _. let e = h.size in omega (arith, size, e);
 }
 
--- a wrapper is spelled as what it holds
-module _ {A B : Type 0} (f : B → A) (spells : A → List ℕ → List ℕ → Type 0) where
-  pub Lacks-through : (x : List ℕ) → Lacks spells x → Lacks (λ (w : B) bytes rest. spells (f w) bytes rest) x
-  Lacks-through x lacks w r t = lacks (f w) r (record { bytes = t.bytes; joined = t.joined; is = t.is })
-
-  pub Lacks-unless : (a : A) (x m : List ℕ) → Reads spells Equal a x m → ((b : B) → a ≡ f b → ⊥) → Lacks (λ (w : B) bytes rest. spells (f w) bytes rest) x
-  Lacks-unless a x m p none w r t = none w (p.only (f w) r (record { bytes = t.bytes; joined = t.joined; is = t.is })).1
-
-  pub Reads-through : (same : A → A → Type 0) (b : B) (a : A) (x r : List ℕ) → f b ≡ a → Reads spells same a x r
-      → Reads (λ (w : B) bytes rest. spells (f w) bytes rest) (λ v w. same (f v) (f w)) b x r
-  Reads-through same b a x r e p =
-      let P : A → Type 0 = λ y. Reads spells same y x r in
-      let q = subst P (sym e) p in
-      record {
-        begins = record { bytes = q.begins.bytes; joined = q.begins.joined; is = q.begins.is };
-        only = λ w s t. q.only (f w) s (record { bytes = t.bytes; joined = t.joined; is = t.is });
-      }
-
 -- the same where the part's fault is never want of memory
 pub IfErr-of_lack : {T E : Type 0} (M : E → Type 0) (P : Type 0) (r : Result T E) (Q : E → Type 0) → IsErr r × IsErrAnd r Q → P → IfErr r (λ y. M y ⊎ P)
 IfErr-of_lack M P r Q h l = let p = err_from_is_err_and r h.1 in rw p.1 (inr l)
@@ -168,10 +147,10 @@ same_parts {A = A} {B = B} a c b d e =
 -- a function that finds the value at the front, and what follows it
 module _ {A : Type 0} (spells : A → List ℕ → Type 0) (front : List ℕ → Option (A × List ℕ))
     (complete : (v : A) (bytes r : List ℕ) → spells v bytes → front (bytes ++ r) ≡ Some (v, r)) where
-  Begins-front : (v : A) (x r : List ℕ) → Begins (Alone spells) v x r → front x ≡ Some (v, r)
+  Begins-front : (v : A) (x r : List ℕ) → Begins (Alone spells v) x r → front x ≡ Some (v, r)
   Begins-front v x r t = rw t.joined (complete v t.bytes r t.is)
 
-  pub Reads-front : (v : A) (x r : List ℕ) → Begins (Alone spells) v x r → Reads (Alone spells) Equal v x r
+  pub Reads-front : (v : A) (x r : List ℕ) → Begins (Alone spells v) x r → Reads (Alone spells) v x r
   Reads-front v x r t = record {
     begins = t;
     only = λ w s u.
@@ -182,53 +161,62 @@ module _ {A : Type 0} (spells : A → List ℕ → Type 0) (front : List ℕ →
   pub Lacks-front : (x : List ℕ) → front x ≡ None → Lacks (Alone spells) x
   Lacks-front x none v r t = let e : ◌≡◌ {A = Option (A × List ℕ)} (Some (v, r)) None = sym (Begins-front v x r t) ∙ none in absurd cc
 
--- a second value whose context is the first
-module _ {A B : Type 0} (first : A → List ℕ → List ℕ → Type 0) (second : A → B → List ℕ → List ℕ → Type 0) (same : A → A → Type 0)
-    (respects : (v w : A) (b : B) (x r : List ℕ) → same v w → Begins (second w) b x r → Begins (second v) b x r) where
-  Then-first : (v : A) (w : B) (x r : List ℕ) (t : Begins (Then first second) (v, w) x r) → Begins first v x (t.is.back ++ r)
-  Then-first v w x r t = record {
+-- a second value whose context the first gives, of what the parts make up
+module _ {H T Q : Type 0} (head : Q → H) (tail : Q → T) (whole : H → T → Q) (again : (q : Q) → whole (head q) (tail q) ≡ q)
+    (first : H → List ℕ → List ℕ → Type 0) (second : H → T → List ℕ → List ℕ → Type 0) where
+  abbrev Led : Q → List ℕ → List ℕ → Type 0
+  Led q = first (head q) ⨾ second (head q) (tail q)
+
+  led_head : (q : Q) (x r : List ℕ) (t : Begins (Led q) x r) → Begins (first (head q)) x (t.is.back ++ r)
+  led_head q x r t = record {
     bytes = t.is.front;
     joined = t.joined ∙ ap (λ (b : List ℕ). b ++ r) t.is.joined ∙ append_assoc t.is.front t.is.back r;
     is = t.is.first_is;
   }
 
-  Then-second : (v : A) (w : B) (x r : List ℕ) (t : Begins (Then first second) (v, w) x r) → Begins (second v) w (t.is.back ++ r) r
-  Then-second v w x r t = record { bytes = t.is.back; joined = refl; is = t.is.second_is }
+  led_tail : (h : H) (q : Q) (x m r : List ℕ) (t : Begins (Led q) x r) → t.is.back ++ r ≡ m → h ≡ head q → Begins (second h (tail q)) m r
+  led_tail h q x m r t e f =
+      let s : Begins (second (head q) (tail q)) (t.is.back ++ r) r = record { bytes = t.is.back; joined = refl; is = t.is.second_is } in
+      subst (λ (k : H). Begins (second k (tail q)) m r) (sym f) (subst (λ (y : List ℕ). Begins (second (head q) (tail q)) y r) e s)
 
-  pub Lacks-then_first : (x : List ℕ) → Lacks first x → Lacks (Then first second) x
-  Lacks-then_first x lacks (w1, w2) r t = lacks w1 (t.is.back ++ r) (Then-first w1 w2 x r t)
+  pub Lacks-led_head : (x : List ℕ) → Lacks first x → Lacks Led x
+  Lacks-led_head x lacks q r t = lacks (head q) _ (led_head q x r t)
 
-  pub Lacks-then : (v : A) (x m : List ℕ) → Reads first same v x m → Lacks (second v) m → Lacks (Then first second) x
-  Lacks-then v x m p lacks (w1, w2) r t =
-      let e = p.only w1 (t.is.back ++ r) (Then-first w1 w2 x r t) in
-      lacks w2 r (respects v w1 w2 m r e.1 (subst (λ (y : List ℕ). Begins (second w1) w2 y r) e.0 (Then-second w1 w2 x r t)))
+  pub Lacks-led_tail : (h : H) (x m : List ℕ) → Reads first h x m → Lacks (second h) m → Lacks Led x
+  Lacks-led_tail h x m p lacks q r t = let o = p.only (head q) _ (led_head q x r t) in lacks (tail q) r (led_tail h q x m r t o.0 o.1)
 
-  pub Reads-then : (alike : B → B → Type 0) (v : A) (w : B) (x m r : List ℕ) → Reads first same v x m → Reads (second v) alike w m r → Reads (Then first second) (SameBoth same alike) (v, w) x r
-  Reads-then alike v w x m r p q = record {
-    begins = record {
-      bytes = p.begins.bytes ++ q.begins.bytes;
-      joined = p.begins.joined ∙ ap (λ (t : List ℕ). p.begins.bytes ++ t) q.begins.joined ∙ sym (append_assoc p.begins.bytes q.begins.bytes r);
-      is = record {
-        front = p.begins.bytes;
-        back = q.begins.bytes;
-        joined = refl;
-        first_is = subst (λ (t : List ℕ). first v p.begins.bytes t) q.begins.joined p.begins.is;
-        second_is = q.begins.is;
-      };
-    };
-    only = λ (w1, w2) rest t.
-        let e = p.only w1 (t.is.back ++ rest) (Then-first w1 w2 x rest t) in
-        let f = q.only w2 rest (respects v w1 w2 m rest e.1 (subst (λ (y : List ℕ). Begins (second w1) w2 y rest) e.0 (Then-second w1 w2 x rest t))) in
-        (f.0, (e.1, f.1));
+  -- where a second part shows that it is that of the head
+  pub Reads-led : (h : H) (t : T) (x m r : List ℕ) → Reads first h x m → Reads (second h) t m r
+      → ((bytes rest : List ℕ) → second h t bytes rest → head (whole h t) ≡ h) → tail (whole h t) ≡ t → Reads Led (whole h t) x r
+  Reads-led h t x m r p q is_head is_tail =
+      let e : h ≡ head (whole h t) = sym (is_head q.begins.bytes r q.begins.is) in
+      let f : t ≡ tail (whole h t) = sym is_tail in
+      let both = Begins-both first (second h) h t x m r p.begins q.begins in
+      record {
+        begins = subst (λ (k : H). Begins (first k ⨾ second k (tail (whole h t))) x r) e (subst (λ (k : T). Begins (first h ⨾ second h k) x r) f both);
+        only = λ w s u.
+            let o = p.only (head w) _ (led_head w x s u) in
+            let n = q.only (tail w) s (led_tail h w x m s u o.0 o.1) in
+            (n.0, ap (whole h) n.1 ∙ ap (λ (k : H). whole k (tail w)) o.1 ∙ again w);
+      }
+
+-- a body whose fields are those that `parts` shows, and no others
+module _ {A Q : Type 0} (parts : Q → A) (whole : A → Q) (again : (q : Q) → whole (parts q) ≡ q) {form : A → List ℕ → List ℕ → Type 0} where
+  pub Lacks-as : (x : List ℕ) → Lacks form x → Lacks (λ (q : Q). form (parts q)) x
+  Lacks-as x lacks q r t = lacks (parts q) r t
+
+  pub Reads-as : (a : A) (x r : List ℕ) → Reads form a x r → parts (whole a) ≡ a → Reads (λ (q : Q). form (parts q)) (whole a) x r
+  Reads-as a x r p e = record {
+    begins = subst (λ (y : A). Begins (form y) x r) (sym e) p.begins;
+    only = λ w s t. let o = p.only (parts w) s t in (o.0, ap whole o.1 ∙ again w);
   }
+
+-- what was read, by another name
+pub Reads-is : {A : Type 0} {spells : A → List ℕ → List ℕ → Type 0} {v w : A} {x r : List ℕ} → v ≡ w → Reads spells v x r → Reads spells w x r
+Reads-is {spells = spells} {x = x} {r = r} e p = subst (λ y. Reads spells y x r) e p
 
 -- what stands at the front is found by a reader that answers None only where nothing does
 pub is_some_unless_lacks : {A B : Type 0} (spells : A → List ℕ → List ℕ → Type 0) (x : List ℕ) (P : Type 0) (r : Option B)
     → BeginsWith spells x → IfNone r (Lacks spells x × P) → IsSome r
 is_some_unless_lacks spells x P None stands none = absurd (none.0 stands.value stands.after stands.begins)
 is_some_unless_lacks spells x P (Some b) stands none = refl
-
--- what was written in the fewest bytes is a shortest spelling
-pub writes_shortest : {A : Type 0} {spelling : A → Option (List ℕ)} {spells : A → List ℕ → Type 0} {v : A} {old new : List ℕ}
-    → Writes spelling spells v old new → AppendsOf (IsShortest spells v) old new
-writes_shortest w = record { bytes = w.bytes; appended = w.appended; is = w.least }

@@ -1,13 +1,13 @@
 -- Strings behind a count of their bytes.
 use Rattle.std.proofs.Common.{◌≡◌, ◌≤◌, ◌<◌, ◌++◌, ℕ, List, length, take, drop, append_assoc, arith, refl, sym, ap, subst, ◌∙◌}
 use Rattle.std.proofs.lemmas.List.{take-append-drop, length-take-le, length-append}
-use Rattle.wire_buf.specs.Spelling.{Begins, Reads, Lacks, Alone, Equal}
+use Rattle.wire_buf.specs.Spelling.{Begins, Reads, Lacks, Alone}
 use Rattle.wire_buf.specs.Numbers.{IsCounted}
 use Rattle.wire_buf.proofs.SpellingLemmas.{split_front}
 
 module _ (count : ℕ → List ℕ → Type 0) where
   -- the count before a counted string
-  count_at : (w x s : List ℕ) (t : Begins (Alone (IsCounted count)) w x s) → Begins (Alone count) (length w) x (w ++ s)
+  count_at : (w x s : List ℕ) (t : Begins (Alone (IsCounted count) w) x s) → Begins (Alone count (length w)) x (w ++ s)
   count_at w x s t = record {
     bytes = t.is.front;
     joined = t.joined ∙ ap (λ b. b ++ s) t.is.joined ∙ append_assoc t.is.front w s;
@@ -19,13 +19,13 @@ module _ (count : ℕ → List ℕ → Type 0) where
   Lacks-count x lacks w s t = lacks (length w) (w ++ s) (count_at w x s t)
 
   -- a count stands there, and fewer bytes behind it
-  pub Lacks-counted : (n : ℕ) (x m : List ℕ) → Reads (Alone count) Equal n x m → length m < n → Lacks (Alone (IsCounted count)) x
+  pub Lacks-counted : (n : ℕ) (x m : List ℕ) → Reads (Alone count) n x m → length m < n → Lacks (Alone (IsCounted count)) x
   Lacks-counted n x m r short w s t =
       let e = r.only (length w) (w ++ s) (count_at w x s t) in
       omega (arith, ap length e.0, e.1, length-append w s)
 
   -- a count, and then as many bytes
-  pub Reads-counted : (n : ℕ) (x m v r : List ℕ) → Reads (Alone count) Equal n x m → n ≤ length m → v ≡ take n m → r ≡ drop n m → Reads (Alone (IsCounted count)) Equal v x r
+  pub Reads-counted : (n : ℕ) (x m v r : List ℕ) → Reads (Alone count) n x m → n ≤ length m → v ≡ take n m → r ≡ drop n m → Reads (Alone (IsCounted count)) v x r
   Reads-counted n x m v r c room is rest =
       let size : length v ≡ n = ap length is ∙ length-take-le n m room in
       let whole : m ≡ v ++ r = rw (is, rest) (sym (take-append-drop n m)) in

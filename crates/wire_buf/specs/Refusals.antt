@@ -21,5 +21,9 @@ ParseRefusal size refusal is_eof x fault = refusal x fault ⊎ (IsTooShort size 
 pub record Behind {A : Type 0} (spells : A → List ℕ → List ℕ → Type 0) (fact : A → List ℕ → Type 0) (before : List ℕ) : Type 0 where
   pub value : A
   pub after : List ℕ
-  pub begins : Begins spells value before after
+  pub begins : Begins (spells value) before after
   pub holds : fact value after
+
+-- what a pair refuses: its first part does, or one stands there and the second part refuses what follows it
+abbrev pub PairRefusal : {A E : Type 0} → (A → List ℕ → List ℕ → Type 0) → (List ℕ → E → Type 0) → (List ℕ → E → Type 0) → List ℕ → E → Type 0
+PairRefusal spells first second x fault = first x fault ⊎ Behind spells (λ v rest. second rest fault) x

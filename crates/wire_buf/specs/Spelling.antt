@@ -1,89 +1,72 @@
 -- What it means that bytes spell a value, and that a value is read from the front of bytes: the words that every field of MySQL's packets and events is stated in.
 use Rattle.std.specs.Prelude.{◌≡◌, ◌++◌, ◌≤◌, ◌<◌, ℕ, zero, suc, List, [], ◌∷◌, length, drop, slice_index, Option, Some, None}
 
--- A form of values: which bytes spell a value before which rest. Most forms don't look at the rest.
+-- A piece says which bytes stand there, before which rest. A form of values has a piece for each: the bytes that spell the value. Most forms don't look at the rest.
 abbrev pub ByteForm : Type 0 → Type 1
 ByteForm A = A → List ℕ → List ℕ → Type 0
 
--- `before` begins with a spelling of v, and `after` is what follows it
-pub record Begins {A : Type 0} (spells : A → List ℕ → List ℕ → Type 0) (v : A) (before after : List ℕ) : Type 0 where
+-- the piece stands at the front of `before`, and `after` is what follows it
+pub record Begins (piece : List ℕ → List ℕ → Type 0) (before after : List ℕ) : Type 0 where
   pub bytes : List ℕ
   pub joined : before ≡ bytes ++ after
-  pub is : spells v bytes after
+  pub is : piece bytes after
 
 -- some value is spelled at the front
 pub record BeginsWith {A : Type 0} (spells : A → List ℕ → List ℕ → Type 0) (before : List ℕ) : Type 0 where
   pub value : A
   pub after : List ℕ
-  pub begins : Begins spells value before after
+  pub begins : Begins (spells value) before after
 
 -- no value is spelled at the front
 abbrev pub Lacks : {A : Type 0} → ByteForm A → List ℕ → Type 0
-Lacks {A} spells before = (v : A) (after : List ℕ) → Begins spells v before after → ⊥
+Lacks {A} spells before = (v : A) (after : List ℕ) → Begins (spells v) before after → ⊥
 
 -- v is the one value that is spelled at the front, and `after` is what follows it
-pub record Reads {A : Type 0} (spells : A → List ℕ → List ℕ → Type 0) (same : A → A → Type 0) (v : A) (before after : List ℕ) : Type 0 where
-  pub begins : Begins spells v before after
-  pub only : (w : A) (rest : List ℕ) → Begins spells w before rest → (rest ≡ after) × same v w
+pub record Reads {A : Type 0} (spells : A → List ℕ → List ℕ → Type 0) (v : A) (before after : List ℕ) : Type 0 where
+  pub begins : Begins (spells v) before after
+  pub only : (w : A) (rest : List ℕ) → Begins (spells w) before rest → (rest ≡ after) × (v ≡ w)
 
 -- A form that doesn't look at the rest.
 abbrev pub Alone : {A : Type 0} → (A → List ℕ → Type 0) → ByteForm A
 Alone spells v bytes rest = spells v bytes
-
--- two values are equal: how values are compared that hold no reference
-abbrev pub Equal : {A : Type 0} → A → A → Type 0
-Equal v w = v ≡ w
-
--- the form of what holds an A: it is spelled as the A that f shows
-abbrev pub Holding : {A B : Type 0} → (B → A) → ByteForm A → ByteForm B
-Holding f spells w bytes rest = spells (f w) bytes rest
-
--- two values are the same where f shows the same
-abbrev pub SameBy : {A B : Type 0} → (B → A) → (A → A → Type 0) → B → B → Type 0
-SameBy f same v w = same (f v) (f w)
 
 -- n bytes, whose value is v
 pub record IsFixed {A : Type 0} (value : List ℕ → A) (n : ℕ) (v : A) (bytes : List ℕ) : Type 0 where
   pub size : length bytes ≡ n
   pub value_is : v ≡ value bytes
 
--- a v, and then a w
-pub record Follows {A B : Type 0} (first : A → List ℕ → List ℕ → Type 0) (second : B → List ℕ → List ℕ → Type 0) (v : A) (w : B) (bytes rest : List ℕ) : Type 0 where
+-- A piece, and then another: what the bodies of events are made of.
+pub record ◌⨾◌ (first second : List ℕ → List ℕ → Type 0) (bytes rest : List ℕ) : Type 0 where
   pub front : List ℕ
   pub back : List ℕ
   pub joined : bytes ≡ front ++ back
-  pub first_is : first v front (back ++ rest)
-  pub second_is : second w back rest
+  pub first_is : first front (back ++ rest)
+  pub second_is : second back rest
 
+infixr 20 ◌⨾◌
 -- the form of a pair: the one, and then the other
 abbrev pub Both : {A B : Type 0} → ByteForm A → ByteForm B → ByteForm (A × B)
-Both first second p bytes rest = Follows first second p.0 p.1 bytes rest
+Both first second p = first p.0 ⨾ second p.1
 
 -- the form of a pair whose second is read in the context that the first gives, as a length or a count
 abbrev pub Then : {A B : Type 0} → ByteForm A → (A → ByteForm B) → ByteForm (A × B)
-Then first second p bytes rest = Follows first (second p.0) p.0 p.1 bytes rest
+Then first second p = first p.0 ⨾ second p.0 p.1
 
--- pairs are the same where both parts are
-abbrev pub SameBoth : {A B : Type 0} → (A → A → Type 0) → (B → B → Type 0) → A × B → A × B → Type 0
-SameBoth first second p q = first p.0 q.0 × second p.1 q.1
+-- the views of a pair's parts
+abbrev pub both : {A B C D : Type 0} → (A → C) → (B → D) → A × B → C × D
+both f g p = (f p.0, g p.1)
 
 -- the first values, and then the last of them
 pub record Ends {A : Type 0} (first : List A → List ℕ → List ℕ → Type 0) (second : A → List ℕ → List ℕ → Type 0) (vs : List A) (bytes rest : List ℕ) : Type 0 where
   pub front : List A
   pub last : A
   pub items : vs ≡ front ++ (last ∷ [])
-  pub spelled : Follows first second front last bytes rest
+  pub spelled : (first front ⨾ second last) bytes rest
 
 -- the form of n values, one after the other
 abbrev pub IsSequence : {A : Type 0} → ℕ → ByteForm A → ByteForm (List A)
 IsSequence zero spells vs bytes rest = (vs ≡ []) × (bytes ≡ [])
 IsSequence (suc n) spells vs bytes rest = Ends (IsSequence n spells) spells vs bytes rest
-
--- lists of one length whose values are the same, each with its like
-abbrev pub SameAll : {A : Type 0} → (A → A → Type 0) → List A → List A → Type 0
-SameAll same [] [] = Unit {0}
-SameAll same (v ∷ vs) (w ∷ ws) = same v w × SameAll same vs ws
-SameAll same vs ws = ⊥
 
 -- where a form has one size, a spelling has it
 abbrev pub HasSize : Option ℕ → ℕ → Type 0

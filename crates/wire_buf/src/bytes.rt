@@ -1,14 +1,13 @@
 //! Bytes as they stand, as fields: slices and buffers of a length that the context gives, and
 //! arrays.
 
-ghost use Rattle.std.specs.Prelude.{◌≡◌, Some, length};
-ghost use Rattle.wire_buf.specs.Spelling.{IsBytes, SameBy, Equal};
+ghost use Rattle.std.specs.Prelude.{◌≡◌, List, ℕ, Some, length};
+ghost use Rattle.wire_buf.specs.Spelling.{Alone, IsBytes};
 ghost use Rattle.wire_buf.specs.Refusals.{EndsBefore};
-ghost use Rattle.wire_buf.specs.declared.fault.WireFault.TheVariants.{Memory};
 
 use crate::fault::WireFault;
 use crate::parse_buf::ParseBuf;
-use crate::traits::{AnySize, FixedSize, MyDeserialize, MySerialize};
+use crate::traits::{AnySize, FixedSize, Inner, MyDeserialize, MySerialize};
 use std::alloc::{Allocator, Global};
 
 /// The next bytes, as many as the context says. It is a part of the source.
@@ -21,13 +20,13 @@ impl<'de> MyDeserialize<'de> for &'de [u8] {
 
     type Fault = WireFault;
 
-    ghost spells = { λ ctx v bytes rest. IsBytes ctx v.now bytes };
+    ghost View = { List ℕ };
 
-    ghost same = { λ v w. v.now ≡ w.now };
+    ghost view = { λ v. v.now };
+
+    ghost spells = { λ ctx. Alone (IsBytes ctx) };
 
     ghost refusal = { EndsBefore };
-
-    ghost is_memory = { λ e. e ≡ Memory };
 
     fn deserialize(
         _alloc: Global,
@@ -41,8 +40,6 @@ impl<'de> MyDeserialize<'de> for &'de [u8] {
     }
 
     ghost sized = { λ ctx v bytes rest h. tt };
-
-    ghost tells_memory = { λ f h. h };
 }
 
 /// The next bytes, as many as the context says, as a buffer of their own.
@@ -55,13 +52,13 @@ impl<'de> MyDeserialize<'de> for ParseBuf<'de> {
 
     type Fault = WireFault;
 
-    ghost spells = { λ ctx v bytes rest. IsBytes ctx v.0.now bytes };
+    ghost View = { List ℕ };
 
-    ghost same = { λ v w. v.0.now ≡ w.0.now };
+    ghost view = { λ v. v.0.now };
+
+    ghost spells = { λ ctx. Alone (IsBytes ctx) };
 
     ghost refusal = { EndsBefore };
-
-    ghost is_memory = { λ e. e ≡ Memory };
 
     fn deserialize(
         _alloc: Global,
@@ -75,8 +72,6 @@ impl<'de> MyDeserialize<'de> for ParseBuf<'de> {
     }
 
     ghost sized = { λ ctx v bytes rest h. tt };
-
-    ghost tells_memory = { λ f h. h };
 }
 
 /// The next LEN bytes.
@@ -89,13 +84,13 @@ impl<'de, const LEN: usize> MyDeserialize<'de> for [u8; LEN] {
 
     type Fault = WireFault;
 
-    ghost spells = { λ ctx v bytes rest. IsBytes LEN v bytes };
+    ghost View = { List ℕ };
 
-    ghost same = { λ v w. v ≡ w };
+    ghost view = { λ v. v };
+
+    ghost spells = { λ ctx. Alone (IsBytes LEN) };
 
     ghost refusal = { λ ctx. EndsBefore LEN };
-
-    ghost is_memory = { λ e. e ≡ Memory };
 
     fn deserialize(
         _alloc: Global,
@@ -108,14 +103,16 @@ impl<'de, const LEN: usize> MyDeserialize<'de> for [u8; LEN] {
     }
 
     ghost sized = { λ ctx v bytes rest h. h.size };
-
-    ghost tells_memory = { λ f h. h };
 }
 
 impl<const LEN: usize> MySerialize for [u8; LEN] {
-    ghost spelling = { λ v. Some v };
+    ghost View = { List ℕ };
 
-    ghost is_shortest = { λ v bytes. bytes ≡ v };
+    ghost view = { λ v. v };
+
+    ghost form = { Alone (IsBytes LEN) };
+
+    ghost spelling = { λ v. Some v };
 
     fn serialize<A: Allocator>(&self, buf: &mut Vec<u8, A>) -> Result<(), WireFault> {
         buf.extend_from_slice(&self[..])?;
@@ -123,14 +120,26 @@ impl<const LEN: usize> MySerialize for [u8; LEN] {
     }
 }
 
+impl<const LEN: usize> Inner for [u8; LEN] {
+    ghost before_any = { λ rest. tt };
+}
+
 /// The bytes of the slice as they stand. `mysql_common` has this for `[u8]`.
 impl MySerialize for &[u8] {
-    ghost spelling = { λ v. Some v.now };
+    ghost View = { List ℕ };
 
-    ghost is_shortest = { λ v bytes. bytes ≡ v.now };
+    ghost view = { λ v. v.now };
+
+    ghost form = { λ v. Alone (IsBytes (length v)) v };
+
+    ghost spelling = { λ v. Some v };
 
     fn serialize<A: Allocator>(&self, buf: &mut Vec<u8, A>) -> Result<(), WireFault> {
         buf.extend_from_slice(self)?;
         Ok(())
     }
+}
+
+impl Inner for &[u8] {
+    ghost before_any = { λ rest. tt };
 }

@@ -9,11 +9,13 @@
 
 mod bytes;
 mod fault;
+mod pair;
 mod parse_buf;
 mod traits;
 mod undo;
 
 pub use fault::WireFault;
+pub use pair::PairSize;
 pub use parse_buf::ParseBuf;
-pub use traits::{AnySize, FixedSize, MyDeserialize, MySerialize, WireSize};
+pub use traits::{AnySize, FieldFault, FixedSize, Inner, MyDeserialize, MySerialize, WireSize};
 pub use undo::whole_or_none;

@@ -1,23 +1,24 @@
 -- Fields whose bytes are always the same, or mean nothing, and fields of one of two forms.
-use Rattle.std.proofs.Common.{◌≡◌, ◌≤◌, ◌⊎◌, inl, inr, ℕ, List, length, take, drop, refl, sym, ◌∙◌, Result, IsErr, IsErrAnd, IfErr}
-use Rattle.std.specs.Bool.{⊤}
+use Rattle.std.proofs.Common.{◌≡◌, ◌≤◌, inr, ℕ, List, length, take, drop, refl, sym, ap, subst, ◌∙◌, Option}
 use Rattle.std.proofs.lemmas.List.{take-append-drop, length-take-le}
-use Rattle.wire_buf.specs.Spelling.{Begins, Reads, Lacks, Alone, Equal, IsBytes}
-use Rattle.wire_buf.proofs.SpellingLemmas.{split_front, IfErr-of_part}
+use Rattle.wire_buf.specs.Spelling.{Begins, Reads, Lacks, Alone, IsBytes}
+use Rattle.wire_buf.proofs.SpellingLemmas.{split_front}
+use Rattle.wire_buf.specs.Writing.{WritesField}
 use Rattle.wire_buf.specs.declared.fault.WireFault.{WireFault}
 use Rattle.wire_buf.specs.declared.fault.WireFault.TheVariants.{BadConst}
-use Rattle.wire_forms.specs.Consts.{ConstRefusal}
-use Rattle.wire_forms.specs.Eithers.{IsEither, SameEither}
+use Rattle.wire_forms.specs.Consts.{ConstRefusal, IsConstant}
+use Rattle.wire_forms.specs.Texts.{IsSkipped}
+use Rattle.wire_forms.specs.Eithers.{IsEither, IsSide, either_spelling}
 use Rattle.wire_forms.specs.declared.either.Either.{Either}
 use Rattle.wire_forms.specs.declared.either.Either.TheVariants.{Left, Right}
 
 -- a value stands there that is no constant
 pub unknown_stands : {N : Type 0} (unknown : N → Type 0) (spells : N → List ℕ → Type 0) (fault_at : List ℕ → WireFault) (v : N) (x r : List ℕ)
-    → Reads (Alone spells) Equal v x r → unknown v → ConstRefusal unknown spells fault_at x BadConst
+    → Reads (Alone spells) v x r → unknown v → ConstRefusal unknown spells fault_at x BadConst
 unknown_stands unknown spells fault_at v x r p none = inr (record { value = v; after = r; begins = p.begins; holds = none }, refl)
 
 -- n bytes as they stand
-pub bytes_read : (n : ℕ) (v x r : List ℕ) → n ≤ length x → v ≡ take n x → r ≡ drop n x → Reads (Alone (IsBytes n)) Equal v x r
+pub bytes_read : (n : ℕ) (v x r : List ℕ) → n ≤ length x → v ≡ take n x → r ≡ drop n x → Reads (Alone (IsBytes n)) v x r
 bytes_read n v x r room is rest =
     let size = length-take-le n x room in
     record {
@@ -30,31 +31,56 @@ bytes_read n v x r room is rest =
     }
 
 -- n bytes that mean nothing
-pub skipped : {A : Type 0} (n : ℕ) (v : A) (x r : List ℕ) → n ≤ length x → r ≡ drop n x
-    → Reads (λ (w : A) bytes rest. length bytes ≡ n) (λ w u. ⊤) v x r
-skipped n v x r room rest = record {
+pub skipped : (n : ℕ) (x r : List ℕ) → n ≤ length x → r ≡ drop n x → Reads {A = Unit {0}} (λ v. IsSkipped n) tt x r
+skipped n x r room rest = record {
   begins = record { bytes = take n x; joined = rw rest (sym (take-append-drop n x)); is = length-take-le n x room };
-  only = λ w s t. let p = split_front n x t.bytes s t.is t.joined in ((sym p.1 ∙ sym rest), tt);
+  only = λ w s t. let p = split_front n x t.bytes s t.is t.joined in ((sym p.1 ∙ sym rest), refl);
 }
 
+-- a value that has to be v
+module _ {A : Type 0} (spells : A → List ℕ → List ℕ → Type 0) (v : A) where
+  pub constant_reads : (w : A) (x r : List ℕ) → w ≡ v → Reads spells w x r → Reads {A = Unit {0}} (λ u. spells v) tt x r
+  constant_reads w x r e p = record {
+    begins = subst (λ (a : A). Begins (spells a) x r) e p.begins;
+    only = λ u s t. ((p.only v s t).0, refl);
+  }
+
+  pub constant_lacks : (w : A) (x r : List ℕ) → (w ≡ v → ⊥) → Reads spells w x r → Lacks {A = Unit {0}} (λ u. spells v) x
+  constant_lacks w x r other p u s t = other (p.only v s t).1
+
+-- the number of a constant
+module _ {C N : Type 0} (number : C → N) (spells : N → List ℕ → List ℕ → Type 0) where
+  number_begins : (n : N) (x r : List ℕ) → Begins (IsConstant number spells n) x r → Begins (spells n) x r
+  number_begins n x r t = record { bytes = t.bytes; joined = t.joined; is = t.is.spelled }
+
+  pub number_reads : (c : C) (n : N) (x r : List ℕ) → number c ≡ n → Reads spells n x r → Reads (IsConstant number spells) (number c) x r
+  number_reads c n x r e p = rw e (record {
+    begins = record { bytes = p.begins.bytes; joined = p.begins.joined; is = record { constant = c; number_is = e; spelled = p.begins.is } };
+    only = λ w s t. p.only w s (number_begins w x s t);
+  })
+
+  pub number_lacks : (x : List ℕ) → Lacks spells x → Lacks (IsConstant number spells) x
+  number_lacks x lacks w s t = lacks w s (number_begins w x s t)
+
+  pub unknown_lacks : (n : N) (x r : List ℕ) → Reads spells n x r → ((c : C) → number c ≡ n → ⊥) → Lacks (IsConstant number spells) x
+  unknown_lacks n x r p none w s t = none t.is.constant (t.is.number_is ∙ sym (p.only w s (number_begins w x s t)).1)
+
 module _ {C D A B : Type 0} (first : C → A → List ℕ → List ℕ → Type 0) (second : D → B → List ℕ → List ℕ → Type 0) where
-  Reads-left : (same : A → A → Type 0) (alike : B → B → Type 0) (c : C) (v : A) (x r : List ℕ) → Reads (first c) same v x r
-      → Reads (IsEither first second (Left c)) (SameEither same alike) (Left v) x r
-  Reads-left same alike c v x r p = record {
+  Reads-left : (c : C) (v : A) (x r : List ℕ) → Reads (first c) v x r → Reads (IsEither first second (Left c)) (Left v) x r
+  Reads-left c v x r p = record {
     begins = record { bytes = p.begins.bytes; joined = p.begins.joined; is = p.begins.is };
-    only = λ w s t. elim w as (λ w. Begins (IsEither first second (Left c)) w x s → (s ≡ r) × SameEither same alike (Left v) w) [
-      | Left a ↦ λ t. p.only a s (record { bytes = t.bytes; joined = t.joined; is = t.is })
+    only = λ w s t. elim w as (λ w. Begins (IsEither first second (Left c) w) x s → (s ≡ r) × (Left v ≡ w)) [
+      | Left a ↦ λ t. let o = p.only a s (record { bytes = t.bytes; joined = t.joined; is = t.is }) in (o.0, ap (λ (q : A). Left q) o.1)
       | Right b ↦ λ t. absurd t.is
     ] t;
   }
 
-  Reads-right : (same : A → A → Type 0) (alike : B → B → Type 0) (d : D) (w : B) (x r : List ℕ) → Reads (second d) alike w x r
-      → Reads (IsEither first second (Right d)) (SameEither same alike) (Right w) x r
-  Reads-right same alike d w x r p = record {
+  Reads-right : (d : D) (w : B) (x r : List ℕ) → Reads (second d) w x r → Reads (IsEither first second (Right d)) (Right w) x r
+  Reads-right d w x r p = record {
     begins = record { bytes = p.begins.bytes; joined = p.begins.joined; is = p.begins.is };
-    only = λ v s t. elim v as (λ v. Begins (IsEither first second (Right d)) v x s → (s ≡ r) × SameEither same alike (Right w) v) [
+    only = λ v s t. elim v as (λ v. Begins (IsEither first second (Right d) v) x s → (s ≡ r) × (Right w ≡ v)) [
       | Left a ↦ λ t. absurd t.is
-      | Right b ↦ λ t. p.only b s (record { bytes = t.bytes; joined = t.joined; is = t.is })
+      | Right b ↦ λ t. let o = p.only b s (record { bytes = t.bytes; joined = t.joined; is = t.is }) in (o.0, ap (λ (q : B). Right q) o.1)
     ] t;
   }
 
@@ -68,26 +94,24 @@ module _ {C D A B : Type 0} (first : C → A → List ℕ → List ℕ → Type 
 
   -- a context names the left side
   module _ (ctx : Either C D) (c : C) (is : ctx ≡ Left c) (x : List ℕ) where
-    pub read_left : (same : A → A → Type 0) (alike : B → B → Type 0) (v : A) (r : List ℕ) → Reads (first c) same v x r
-        → Reads (IsEither first second ctx) (SameEither same alike) (Left v) x r
-    read_left same alike v r p = rw is (Reads-left same alike c v x r p)
+    pub read_left : (v : A) (r : List ℕ) → Reads (first c) v x r → Reads (IsEither first second ctx) (Left v) x r
+    read_left v r p = rw is (Reads-left c v x r p)
 
-    pub refused_left : {T E : Type 0} (M N : E → Type 0) (r : Result T E) (e : E) → IsErr r × IsErrAnd r (λ y. y ≡ e)
-        → M e ⊎ Lacks (first c) x → IfErr r (λ y. (M y ⊎ N y) ⊎ Lacks (IsEither first second ctx) x)
-    refused_left M N r e h part =
-        IfErr-of_part (λ y. M y ⊎ N y) (Lacks (first c) x) (Lacks (IsEither first second ctx) x) r e h
-        (elim part as (λ _. (M e ⊎ N e) ⊎ Lacks (first c) x) [ inl m ↦ inl (inl m) | inr l ↦ inr l ])
-        (λ l. rw is (Lacks-left c x l))
+    pub lacks_left : Lacks (first c) x → Lacks (IsEither first second ctx) x
+    lacks_left l = rw is (Lacks-left c x l)
 
   -- a context names the right side
   module _ (ctx : Either C D) (d : D) (is : ctx ≡ Right d) (x : List ℕ) where
-    pub read_right : (same : A → A → Type 0) (alike : B → B → Type 0) (w : B) (r : List ℕ) → Reads (second d) alike w x r
-        → Reads (IsEither first second ctx) (SameEither same alike) (Right w) x r
-    read_right same alike w r p = rw is (Reads-right same alike d w x r p)
+    pub read_right : (w : B) (r : List ℕ) → Reads (second d) w x r → Reads (IsEither first second ctx) (Right w) x r
+    read_right w r p = rw is (Reads-right d w x r p)
 
-    pub refused_right : {T E : Type 0} (M N : E → Type 0) (r : Result T E) (e : E) → IsErr r × IsErrAnd r (λ y. y ≡ e)
-        → N e ⊎ Lacks (second d) x → IfErr r (λ y. (M y ⊎ N y) ⊎ Lacks (IsEither first second ctx) x)
-    refused_right M N r e h part =
-        IfErr-of_part (λ y. M y ⊎ N y) (Lacks (second d) x) (Lacks (IsEither first second ctx) x) r e h
-        (elim part as (λ _. (M e ⊎ N e) ⊎ Lacks (second d) x) [ inl m ↦ inl (inr m) | inr l ↦ inr l ])
-        (λ l. rw is (Lacks-right d x l))
+    pub lacks_right : Lacks (second d) x → Lacks (IsEither first second ctx) x
+    lacks_right l = rw is (Lacks-right d x l)
+
+-- one side is written
+module _ {A B : Type 0} (pf : A → Option (List ℕ)) (pg : B → Option (List ℕ)) (f : A → List ℕ → List ℕ → Type 0) (g : B → List ℕ → List ℕ → Type 0) (sf sg : List ℕ → Type 0) (old new : List ℕ) where
+  pub written_left : (v : A) → WritesField pf f sf v old new → WritesField (either_spelling pf pg) (IsSide f g) (λ rest. sf rest × sg rest) (Left v) old new
+  written_left v w = record { bytes = w.bytes; is = w.is; appended = w.appended; spells = λ rest s. w.spells rest s.0; least = λ other rest h are. w.least other rest h are }
+
+  pub written_right : (v : B) → WritesField pg g sg v old new → WritesField (either_spelling pf pg) (IsSide f g) (λ rest. sf rest × sg rest) (Right v) old new
+  written_right v w = record { bytes = w.bytes; is = w.is; appended = w.appended; spells = λ rest s. w.spells rest s.1; least = λ other rest h are. w.least other rest h are }

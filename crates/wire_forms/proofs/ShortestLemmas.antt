@@ -1,29 +1,45 @@
--- What is written for a field is a shortest spelling of it.
-use Rattle.std.proofs.Common.{◌≡◌, ◌<◌, ◌^◌, ◌++◌, ℕ, List, length, arith, refl}
+-- What is written for a field whose bytes are always the same is a shortest spelling of it.
+use Rattle.std.proofs.Common.{◌≡◌, ◌<◌, ◌^◌, ◌++◌, ℕ, List, length, replicate, Some, arith, refl}
+use Rattle.std.specs.Bool.{⊤}
+use Rattle.std.proofs.lemmas.List.{length-replicate}
 use Rattle.byteorder.specs.Endian.{little_bytes}
-use Rattle.wire_buf.specs.Spelling.{IsShortest, IsBytes}
+use Rattle.wire_buf.specs.Spelling.{Alone, IsBytes}
 use Rattle.wire_buf.specs.Numbers.{IsLittle}
-use Rattle.wire_buf.specs.Writing.{AppendsOf}
+use Rattle.wire_buf.specs.Writing.{WritesField}
 use Rattle.wire_buf.proofs.LenencLemmas.{little_bytes-sound}
-use Rattle.wire_forms.specs.Texts.{IsShortestText, WritesText}
+use Rattle.wire_forms.specs.Texts.{IsSkipped}
 
 -- a number in n bytes
-pub number_shortest : (n k : ℕ) (old new : List ℕ) → k < 256 ^ n → new ≡ old ++ little_bytes n k → AppendsOf (IsShortest (IsLittle n) k) old new
-number_shortest n k old new fits appended = let is = little_bytes-sound n k fits in record {
+pub number_written : (n k : ℕ) (old new : List ℕ) → k < 256 ^ n → new ≡ old ++ little_bytes n k
+    → WritesField {A = Unit {0}} (λ v. Some (little_bytes n k)) (λ v. Alone (IsLittle n) k) (λ rest. ⊤) tt old new
+number_written n k old new fits appended = let is = little_bytes-sound n k fits in record {
   bytes = little_bytes n k;
+  is = refl;
   appended = appended;
-  is = record { is = is; least = λ other h _. let size = is.size in let e = h.size in omega (arith, size, e) };
+  spells = λ rest s. is;
+  least = λ other rest h are. let size = is.size in let e = h.size in omega (arith, size, e);
 }
 
 -- n bytes as they stand
-pub bytes_shortest : (n : ℕ) (v old new : List ℕ) → length v ≡ n → new ≡ old ++ v → AppendsOf (IsShortest (IsBytes n) v) old new
-bytes_shortest n v old new size appended = record {
+pub constant_written : (n : ℕ) (v old new : List ℕ) → length v ≡ n → new ≡ old ++ v
+    → WritesField {A = Unit {0}} (λ w. Some v) (λ w. Alone (IsBytes n) v) (λ rest. ⊤) tt old new
+constant_written n v old new size appended = record {
   bytes = v;
+  is = refl;
   appended = appended;
-  is = record { is = record { size = size; bytes_are = refl }; least = λ other h _. let e = h.size in omega (arith, size, e) };
+  spells = λ rest s. record { size = size; bytes_are = refl };
+  least = λ other rest h are. let e = h.size in omega (arith, size, e);
 }
 
--- a text
-pub text_shortest : {C : Type 0} {spells : C → List ℕ → List ℕ → List ℕ → Type 0} {suits : C → List ℕ → List ℕ → Type 0} {bytes text old new : List ℕ}
-    → WritesText spells suits bytes text old new → AppendsOf (IsShortestText spells suits text) old new
-text_shortest {bytes = bytes} w = record { bytes = bytes; appended = w.appended; is = record { is = w.is; least = w.least } }
+-- n zeros for bytes that mean nothing
+pub zeros_written : (n : ℕ) (old new : List ℕ) → new ≡ old ++ replicate n 0
+    → WritesField {A = Unit {0}} (λ w. Some (replicate n 0)) (λ w. IsSkipped n) (λ rest. ⊤) tt old new
+zeros_written n old new appended =
+    let size : length (replicate n 0) ≡ n = length-replicate n 0 in
+    record {
+      bytes = replicate n 0;
+      is = refl;
+      appended = appended;
+      spells = λ rest s. size;
+      least = λ other rest h are. omega (arith, size, h);
+    }

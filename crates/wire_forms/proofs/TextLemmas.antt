@@ -9,9 +9,9 @@ use Rattle.std.proofs.lemmas.List.Sums.{take_while-cons}
 use Rattle.std.proofs.lemmas.Bool.{cases_order}
 use Rattle.std.proofs.lemmas.Bool.Decides.{Decides-eqb, eqb_tells}
 use Rattle.memchr.specs.Find.{NoneBefore, Passes, is_byte}
-use Rattle.wire_buf.specs.Spelling.{Reads, Lacks, Alone, Equal}
+use Rattle.wire_buf.specs.Spelling.{Reads, Lacks, Alone}
 use Rattle.wire_buf.specs.Numbers.{IsCounted, IsLittle}
-use Rattle.wire_buf.specs.Writing.{Writes}
+use Rattle.wire_buf.specs.Writing.{Writes, WritesField}
 use Rattle.wire_buf.specs.declared.fault.WireFault.{WireFault}
 use Rattle.wire_buf.specs.declared.fault.WireFault.TheVariants.{Eof}
 use Rattle.wire_buf.proofs.SpellingLemmas.{split_front}
@@ -20,11 +20,11 @@ use Rattle.wire_ints.specs.Sevens.{IsVarLen, varlen_spelling}
 use Rattle.wire_ints.specs.Strings.{counted_bytes, counted_spelling}
 use Rattle.wire_ints.proofs.WritingLemmas.{counted_least}
 use Rattle.wire_ints.proofs.SevenLemmas.{varlen_least}
-use Rattle.wire_forms.specs.Texts.{IsNullEnded, before_zero, WritesText, varlen_string_spelling, CountedRefusal}
+use Rattle.wire_forms.specs.Texts.{IsNullEnded, before_zero, varlen_string_spelling, CountedRefusal}
 
 -- the bytes before the first zero
 pub null_reads : (x : List ℕ) (k : ℕ) (v m r : List ℕ) → NoneBefore (Passes (is_byte 0) x) 0 (length x) k × Passes (is_byte 0) x k
-    → v ≡ take k x → m ≡ drop k x → r ≡ drop 1 m → Reads (Alone IsNullEnded) Equal v x r
+    → v ≡ take k x → m ≡ drop k x → r ≡ drop 1 m → Reads (Alone IsNullEnded) v x r
 null_reads x k v m r first is middle rest =
     let inside : k < length x = first.0.high in
     let zero_at : slice_index x k ≡ 0 = (Decides-eqb (slice_index x k) 0).0 first.1 in
@@ -86,22 +86,26 @@ before_zero-clear (b ∷ x) = elim (eqb_tells b 0) [
 ]
 
 pub null_writes : (text b old mid new : List ℕ) → b ≡ before_zero text → mid ≡ old ++ b → new ≡ mid ++ (0 ∷ [])
-    → WritesText {C = Unit {0}} (λ ctx. Alone IsNullEnded) (λ ctx v rest. ⊤) (before_zero text ++ (0 ∷ [])) (before_zero text) old new
+    → WritesField (λ v. Some (v ++ (0 ∷ []))) (Alone IsNullEnded) (λ rest. ⊤) (before_zero text) old new
 null_writes text b old mid new e first last = record {
+  bytes = before_zero text ++ (0 ∷ []);
+  is = refl;
   appended = last ∙ ap (λ (l : List ℕ). l ++ (0 ∷ [])) (first ∙ ap (λ (l : List ℕ). old ++ l) e) ∙ append_assoc old (before_zero text) (0 ∷ []);
-  is = λ ctx rest h. record { joined = refl; no_zero = before_zero-clear text };
-  least = λ ctx other rest h are. let size = ap length h.joined in omega (arith, size);
+  spells = λ rest s. record { joined = refl; no_zero = before_zero-clear text };
+  least = λ other rest h are. let size = ap length h.joined in omega (arith, size);
 }
 
 -- a string behind a VarLen is written
 pub varlen_writes : (s t count old new : List ℕ) → s ≡ t → length s < 2 ^ 32 → count ≡ varlen_spelling (length s) → new ≡ (old ++ count) ++ s
-    → WritesText {C = Unit {0}} (λ ctx. Alone (IsCounted IsVarLen)) (λ ctx v rest. ⊤) (varlen_string_spelling t) t old new
+    → WritesField (λ v. Some (varlen_string_spelling v)) (Alone (IsCounted IsVarLen)) (λ rest. ⊤) t old new
 varlen_writes s t count old new e fits spelled last =
     let shortest = counted_least IsVarLen s (varlen_spelling (length s)) (varlen_least (length s) fits) in
     rw (← e) (record {
+      bytes = varlen_string_spelling s;
+      is = refl;
       appended = last ∙ append_assoc old count s ∙ ap (λ (l : List ℕ). old ++ (l ++ s)) spelled;
-      is = λ ctx rest h. shortest.is;
-      least = λ ctx other rest h are. shortest.least other h are;
+      spells = λ rest h. shortest.is;
+      least = λ other rest h are. shortest.least other h are;
     })
 
 some_if : {A : Type 0} (b : Bool) (x y : A) → (if b then Some x else None) ≡ Some y → x ≡ y
@@ -110,14 +114,16 @@ some_if false x y e = absurd (cc e)
 
 -- a string behind a count that it fits is written
 pub counted_writes : (n : ℕ) (t old new : List ℕ) → Writes (counted_spelling n) (IsCounted (IsLittle n)) t old new
-    → WritesText {C = Unit {0}} (λ ctx. Alone (IsCounted (IsLittle n))) (λ ctx v rest. ⊤) (counted_bytes n t) t old new
+    → WritesField (λ v. Some (counted_bytes n v)) (Alone (IsCounted (IsLittle n))) (λ rest. ⊤) t old new
 counted_writes n t old new w =
     let e = some_if (nat_lt (length t) (256 ^ n)) (counted_bytes n t) w.bytes w.is in
-    rw e (record {
+    record {
+      bytes = w.bytes;
+      is = ap Some e;
       appended = w.appended;
-      is = λ ctx rest h. w.least.is;
-      least = λ ctx other rest h are. w.least.least other h are;
-    })
+      spells = λ rest h. w.least.is;
+      least = λ other rest h are. w.least.least other h are;
+    }
 
 module _ (counts : ℕ → List ℕ → Type 0) (fault_at : List ℕ → WireFault) where
   -- the fault of a length that isn't there
@@ -128,6 +134,6 @@ module _ (counts : ℕ → List ℕ → Type 0) (fault_at : List ℕ → WireFau
       rw (p.1, p.2) (Lacks-count counts x l.0, inl l)
 
   -- a length stands there, and fewer bytes behind it
-  pub count_short : (n : ℕ) (x m : List ℕ) → Reads (Alone counts) Equal n x m → length m < n
+  pub count_short : (n : ℕ) (x m : List ℕ) → Reads (Alone counts) n x m → length m < n
       → Lacks (Alone (IsCounted counts)) x × CountedRefusal counts fault_at x Eof
   count_short n x m p short = (Lacks-counted counts n x m p short, inr (record { value = n; after = m; begins = p.begins }, refl))

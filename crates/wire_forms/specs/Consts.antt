@@ -9,3 +9,9 @@ use Rattle.wire_buf.specs.Refusals.{Behind}
 abbrev pub ConstRefusal : {N : Type 0} → (N → Type 0) → (N → List ℕ → Type 0) → (List ℕ → WireFault) → List ℕ → WireFault → Type 0
 ConstRefusal unknown spells fault_at x fault =
     (Lacks (Alone spells) x × (fault ≡ fault_at x)) ⊎ (Behind (Alone spells) (λ n rest. unknown n) x × (fault ≡ BadConst))
+
+-- a constant's number: some constant has it, and it is spelled
+pub record IsConstant {C N : Type 0} (number : C → N) (spells : N → List ℕ → List ℕ → Type 0) (n : N) (bytes rest : List ℕ) : Type 0 where
+  pub constant : C
+  pub number_is : number constant ≡ n
+  pub spelled : spells n bytes rest

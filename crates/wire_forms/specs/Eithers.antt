@@ -10,11 +10,15 @@ IsEither first second (Left c) (Left v) bytes rest = first c v bytes rest
 IsEither first second (Right d) (Right w) bytes rest = second d w bytes rest
 IsEither first second ctx v bytes rest = ⊥
 
--- both are on one side, and the same there
-abbrev pub SameEither : {A B : Type 0} → (A → A → Type 0) → (B → B → Type 0) → Either A B → Either A B → Type 0
-SameEither first second (Left v) (Left w) = first v w
-SameEither first second (Right v) (Right w) = second v w
-SameEither first second v w = ⊥
+-- the same without a context
+abbrev pub IsSide : {A B : Type 0} → ByteForm A → ByteForm B → ByteForm (Either A B)
+IsSide first second (Left v) = first v
+IsSide first second (Right w) = second w
+
+-- what is seen of the side that is there
+abbrev pub either_view : {A B C D : Type 0} → (A → C) → (B → D) → Either A B → Either C D
+either_view first second (Left v) = Left (first v)
+either_view first second (Right w) = Right (second w)
 
 -- what is refused on the side of the context
 abbrev pub EitherRefusal : {C D E : Type 0} → (C → List ℕ → E → Type 0) → (D → List ℕ → E → Type 0) → Either C D → List ℕ → E → Type 0
@@ -25,11 +29,6 @@ EitherRefusal first second (Right d) x fault = second d x fault
 abbrev pub either_spelling : {A B : Type 0} → (A → Option (List ℕ)) → (B → Option (List ℕ)) → Either A B → Option (List ℕ)
 either_spelling first second (Left v) = first v
 either_spelling first second (Right w) = second w
-
--- the bytes are a shortest spelling of the side that is there
-abbrev pub IsShortestEither : {A B : Type 0} → (A → List ℕ → Type 0) → (B → List ℕ → Type 0) → Either A B → List ℕ → Type 0
-IsShortestEither first second (Left v) bytes = first v bytes
-IsShortestEither first second (Right w) bytes = second w bytes
 
 abbrev pub IsLeft : {A B : Type 0} → Either A B → Type 0
 IsLeft (Left v) = ⊤

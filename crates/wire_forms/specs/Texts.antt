@@ -1,6 +1,6 @@
 -- Byte strings as bytes: what is left of a packet, strings that end in a zero, strings of fixed length, and what is written for them. `Numbers` of wire_buf has the strings behind a count.
-use Rattle.std.specs.Prelude.{◌≡◌, ◌≢◌, ◌++◌, ◌<◌, ◌≤◌, ◌-◌, ◌⊎◌, ℕ, List, [], ◌∷◌, length, take, take_while, replicate, slice_index, not, ◌==◌}
-use Rattle.wire_buf.specs.Spelling.{AreBytes, Alone, BeginsWith, Lacks}
+use Rattle.std.specs.Prelude.{◌≡◌, ◌≢◌, ◌++◌, ◌<◌, ◌-◌, ◌⊎◌, ℕ, List, [], ◌∷◌, length, take, take_while, replicate, slice_index, not, ◌==◌}
+use Rattle.wire_buf.specs.Spelling.{Alone, BeginsWith, Lacks}
 use Rattle.wire_buf.specs.declared.fault.WireFault.{WireFault}
 use Rattle.wire_buf.specs.declared.fault.WireFault.TheVariants.{Eof}
 use Rattle.wire_ints.specs.Sevens.{varlen_spelling}
@@ -32,13 +32,6 @@ abbrev pub CountedRefusal : (ℕ → List ℕ → Type 0) → (List ℕ → Wire
 CountedRefusal counts fault_at x fault =
     (Lacks (Alone counts) x × (fault ≡ fault_at x)) ⊎ (BeginsWith (Alone counts) x × (fault ≡ Eof))
 
--- The bytes spell the text in each context, before each rest, that suits it, and no spelling of it is shorter.
-pub record IsShortestText {C : Type 0} (spells : C → List ℕ → List ℕ → List ℕ → Type 0) (suits : C → List ℕ → List ℕ → Type 0) (text bytes : List ℕ) : Type 0 where
-  pub is : (ctx : C) (rest : List ℕ) → suits ctx text rest → spells ctx text bytes rest
-  pub least : (ctx : C) (other rest : List ℕ) → spells ctx text other rest → AreBytes other → length bytes ≤ length other
-
--- The bytes of a text are appended: they spell it in each context, before each rest, that suits it, and no spelling of it is shorter.
-pub record WritesText {C : Type 0} (spells : C → List ℕ → List ℕ → List ℕ → Type 0) (suits : C → List ℕ → List ℕ → Type 0) (bytes text old new : List ℕ) : Type 0 where
-  pub appended : new ≡ old ++ bytes
-  pub is : (ctx : C) (rest : List ℕ) → suits ctx text rest → spells ctx text bytes rest
-  pub least : (ctx : C) (other rest : List ℕ) → spells ctx text other rest → AreBytes other → length bytes ≤ length other
+-- n bytes that mean nothing
+abbrev pub IsSkipped : ℕ → List ℕ → List ℕ → Type 0
+IsSkipped n bytes rest = length bytes ≡ n

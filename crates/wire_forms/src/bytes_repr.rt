@@ -1,9 +1,9 @@
-ghost use Rattle.std.specs.Prelude.{◌≡◌, ⊤, List, ℕ, length, OnOk, IfOk, IfErr};
+ghost use Rattle.std.specs.Prelude.{◌≡◌, ⊤, List, ℕ, length, OnOk, IfOk, IfErr, Some};
 ghost use Rattle.std.specs.Cow.{cow_slice_items, IsBorrowedSlice};
-ghost use Rattle.wire_buf.specs.Spelling.{Reads, Lacks, HasSize, HasRoom, Equal};
+ghost use Rattle.wire_buf.specs.Spelling.{Reads, Lacks, HasSize, HasRoom};
 ghost use Rattle.wire_buf.specs.declared.fault.WireFault.{WireFault};
 ghost use Rattle.wire_buf.specs.declared.fault.WireFault.TheVariants.{Eof, Memory};
-ghost use Rattle.wire_forms.specs.Texts.{WritesText};
+ghost use Rattle.wire_buf.specs.Writing.{WritesField};
 
 use std::alloc::Allocator;
 use std::borrow::CowSlice;
@@ -29,8 +29,11 @@ pub trait BytesRepr {
     /// The bytes that are written for what is kept.
     ghost spelling: { List ℕ → List ℕ } = { λ v. v };
 
-    /// The context and the rest, with which a written string is read back.
-    ghost suits: { Self.Ctx → List ℕ → List ℕ → Type 0 } = { λ ctx v rest. ⊤ };
+    /// The one context in which a string is read: its length, or nothing.
+    ghost context: { List ℕ → Self.Ctx };
+
+    /// Before which rest the bytes that are written are a spelling.
+    ghost suits: { List ℕ → Type 0 } = { λ rest. ⊤ };
 
     /// The fault at bytes that no string is spelled at the front of: `Eof` where bytes are missing.
     ghost is_fault: { List ℕ → WireFault → Type 0 } = { λ x fault. fault ≡ Eof };
@@ -44,7 +47,7 @@ pub trait BytesRepr {
     ) -> Result<CowSlice<'de, u8>, WireFault>
         requires { HasRoom Self.Size.SIZE (length buf.old.0.now) }
         ensures ok { IfOk result
-            (λ v. Reads (spells ctx) Equal (cow_slice_items v) buf.old.0.now buf.new.0.now) }
+            (λ v. Reads (spells ctx) (cow_slice_items v) buf.old.0.now buf.new.0.now) }
         ensures borrowed { IfOk result (λ v. IsBorrowedSlice v) }
         ensures err { IfErr result
             (λ e. Lacks (spells ctx) buf.old.0.now × is_fault buf.old.0.now e) };
@@ -52,10 +55,18 @@ pub trait BytesRepr {
     /// Appends the shortest spelling of what is kept of `text`, on the buffer's own allocator.
     /// Want of memory is the one refusal, and leaves the bytes of `buf` as they were.
     fn serialize<A: Allocator>(text: &[u8], buf: &mut Vec<u8, A>) -> Result<(), WireFault>
-        ensures ok { OnOk result (WritesText spells suits (spelling (kept text.now)) (kept text.now)
-            buf.old.items buf.new.items) }
+        ensures ok { OnOk result (WritesField (λ v. Some (spelling v)) (λ v. spells (context v) v) suits
+            (kept text.now) buf.old.items buf.new.items) }
         ensures err { IfErr result (λ e. (e ≡ Memory) × (buf.new.items ≡ buf.old.items)) };
 
     /// A spelling has the size.
     ghost sized: { (ctx : Self.Ctx) (v bytes rest : List ℕ) → spells ctx v bytes rest → HasSize Self.Size.SIZE (length bytes) };
+
+    /// A string is spelled in its own context alone.
+    ghost one_context: { (ctx : Self.Ctx) (v bytes rest : List ℕ) → spells ctx v bytes rest → ctx ≡ context v };
+}
+
+/// A representation whose strings others may follow: all but that of what is left.
+pub trait InnerBytes: BytesRepr {
+    ghost before_any: { (rest : List ℕ) → Self.suits rest };
 }

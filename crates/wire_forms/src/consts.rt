@@ -5,14 +5,13 @@ ghost use Rattle.std.specs.Borrow.{Lends, sem};
 ghost use Rattle.wire_forms.specs.contracts.consts.Const.{the_row as const_row};
 ghost use Rattle.wire_forms.specs.contracts.consts.RawConst.{the_row as raw_const_row};
 ghost use Rattle.wire_forms.specs.Overwritten.{with_value, with_raw_number};
-ghost use Rattle.wire_buf.specs.Spelling.{Alone, Equal, Holding, SameBy, IsShortest, Lacks};
-ghost use Rattle.wire_forms.specs.Consts.{ConstRefusal};
-ghost use Rattle.wire_buf.specs.declared.fault.WireFault.TheVariants.{Memory};
+ghost use Rattle.wire_buf.specs.Spelling.{Alone, Lacks};
+ghost use Rattle.wire_forms.specs.Consts.{ConstRefusal, IsConstant};
 
 use std::alloc::{Allocator, Global};
 use std::marker::PhantomData;
 use std::ops::{Deref, DerefMut};
-use wire_buf::{MyDeserialize, MySerialize, ParseBuf, WireFault};
+use wire_buf::{Inner, MyDeserialize, MySerialize, ParseBuf, WireFault};
 use wire_consts::Constant;
 use wire_ints::IntRepr;
 
@@ -71,13 +70,13 @@ impl<'de, T: IntRepr, U> MyDeserialize<'de> for RawConst<T, U> {
 
     type Fault = WireFault;
 
-    ghost spells = { λ ctx. Holding (λ v. v.0) (Alone T.spells) };
+    ghost View = { T.Primitive };
 
-    ghost same = { SameBy (λ v. v.0) Equal };
+    ghost view = { λ v. v.0 };
+
+    ghost spells = { λ ctx. Alone T.spells };
 
     ghost refusal = { λ ctx x e. Lacks (Alone T.spells) x × (e ≡ T.fault_at x) };
-
-    ghost is_memory = { λ e. e ≡ Memory };
 
     fn deserialize(
         _alloc: Global,
@@ -88,20 +87,26 @@ impl<'de, T: IntRepr, U> MyDeserialize<'de> for RawConst<T, U> {
         Ok(RawConst::new(number))
     }
 
-    ghost sized = { λ ctx v bytes rest h. T.sized v.0 bytes h };
-
-    ghost tells_memory = { λ f h. h };
+    ghost sized = { λ ctx v bytes rest h. T.sized v bytes h };
 }
 
 impl<T: IntRepr, U> MySerialize for RawConst<T, U> {
-    ghost spelling = { λ v. T.spelling (T.kept v.0) };
+    ghost View = { T.Primitive };
 
-    ghost is_shortest = { λ v. IsShortest T.spells (T.kept v.0) };
+    ghost view = { λ v. T.kept v.0 };
 
-    #[tactic(auto, using(wire_buf::proofs::SpellingLemmas::writes_shortest))]
+    ghost form = { Alone T.spells };
+
+    ghost spelling = { T.spelling };
+
+    #[tactic(auto, using(wire_buf::proofs::WritingLemmas::writes_field))]
     fn serialize<A: Allocator>(&self, buf: &mut Vec<u8, A>) -> Result<(), WireFault> {
         T::serialize(self.0, buf)
     }
+}
+
+impl<T: IntRepr, U> Inner for RawConst<T, U> {
+    ghost before_any = { λ rest. tt };
 }
 
 /// A constant, as its number in the representation `U`. A number that no constant has is refused
@@ -153,13 +158,13 @@ where
 
     type Fault = WireFault;
 
-    ghost spells = { λ ctx. Holding (λ v. T.number v.0) (Alone U.spells) };
+    ghost View = { U.Primitive };
 
-    ghost same = { SameBy (λ v. T.number v.0) Equal };
+    ghost view = { λ v. T.number v.0 };
+
+    ghost spells = { λ ctx. IsConstant T.number (Alone U.spells) };
 
     ghost refusal = { λ ctx. ConstRefusal (λ n. (v : _) → T.number v ≡ n → ⊥) U.spells U.fault_at };
-
-    ghost is_memory = { λ e. e ≡ Memory };
 
     fn deserialize(
         _alloc: Global,
@@ -173,20 +178,26 @@ where
         Ok(Const::new(value))
     }
 
-    ghost sized = { λ ctx v bytes rest h. U.sized (T.number v.0) bytes h };
-
-    ghost tells_memory = { λ f h. h };
+    ghost sized = { λ ctx v bytes rest h. U.sized v bytes h.spelled };
 }
 
 impl<U: IntRepr, T: Constant<U::Primitive>> MySerialize for Const<T, U> {
-    ghost spelling = { λ v. U.spelling (U.kept (T.number v.0)) };
+    ghost View = { U.Primitive };
 
-    ghost is_shortest = { λ v. IsShortest U.spells (U.kept (T.number v.0)) };
+    ghost view = { λ v. U.kept (T.number v.0) };
 
-    #[tactic(auto, using(wire_buf::proofs::SpellingLemmas::writes_shortest))]
+    ghost form = { Alone U.spells };
+
+    ghost spelling = { U.spelling };
+
+    #[tactic(auto, using(wire_buf::proofs::WritingLemmas::writes_field))]
     fn serialize<A: Allocator>(&self, buf: &mut Vec<u8, A>) -> Result<(), WireFault> {
         U::serialize(self.0.to_number(), buf)
     }
+}
+
+impl<U: IntRepr, T: Constant<U::Primitive>> Inner for Const<T, U> {
+    ghost before_any = { λ rest. tt };
 }
 
 /// The constant that has the number, if there is one.

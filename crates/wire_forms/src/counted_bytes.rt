@@ -1,6 +1,7 @@
 //! Strings behind a count of their bytes.
 
 ghost use Rattle.std.specs.Prelude.{◌≡◌, take};
+ghost use Rattle.std.proofs.Common.{refl};
 ghost use Rattle.wire_buf.specs.Spelling.{Alone};
 ghost use Rattle.wire_buf.specs.Numbers.{IsCounted, IsLenenc, IsLenencString, IsShortString, IsLongString};
 ghost use Rattle.wire_ints.specs.Strings.{lenenc_string_spelling, counted_bytes};
@@ -8,7 +9,7 @@ ghost use Rattle.wire_ints.specs.Sevens.{IsVarLen};
 ghost use Rattle.wire_ints.specs.Faults.{lenenc_fault, varlen_fault};
 ghost use Rattle.wire_forms.specs.Texts.{varlen_string_spelling, CountedRefusal};
 
-use crate::bytes_repr::BytesRepr;
+use crate::bytes_repr::{BytesRepr, InnerBytes};
 use std::alloc::Allocator;
 use std::borrow::CowSlice;
 use wire_buf::{AnySize, ParseBuf, WireFault};
@@ -30,6 +31,8 @@ impl BytesRepr for U8Bytes {
 
     ghost spells = { λ ctx. Alone IsShortString };
 
+    ghost context = { λ v. tt };
+
     ghost kept = { take 255 };
 
     ghost spelling = { counted_bytes 1 };
@@ -44,6 +47,12 @@ impl BytesRepr for U8Bytes {
     }
 
     ghost sized = { λ ctx v bytes rest h. tt };
+
+    ghost one_context = { λ ctx v bytes rest h. refl };
+}
+
+impl InnerBytes for U8Bytes {
+    ghost before_any = { λ rest. tt };
 }
 
 impl BytesRepr for U32Bytes {
@@ -54,6 +63,8 @@ impl BytesRepr for U32Bytes {
     type Ctx = ();
 
     ghost spells = { λ ctx. Alone IsLongString };
+
+    ghost context = { λ v. tt };
 
     ghost kept = { take 4294967295 };
 
@@ -69,6 +80,12 @@ impl BytesRepr for U32Bytes {
     }
 
     ghost sized = { λ ctx v bytes rest h. tt };
+
+    ghost one_context = { λ ctx v bytes rest h. refl };
+}
+
+impl InnerBytes for U32Bytes {
+    ghost before_any = { λ rest. tt };
 }
 
 /// A string behind its length as a length-encoded integer.
@@ -80,6 +97,8 @@ impl BytesRepr for LenEnc {
     type Ctx = ();
 
     ghost spells = { λ ctx. Alone IsLenencString };
+
+    ghost context = { λ v. tt };
 
     ghost spelling = { lenenc_string_spelling };
 
@@ -98,6 +117,12 @@ impl BytesRepr for LenEnc {
     }
 
     ghost sized = { λ ctx v bytes rest h. tt };
+
+    ghost one_context = { λ ctx v bytes rest h. refl };
+}
+
+impl InnerBytes for LenEnc {
+    ghost before_any = { λ rest. tt };
 }
 
 /// A string behind its length as a `VarLen`. Of a longer one the first 4,294,967,295 bytes are
@@ -110,6 +135,8 @@ impl BytesRepr for VarLen {
     type Ctx = ();
 
     ghost spells = { λ ctx. Alone (IsCounted IsVarLen) };
+
+    ghost context = { λ v. tt };
 
     ghost kept = { take 4294967295 };
 
@@ -135,4 +162,10 @@ impl BytesRepr for VarLen {
     }
 
     ghost sized = { λ ctx v bytes rest h. tt };
+
+    ghost one_context = { λ ctx v bytes rest h. refl };
+}
+
+impl InnerBytes for VarLen {
+    ghost before_any = { λ rest. tt };
 }

@@ -1,12 +1,13 @@
 ghost use Rattle.std.specs.Prelude.{◌≡◌, ◌⊎◌, IfOk, IfErr};
 ghost use Rattle.wire_buf.specs.Spelling.{Reads, Lacks};
-ghost use Rattle.wire_forms.specs.Eithers.{IsEither, SameEither, either_spelling, IsShortestEither, IsLeft, IsRight, EitherRefusal};
+ghost use Rattle.wire_forms.specs.Eithers.{IsEither, IsSide, either_view, either_spelling, IsLeft, IsRight, EitherRefusal};
 ghost use Rattle.wire_buf.specs.Refusals.{ParseRefusal};
 ghost use Rattle.wire_buf.specs.declared.fault.WireFault.TheVariants.{Eof};
+ghost use Rattle.wire_forms.specs.declared.either.Either.{Either as Sides};
 ghost use Rattle.wire_forms.specs.declared.either.Either.TheVariants as side;
 
 use std::alloc::{Allocator, Global};
-use wire_buf::{MyDeserialize, MySerialize, ParseBuf, WireFault};
+use wire_buf::{Inner, MyDeserialize, MySerialize, ParseBuf, WireFault};
 
 /// A field that has one of two forms.
 #[derive(Clone, Copy, Debug, PartialEq, Eq, Hash, Drop)]
@@ -51,10 +52,10 @@ impl<L, R> Either<L, R> {
     where
         L: MyDeserialize<'de>,
         R: MyDeserialize<'de, Fault = L::Fault>,
-        ensures ok { IfOk result (λ v. Reads (IsEither L.spells R.spells ctx) (SameEither L.same R.same) v
-            buf.old.0.now buf.new.0.now) }
-        ensures err { IfErr result (λ e. (L.is_memory e ⊎ R.is_memory e)
-            ⊎ Lacks (IsEither L.spells R.spells ctx) buf.old.0.now) }
+        ensures ok { IfOk result (λ v. Reads (IsEither L.spells R.spells ctx)
+            (either_view L.view R.view v) buf.old.0.now buf.new.0.now) }
+        ensures err { IfErr result
+            (λ e. L.Fault.is_memory e ⊎ Lacks (IsEither L.spells R.spells ctx) buf.old.0.now) }
         ensures why { IfErr result (EitherRefusal
             (λ c. ParseRefusal L.Size.SIZE (L.refusal c) (L.Fault.from_gives Eof))
             (λ d. ParseRefusal R.Size.SIZE (R.refusal d) (L.Fault.from_gives Eof)) ctx buf.old.0.now) }
@@ -73,9 +74,15 @@ impl<L, R> Either<L, R> {
 }
 
 impl<L: MySerialize, R: MySerialize> MySerialize for Either<L, R> {
+    ghost View = { Sides L.View R.View };
+
+    ghost view = { either_view L.view R.view };
+
+    ghost form = { IsSide L.form R.form };
+
     ghost spelling = { either_spelling L.spelling R.spelling };
 
-    ghost is_shortest = { IsShortestEither L.is_shortest R.is_shortest };
+    ghost suits = { λ rest. L.suits rest × R.suits rest };
 
     fn serialize<A: Allocator>(&self, buf: &mut Vec<u8, A>) -> Result<(), WireFault> {
         match self {
@@ -83,4 +90,8 @@ impl<L: MySerialize, R: MySerialize> MySerialize for Either<L, R> {
             Either::Right(value) => value.serialize(buf),
         }
     }
+}
+
+impl<L: Inner, R: Inner> Inner for Either<L, R> {
+    ghost before_any = { λ rest. (L.before_any rest, R.before_any rest) };
 }

@@ -1,17 +1,18 @@
 //! Fields whose bytes are always the same, or mean nothing.
 
-ghost use Rattle.std.specs.Prelude.{◌≡◌, ◌≢◌, ◌↔◌, ⊤, ℕ, List, length, replicate, IsTrue, Some};
+ghost use Rattle.std.specs.Prelude.{◌≡◌, ◌≢◌, ◌↔◌, ℕ, List, length, replicate, IsTrue, Some};
 ghost use Rattle.byteorder.specs.Endian.{little_bytes};
-ghost use Rattle.wire_buf.specs.Spelling.{Alone, Equal, Holding, SameBy, IsBytes, IsShortest};
+ghost use Rattle.wire_buf.specs.Spelling.{Alone, IsBytes};
 ghost use Rattle.wire_buf.specs.Refusals.{EndsBefore};
 ghost use Rattle.wire_forms.specs.Consts.{ConstRefusal};
+ghost use Rattle.wire_forms.specs.Texts.{IsSkipped};
 ghost use Rattle.wire_buf.specs.Numbers.{IsLittle};
-ghost use Rattle.wire_buf.specs.declared.fault.WireFault.TheVariants.{Eof, Memory};
+ghost use Rattle.wire_buf.specs.declared.fault.WireFault.TheVariants.{Eof};
 
 use crate::plain_bytes::append_zeros;
 use std::alloc::{Allocator, Global};
 use std::marker::PhantomData;
-use wire_buf::{FixedSize, MyDeserialize, MySerialize, ParseBuf, WireFault};
+use wire_buf::{FixedSize, Inner, MyDeserialize, MySerialize, ParseBuf, WireFault};
 
 /// The one byte `VALUE`. Another is refused as `BadConst`. `T` tells such fields apart.
 #[derive(Drop)]
@@ -41,13 +42,13 @@ impl<'de, T, const VALUE: u8> MyDeserialize<'de> for ConstU8<T, VALUE> {
 
     type Fault = WireFault;
 
-    ghost spells = { λ ctx. Holding (λ v. VALUE) (Alone (IsLittle 1)) };
+    ghost View = { Unit {0} };
 
-    ghost same = { SameBy (λ v. VALUE) Equal };
+    ghost view = { λ v. tt };
+
+    ghost spells = { λ ctx v. Alone (IsLittle 1) VALUE };
 
     ghost refusal = { λ ctx. ConstRefusal (λ n. n ≢ VALUE) (IsLittle 1) (λ x. Eof) };
-
-    ghost is_memory = { λ e. e ≡ Memory };
 
     fn deserialize(
         _alloc: Global,
@@ -61,20 +62,26 @@ impl<'de, T, const VALUE: u8> MyDeserialize<'de> for ConstU8<T, VALUE> {
     }
 
     ghost sized = { λ ctx v bytes rest h. h.size };
-
-    ghost tells_memory = { λ f h. h };
 }
 
 impl<T, const VALUE: u8> MySerialize for ConstU8<T, VALUE> {
+    ghost View = { Unit {0} };
+
+    ghost view = { λ v. tt };
+
+    ghost form = { λ v. Alone (IsLittle 1) VALUE };
+
     ghost spelling = { λ v. Some (little_bytes 1 VALUE) };
 
-    ghost is_shortest = { λ v. IsShortest (IsLittle 1) VALUE };
-
-    #[tactic(auto, using(crate::proofs::ShortestLemmas::number_shortest))]
+    #[tactic(auto, using(crate::proofs::ShortestLemmas::number_written))]
     fn serialize<A: Allocator>(&self, buf: &mut Vec<u8, A>) -> Result<(), WireFault> {
         buf.extend_from_slice(&VALUE.to_le_bytes())?;
         Ok(())
     }
+}
+
+impl<T, const VALUE: u8> Inner for ConstU8<T, VALUE> {
+    ghost before_any = { λ rest. tt };
 }
 
 /// The four bytes of the number `VALUE`, the lowest first. Others are refused as `BadConst`. `T`
@@ -99,13 +106,13 @@ impl<'de, T, const VALUE: u32> MyDeserialize<'de> for ConstU32<T, VALUE> {
 
     type Fault = WireFault;
 
-    ghost spells = { λ ctx. Holding (λ v. VALUE) (Alone (IsLittle 4)) };
+    ghost View = { Unit {0} };
 
-    ghost same = { SameBy (λ v. VALUE) Equal };
+    ghost view = { λ v. tt };
+
+    ghost spells = { λ ctx v. Alone (IsLittle 4) VALUE };
 
     ghost refusal = { λ ctx. ConstRefusal (λ n. n ≢ VALUE) (IsLittle 4) (λ x. Eof) };
-
-    ghost is_memory = { λ e. e ≡ Memory };
 
     fn deserialize(
         _alloc: Global,
@@ -119,20 +126,26 @@ impl<'de, T, const VALUE: u32> MyDeserialize<'de> for ConstU32<T, VALUE> {
     }
 
     ghost sized = { λ ctx v bytes rest h. h.size };
-
-    ghost tells_memory = { λ f h. h };
 }
 
 impl<T, const VALUE: u32> MySerialize for ConstU32<T, VALUE> {
+    ghost View = { Unit {0} };
+
+    ghost view = { λ v. tt };
+
+    ghost form = { λ v. Alone (IsLittle 4) VALUE };
+
     ghost spelling = { λ v. Some (little_bytes 4 VALUE) };
 
-    ghost is_shortest = { λ v. IsShortest (IsLittle 4) VALUE };
-
-    #[tactic(auto, using(crate::proofs::ShortestLemmas::number_shortest))]
+    #[tactic(auto, using(crate::proofs::ShortestLemmas::number_written))]
     fn serialize<A: Allocator>(&self, buf: &mut Vec<u8, A>) -> Result<(), WireFault> {
         buf.extend_from_slice(&VALUE.to_le_bytes())?;
         Ok(())
     }
+}
+
+impl<T, const VALUE: u32> Inner for ConstU32<T, VALUE> {
+    ghost before_any = { λ rest. tt };
 }
 
 /// The bytes of a field that always has the same ones.
@@ -167,13 +180,13 @@ impl<'de, T: ConstBytesValue<LEN>, const LEN: usize> MyDeserialize<'de> for Cons
 
     type Fault = WireFault;
 
-    ghost spells = { λ ctx. Holding (λ v. T.bytes) (Alone (IsBytes LEN)) };
+    ghost View = { Unit {0} };
 
-    ghost same = { SameBy (λ v. T.bytes) Equal };
+    ghost view = { λ v. tt };
+
+    ghost spells = { λ ctx v. Alone (IsBytes LEN) T.bytes };
 
     ghost refusal = { λ ctx. ConstRefusal (λ bytes. bytes ≢ T.bytes) (IsBytes LEN) (λ x. Eof) };
-
-    ghost is_memory = { λ e. e ≡ Memory };
 
     fn deserialize(
         _alloc: Global,
@@ -187,20 +200,26 @@ impl<'de, T: ConstBytesValue<LEN>, const LEN: usize> MyDeserialize<'de> for Cons
     }
 
     ghost sized = { λ ctx v bytes rest h. h.size };
-
-    ghost tells_memory = { λ f h. h };
 }
 
 impl<T: ConstBytesValue<LEN>, const LEN: usize> MySerialize for ConstBytes<T, LEN> {
+    ghost View = { Unit {0} };
+
+    ghost view = { λ v. tt };
+
+    ghost form = { λ v. Alone (IsBytes LEN) T.bytes };
+
     ghost spelling = { λ v. Some T.bytes };
 
-    ghost is_shortest = { λ v. IsShortest (IsBytes LEN) T.bytes };
-
-    #[tactic(auto, using(crate::proofs::ShortestLemmas::bytes_shortest))]
+    #[tactic(auto, using(crate::proofs::ShortestLemmas::constant_written))]
     fn serialize<A: Allocator>(&self, buf: &mut Vec<u8, A>) -> Result<(), WireFault> {
         buf.extend_from_slice(T::value())?;
         Ok(())
     }
+}
+
+impl<T: ConstBytesValue<LEN>, const LEN: usize> Inner for ConstBytes<T, LEN> {
+    ghost before_any = { λ rest. tt };
 }
 
 /// Whether the bytes are the same.
@@ -223,13 +242,13 @@ impl<'de, const LEN: usize> MyDeserialize<'de> for Skip<LEN> {
 
     type Fault = WireFault;
 
-    ghost spells = { λ ctx v bytes rest. length bytes ≡ LEN };
+    ghost View = { Unit {0} };
 
-    ghost same = { λ v w. ⊤ };
+    ghost view = { λ v. tt };
+
+    ghost spells = { λ ctx v. IsSkipped LEN };
 
     ghost refusal = { λ ctx. EndsBefore LEN };
-
-    ghost is_memory = { λ e. e ≡ Memory };
 
     fn deserialize(
         _alloc: Global,
@@ -241,16 +260,23 @@ impl<'de, const LEN: usize> MyDeserialize<'de> for Skip<LEN> {
     }
 
     ghost sized = { λ ctx v bytes rest h. h };
-
-    ghost tells_memory = { λ f h. h };
 }
 
 impl<const LEN: usize> MySerialize for Skip<LEN> {
+    ghost View = { Unit {0} };
+
+    ghost view = { λ v. tt };
+
+    ghost form = { λ v. IsSkipped LEN };
+
     ghost spelling = { λ v. Some (replicate LEN 0) };
 
-    ghost is_shortest = { λ v bytes. length bytes ≡ LEN };
-
+    #[tactic(auto, using(crate::proofs::ShortestLemmas::zeros_written))]
     fn serialize<A: Allocator>(&self, buf: &mut Vec<u8, A>) -> Result<(), WireFault> {
         append_zeros(LEN, buf)
     }
+}
+
+impl<const LEN: usize> Inner for Skip<LEN> {
+    ghost before_any = { λ rest. tt };
 }

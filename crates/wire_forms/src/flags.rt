@@ -1,13 +1,12 @@
 ghost use Rattle.std.specs.Prelude.{◌≡◌};
 ghost use Rattle.std.specs.Int.RustNames.{bit_and};
 ghost use Rattle.bitflags.specs.Sets.{known_bits};
-ghost use Rattle.wire_buf.specs.Spelling.{Alone, Equal, Holding, SameBy, IsShortest, Lacks};
-ghost use Rattle.wire_buf.specs.declared.fault.WireFault.TheVariants.{Memory};
+ghost use Rattle.wire_buf.specs.Spelling.{Alone, Lacks};
 
 use bitflags::Flags;
 use std::alloc::{Allocator, Global};
 use std::marker::PhantomData;
-use wire_buf::{MyDeserialize, MySerialize, ParseBuf, WireFault};
+use wire_buf::{Inner, MyDeserialize, MySerialize, ParseBuf, WireFault};
 use wire_ints::IntRepr;
 
 /// A set of flags as its number, in the representation `U`. Bits that no flag of `T` has are kept.
@@ -42,13 +41,13 @@ impl<'de, T: Flags, U: IntRepr> MyDeserialize<'de> for RawFlags<T, U> {
 
     type Fault = WireFault;
 
-    ghost spells = { λ ctx. Holding (λ v. v.0) (Alone U.spells) };
+    ghost View = { U.Primitive };
 
-    ghost same = { SameBy (λ v. v.0) Equal };
+    ghost view = { λ v. v.0 };
+
+    ghost spells = { λ ctx. Alone U.spells };
 
     ghost refusal = { λ ctx x e. Lacks (Alone U.spells) x × (e ≡ U.fault_at x) };
-
-    ghost is_memory = { λ e. e ≡ Memory };
 
     fn deserialize(
         _alloc: Global,
@@ -59,18 +58,24 @@ impl<'de, T: Flags, U: IntRepr> MyDeserialize<'de> for RawFlags<T, U> {
         Ok(RawFlags::new(bits))
     }
 
-    ghost sized = { λ ctx v bytes rest h. U.sized v.0 bytes h };
-
-    ghost tells_memory = { λ f h. h };
+    ghost sized = { λ ctx v bytes rest h. U.sized v bytes h };
 }
 
 impl<T: Flags, U: IntRepr> MySerialize for RawFlags<T, U> {
-    ghost spelling = { λ v. U.spelling (U.kept v.0) };
+    ghost View = { U.Primitive };
 
-    ghost is_shortest = { λ v. IsShortest U.spells (U.kept v.0) };
+    ghost view = { λ v. U.kept v.0 };
 
-    #[tactic(auto, using(wire_buf::proofs::SpellingLemmas::writes_shortest))]
+    ghost form = { Alone U.spells };
+
+    ghost spelling = { U.spelling };
+
+    #[tactic(auto, using(wire_buf::proofs::WritingLemmas::writes_field))]
     fn serialize<A: Allocator>(&self, buf: &mut Vec<u8, A>) -> Result<(), WireFault> {
         U::serialize(self.0, buf)
     }
+}
+
+impl<T: Flags, U: IntRepr> Inner for RawFlags<T, U> {
+    ghost before_any = { λ rest. tt };
 }

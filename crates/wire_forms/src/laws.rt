@@ -15,7 +15,8 @@ pub fn read_back_bytes<T: BytesRepr>(
     ctx: T::Ctx,
     text: &[u8],
 ) -> Result<Vec<u8>, WireFault>
-    requires { T.suits ctx (T.kept text.now) [] }
+    requires context { ctx ≡ T.context (T.kept text.now) }
+    requires alone { T.suits [] }
     ensures ok { IfOk result (λ v. v.items ≡ T.kept text.now) }
     ensures err { IfErr result (λ e. e ≡ Memory) }
 {

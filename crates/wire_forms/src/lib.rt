@@ -17,7 +17,7 @@ pub mod laws;
 mod plain_bytes;
 mod raw_bytes;
 
-pub use bytes_repr::BytesRepr;
+pub use bytes_repr::{BytesRepr, InnerBytes};
 pub use consts::{Const, RawConst};
 pub use counted_bytes::{U8Bytes, U32Bytes};
 pub use either::Either;

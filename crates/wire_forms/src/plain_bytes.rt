@@ -1,11 +1,12 @@
 //! Strings without a count: up to a zero, to the end, or of a length that is known.
 
 ghost use Rattle.std.specs.Prelude.{◌≡◌, ◌++◌, ◌∷◌, [], ◌≤◌, length, take, replicate, OnOk, IfErr};
+ghost use Rattle.std.proofs.Common.{refl, sym, ap, ◌∙◌};
 ghost use Rattle.wire_buf.specs.Spelling.{Alone, IsBytes};
 ghost use Rattle.wire_buf.specs.declared.fault.WireFault.TheVariants.{Memory};
 ghost use Rattle.wire_forms.specs.Texts.{IsAll, IsNullEnded, before_zero, padded};
 
-use crate::bytes_repr::BytesRepr;
+use crate::bytes_repr::{BytesRepr, InnerBytes};
 use memchr::memchr;
 use std::alloc::Allocator;
 use std::borrow::CowSlice;
@@ -41,6 +42,8 @@ impl BytesRepr for NullBytes {
 
     ghost spells = { λ ctx. Alone IsNullEnded };
 
+    ghost context = { λ v. tt };
+
     ghost kept = { before_zero };
 
     ghost spelling = { λ v. v ++ (0 ∷ []) };
@@ -63,6 +66,12 @@ impl BytesRepr for NullBytes {
     }
 
     ghost sized = { λ ctx v bytes rest h. tt };
+
+    ghost one_context = { λ ctx v bytes rest h. refl };
+}
+
+impl InnerBytes for NullBytes {
+    ghost before_any = { λ rest. tt };
 }
 
 impl BytesRepr for EofBytes {
@@ -74,7 +83,9 @@ impl BytesRepr for EofBytes {
 
     ghost spells = { λ ctx. IsAll };
 
-    ghost suits = { λ ctx v rest. rest ≡ [] };
+    ghost context = { λ v. tt };
+
+    ghost suits = { λ rest. rest ≡ [] };
 
     fn deserialize<'de>(_ctx: (), buf: &mut ParseBuf<'de>) -> Result<CowSlice<'de, u8>, WireFault> {
         Ok(CowSlice::Borrowed(buf.eat_all()))
@@ -86,6 +97,8 @@ impl BytesRepr for EofBytes {
     }
 
     ghost sized = { λ ctx v bytes rest h. tt };
+
+    ghost one_context = { λ ctx v bytes rest h. refl };
 }
 
 impl<const MAX: usize> BytesRepr for BareBytes<MAX> {
@@ -97,9 +110,9 @@ impl<const MAX: usize> BytesRepr for BareBytes<MAX> {
 
     ghost spells = { λ ctx. Alone (IsBytes ctx) };
 
-    ghost kept = { take MAX };
+    ghost context = { length };
 
-    ghost suits = { λ ctx v rest. ctx ≡ length v };
+    ghost kept = { take MAX };
 
     fn deserialize<'de>(
         ctx: usize,
@@ -117,6 +130,12 @@ impl<const MAX: usize> BytesRepr for BareBytes<MAX> {
     }
 
     ghost sized = { λ ctx v bytes rest h. tt };
+
+    ghost one_context = { λ ctx v bytes rest h. sym h.size ∙ ap length (sym h.bytes_are) };
+}
+
+impl<const MAX: usize> InnerBytes for BareBytes<MAX> {
+    ghost before_any = { λ rest. tt };
 }
 
 impl<const LEN: usize> BytesRepr for FixedLengthText<LEN> {
@@ -127,6 +146,8 @@ impl<const LEN: usize> BytesRepr for FixedLengthText<LEN> {
     type Ctx = ();
 
     ghost spells = { λ ctx. Alone (IsBytes LEN) };
+
+    ghost context = { λ v. tt };
 
     ghost kept = { padded LEN };
 
@@ -143,6 +164,12 @@ impl<const LEN: usize> BytesRepr for FixedLengthText<LEN> {
     }
 
     ghost sized = { λ ctx v bytes rest h. h.size };
+
+    ghost one_context = { λ ctx v bytes rest h. refl };
+}
+
+impl<const LEN: usize> InnerBytes for FixedLengthText<LEN> {
+    ghost before_any = { λ rest. tt };
 }
 
 /// The bytes before the first zero, or all where there is none.

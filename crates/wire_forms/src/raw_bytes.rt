@@ -2,17 +2,16 @@ ghost use Rattle.std.specs.Prelude.{◌≡◌, ◌⊎◌, ◌↔◌, List, ℕ, 
 ghost use Rattle.std.specs.Cow.{cow_slice_items, cow_str_bytes, IsOwnedSlice, IsBorrowedSlice, IsBorrowedStr};
 ghost use Rattle.std.specs.Str.{IsUtf8};
 ghost use Rattle.std.specs.Str.Lossy.{utf8_lossy};
-ghost use Rattle.wire_buf.specs.Spelling.{Holding, SameBy, Equal, Reads, Lacks, HasRoom};
-ghost use Rattle.wire_forms.specs.Texts.{IsShortestText};
+ghost use Rattle.wire_buf.specs.Spelling.{Reads, Lacks, HasRoom};
 ghost use Rattle.wire_buf.specs.declared.fault.WireFault.TheVariants.{Memory};
 ghost use Rattle.wire_forms.specs.RawTexts.{text_of};
 
-use crate::bytes_repr::BytesRepr;
+use crate::bytes_repr::{BytesRepr, InnerBytes};
 use std::alloc::{AllocError, Allocator, Global};
 use std::borrow::{CowSlice, CowStr};
 use std::marker::PhantomData;
 use std::str;
-use wire_buf::{MyDeserialize, MySerialize, ParseBuf, WireFault};
+use wire_buf::{Inner, MyDeserialize, MySerialize, ParseBuf, WireFault};
 
 /// A byte string in the representation `T`, as a field: borrowed from its source, or owned.
 #[derive(Drop)]
@@ -122,13 +121,13 @@ impl<'de, T: BytesRepr> MyDeserialize<'de> for RawBytes<'de, T> {
 
     type Fault = WireFault;
 
-    ghost spells = { λ ctx. Holding text_of (T.spells ctx) };
+    ghost View = { List ℕ };
 
-    ghost same = { SameBy text_of Equal };
+    ghost view = { text_of };
+
+    ghost spells = { T.spells };
 
     ghost refusal = { λ ctx x e. Lacks (T.spells ctx) x × T.is_fault x e };
-
-    ghost is_memory = { λ e. e ≡ Memory };
 
     /// What is read is a part of the source.
     fn deserialize(
@@ -137,11 +136,11 @@ impl<'de, T: BytesRepr> MyDeserialize<'de> for RawBytes<'de, T> {
         buf: &mut ParseBuf<'de>,
     ) -> Result<RawBytes<'de, T>, WireFault>
         requires { HasRoom T.Size.SIZE (length buf.old.0.now) }
-        ensures ok { IfOk result (λ v. Reads (Holding text_of (T.spells ctx)) (SameBy text_of Equal) v
-            buf.old.0.now buf.new.0.now) }
+        ensures ok { IfOk result
+            (λ v. Reads (T.spells ctx) (text_of v) buf.old.0.now buf.new.0.now) }
         ensures borrowed { IfOk result (λ v. IsBorrowedSlice v.0) }
         ensures err { IfErr result
-            (λ e. e ≡ Memory ⊎ Lacks (Holding (text_of {T = T} {S = T.Size} {C = T.Ctx}) (T.spells ctx)) buf.old.0.now) }
+            (λ e. e ≡ Memory ⊎ Lacks (T.spells ctx) buf.old.0.now) }
         ensures why { IfErr result
             (λ e. Lacks (T.spells ctx) buf.old.0.now × T.is_fault buf.old.0.now e) }
     {
@@ -149,18 +148,25 @@ impl<'de, T: BytesRepr> MyDeserialize<'de> for RawBytes<'de, T> {
         Ok(RawBytes::new(text))
     }
 
-    ghost sized = { λ ctx v bytes rest h. T.sized ctx (text_of v) bytes rest h };
-
-    ghost tells_memory = { λ f h. h };
+    ghost sized = { T.sized };
 }
 
 impl<'a, T: BytesRepr> MySerialize for RawBytes<'a, T> {
-    ghost spelling = { λ v. Some (T.spelling (T.kept (text_of v))) };
+    ghost View = { List ℕ };
 
-    ghost is_shortest = { λ v. IsShortestText T.spells T.suits (T.kept (text_of v)) };
+    ghost view = { λ v. T.kept (text_of v) };
 
-    #[tactic(auto, using(crate::proofs::ShortestLemmas::text_shortest))]
+    ghost form = { λ v. T.spells (T.context v) v };
+
+    ghost spelling = { λ v. Some (T.spelling v) };
+
+    ghost suits = { T.suits };
+
     fn serialize<A: Allocator>(&self, buf: &mut Vec<u8, A>) -> Result<(), WireFault> {
         T::serialize(self.as_bytes(), buf)
     }
+}
+
+impl<'a, T: InnerBytes> Inner for RawBytes<'a, T> {
+    ghost before_any = { T.before_any };
 }

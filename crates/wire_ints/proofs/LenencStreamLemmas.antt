@@ -8,7 +8,7 @@ use Rattle.std.proofs.KnownBytes.{Consumes-trans}
 use Rattle.std.specs.Io.KnownBytes.{Consumes}
 use Rattle.wire_buf.specs.declared.fault.WireFault.{WireFault}
 use Rattle.wire_buf.specs.declared.fault.WireFault.TheVariants.{Eof, BadNumber, BadConst, Memory, Read, Write, Form}
-use Rattle.wire_buf.specs.Spelling.{Lacks, Alone, Equal}
+use Rattle.wire_buf.specs.Spelling.{Lacks, Alone}
 use Rattle.wire_buf.specs.Numbers.{IsLenenc, one, IsLenencString}
 use Rattle.wire_buf.specs.Fronts.{lenenc_front, number_front}
 use Rattle.wire_buf.proofs.LenencLemmas.{lenenc_front-complete, lenenc_lacks}
@@ -24,12 +24,12 @@ single (x ∷ []) b size is = ap (λ n. n ∷ []) is
 single (x ∷ y ∷ xs) b size is = absurd (omega (arith, size))
 
 -- the number is the first byte
-pub reads_one : (v : ℕ) (first : List ℕ) (old new : Option (List ℕ)) → first ≡ v ∷ [] → v ≤ 250 → Consumes old new first → ReadsFrom (Alone IsLenenc) Equal v old new
+pub reads_one : (v : ℕ) (first : List ℕ) (old new : Option (List ℕ)) → first ≡ v ∷ [] → v ≤ 250 → Consumes old new first → ReadsFrom (Alone IsLenenc) v old new
 reads_one v first old new e small h = ReadsFrom-taken IsLenenc lenenc_front lenenc_front-complete v (v ∷ []) old new (one small) (subst (Consumes old new) e h)
 
 -- the number stands behind the first byte
 pub reads_tail : (tag v : ℕ) (first buf : List ℕ) (old mid new : Option (List ℕ)) → first ≡ tag ∷ [] → Consumes old mid first → Consumes mid new buf → IsLenenc v (tag ∷ buf)
-    → ReadsFrom (Alone IsLenenc) Equal v old new
+    → ReadsFrom (Alone IsLenenc) v old new
 reads_tail tag v first buf old mid new e h k is =
     ReadsFrom-taken IsLenenc lenenc_front lenenc_front-complete v (tag ∷ buf) old new is
     (Consumes-trans old mid new (tag ∷ []) buf (subst (Consumes old mid) e h) k)
@@ -132,7 +132,7 @@ pub fails_string : (fault : WireFault) (old new : Option (List ℕ)) → FailsFr
 fails_string fault old new h = inl (record { taken = h.taken; consumed = h.consumed; cause = cause_string fault h.taken old new h.cause })
 
 -- a string behind its length
-pub reads_string : (n : ℕ) (text : List ℕ) (old mid new : Option (List ℕ)) → ReadsFrom (Alone IsLenenc) Equal n old mid → Gathers n mid new [] text → ReadsFrom (Alone IsLenencString) Equal text old new
+pub reads_string : (n : ℕ) (text : List ℕ) (old mid new : Option (List ℕ)) → ReadsFrom (Alone IsLenenc) n old mid → Gathers n mid new [] text → ReadsFrom (Alone IsLenencString) text old new
 reads_string n text None mid new r g = tt
 reads_string n text (Some x) None new r g = absurd r
 reads_string n text (Some x) (Some y) None r g = absurd g.consumed
@@ -146,7 +146,7 @@ reads_string n text (Some x) (Some y) (Some z) r g =
     Reads-counted IsLenenc n x y text z r enough front back
 
 -- a string that is cut off behind its length
-pub fails_cut : (n : ℕ) (fault : WireFault) (old mid new : Option (List ℕ)) (before after : List ℕ) → ReadsFrom (Alone IsLenenc) Equal n old mid → GathersFront fault n mid new before after
+pub fails_cut : (n : ℕ) (fault : WireFault) (old mid new : Option (List ℕ)) (before after : List ℕ) → ReadsFrom (Alone IsLenenc) n old mid → GathersFront fault n mid new before after
     → FailsFrom (Alone IsLenencString) fault old new ⊎ LacksMemory fault old new
 fails_cut n fault None mid new before after r cut = elim cut.cause [
   | inl q ↦ elim q [

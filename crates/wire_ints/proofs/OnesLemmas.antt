@@ -11,7 +11,7 @@ use Rattle.std.proofs.lemmas.List.{length-append, append-nil}
 use Rattle.std.proofs.Math.ListN.{get_or-append}
 use Rattle.byteorder.specs.Endian.{little_number, little_bytes}
 use Rattle.byteorder.specs.Numbers.{little_from-append, little_number-reads_back, length-bytes_low_first, little_from-lt}
-use Rattle.wire_buf.specs.Spelling.{Begins, Reads, Lacks, Alone, Equal, IsFixed, AreBytes, IsShortest}
+use Rattle.wire_buf.specs.Spelling.{Begins, Reads, Lacks, Alone, IsFixed, AreBytes, IsShortest}
 use Rattle.wire_buf.specs.Numbers.{IsLittle}
 use Rattle.wire_buf.specs.Writing.{Writes}
 use Rattle.wire_buf.proofs.SpellingLemmas.{Reads-fixed}
@@ -147,7 +147,7 @@ first_byte x bytes s joined some = ap (λ l. slice_index l 0) joined ∙ get_or-
 
 module _ (n : ℕ) (room : n ≤ 7) (x : List ℕ) (ones : HasTrailingOnes n (slice_index x 0)) where
   -- any spelling at the front has n + 1 bytes
-  short_only : (w : ℕ) (s bytes : List ℕ) → x ≡ bytes ++ s → IsVarlenUint w bytes → Begins (Alone (IsFixed (λ b. little_number (suc n) b / 2 ^ suc n) (suc n))) w x s
+  short_only : (w : ℕ) (s bytes : List ℕ) → x ≡ bytes ++ s → IsVarlenUint w bytes → Begins (Alone (IsFixed (λ b. little_number (suc n) b / 2 ^ suc n) (suc n)) w) x s
   short_only w s bytes joined (short {n = m} small h f) =
       let size = f.size in
       let some : 0 < length bytes = omega (arith, size) in
@@ -159,7 +159,7 @@ module _ (n : ℕ) (room : n ≤ 7) (x : List ℕ) (ones : HasTrailingOnes n (sl
       let first : slice_index x 0 ≡ 255 = ap (λ l. slice_index l 0) joined in
       absurd (ones_of_255 n room (subst (λ (b : ℕ). HasTrailingOnes n b) first ones))
 
-  pub short_reads : (v : ℕ) (y : List ℕ) → suc n ≤ length x → v ≡ little_number (suc n) x / 2 ^ suc n → y ≡ drop (suc n) x → Reads (Alone IsVarlenUint) Equal v x y
+  pub short_reads : (v : ℕ) (y : List ℕ) → suc n ≤ length x → v ≡ little_number (suc n) x / 2 ^ suc n → y ≡ drop (suc n) x → Reads (Alone IsVarlenUint) v x y
   short_reads v y enough is rest =
       let f = Reads-fixed (λ b. little_number (suc n) b / 2 ^ suc n) (suc n) v x y (λ a b h. ap (λ k. k / 2 ^ suc n) (little_from-append (suc n) a b h)) enough is rest in
       let size = f.begins.is.size in
@@ -189,7 +189,7 @@ pub none_lacks : (x : List ℕ) → length x < 1 → Lacks (Alone IsVarlenUint) 
 none_lacks x none w s t = let some = has_first w t.bytes t.is in omega (arith, none, some, ap length t.joined, length-append t.bytes s)
 
 -- behind 255 stand eight bytes
-long_only : (b : ℕ) (x : List ℕ) → b ≡ 255 → (w : ℕ) (s bytes : List ℕ) → b ∷ x ≡ bytes ++ s → IsVarlenUint w bytes → Begins (Alone (IsLittle 8)) w x s
+long_only : (b : ℕ) (x : List ℕ) → b ≡ 255 → (w : ℕ) (s bytes : List ℕ) → b ∷ x ≡ bytes ++ s → IsVarlenUint w bytes → Begins (Alone (IsLittle 8) w) x s
 long_only b x all w s bytes joined (short {n = m} small h f) =
     let size = f.size in
     let some : 0 < length bytes = omega (arith, size) in
@@ -199,10 +199,10 @@ long_only b x all w s bytes joined (long {bytes = xs} h) =
     let tail : x ≡ xs ++ s = cc in
     record { bytes = xs; joined = tail; is = h }
 
-pub long_reads : (v : ℕ) (x r y : List ℕ) → 1 ≤ length x → slice_index x 0 ≡ 255 → r ≡ drop 1 x → 8 ≤ length r → v ≡ little_number 8 r → y ≡ drop 8 r → Reads (Alone IsVarlenUint) Equal v x y
+pub long_reads : (v : ℕ) (x r y : List ℕ) → 1 ≤ length x → slice_index x 0 ≡ 255 → r ≡ drop 1 x → 8 ≤ length r → v ≡ little_number 8 r → y ≡ drop 8 r → Reads (Alone IsVarlenUint) v x y
 long_reads v [] r y some all tail room is rest = absurd (omega (arith, some))
 long_reads v (b ∷ x) r y some all tail room is rest =
-    let f = subst (λ (l : List ℕ). Reads (Alone (IsLittle 8)) Equal v l y) tail (little_reads 8 v r y room is rest) in
+    let f = subst (λ (l : List ℕ). Reads (Alone (IsLittle 8)) v l y) tail (little_reads 8 v r y room is rest) in
     record {
       begins = record {
         bytes = 255 ∷ f.begins.bytes;
@@ -357,9 +357,9 @@ part_byte r b not (inr p) = p
 
 -- the same with the count as the code has it
 pub short_reads_code : (n m number : ℕ) (x y : List ℕ) → n ≤ 7 → HasTrailingOnes n (slice_index x 0) → m ≡ suc n → m ≤ length x → number ≡ little_number m x → y ≡ drop m x
-    → Reads (Alone IsVarlenUint) Equal (number / 2 ^ m) x y
+    → Reads (Alone IsVarlenUint) (number / 2 ^ m) x y
 short_reads_code n m number x y room ones e =
-    let P : ℕ → Type 0 = λ k. k ≤ length x → number ≡ little_number k x → y ≡ drop k x → Reads (Alone IsVarlenUint) Equal (number / 2 ^ k) x y in
+    let P : ℕ → Type 0 = λ k. k ≤ length x → number ≡ little_number k x → y ≡ drop k x → Reads (Alone IsVarlenUint) (number / 2 ^ k) x y in
     subst P (sym e) (λ a b d. short_reads n room x ones (number / 2 ^ suc n) y a (ap (λ k. k / 2 ^ suc n) b) d)
 
 -- what the length of the shortest spelling says, for the writer

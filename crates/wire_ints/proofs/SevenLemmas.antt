@@ -4,7 +4,7 @@ use Rattle.std.proofs.lemmas.Bool.Decides.{leb_tells}
 use Rattle.std.proofs.lemmas.List.{take_more_set}
 use Rattle.wire_buf.specs.Eating.{Eats, IsShort}
 use Rattle.std.proofs.Math.Nat.{pow-le-pow_right, pow-succ', mul-le-mul, mul-le-mul_left, mul-add, mul_assoc, add_assoc}
-use Rattle.wire_buf.specs.Spelling.{Begins, Reads, Lacks, Alone, Equal}
+use Rattle.wire_buf.specs.Spelling.{Begins, Reads, Lacks, Alone}
 use Rattle.wire_buf.proofs.SpellingLemmas.{same_parts}
 use Rattle.std.specs.Prelude.{nat_le}
 use Rattle.std.specs.List.{list_all}
@@ -32,7 +32,7 @@ behind d v r (Some q) e =
     let p = same_parts ((d - 128) + 128 * q.0) v q.1 r e in
     (q.0, ap (λ l. Some (q.0, l)) p.1, sym p.0)
 
-pub sevens_front-sound : (k v : ℕ) (x r : List ℕ) → sevens_front k x ≡ Some (v, r) → Begins (Alone (IsSevens k)) v x r
+pub sevens_front-sound : (k v : ℕ) (x r : List ℕ) → sevens_front k x ≡ Some (v, r) → Begins (Alone (IsSevens k) v) x r
 unfolding sevens_front
 sevens_front-sound zero v x r e = absurd cc
 sevens_front-sound (suc k) v [] r e = absurd cc
@@ -125,10 +125,10 @@ below_more value scale b low small =
     let part : scale * b ≤ scale * 127 = mul-le-mul_left scale small in
     omega (arith, low, part)
 
-begins_varlen : (v : ℕ) (x r : List ℕ) → Begins (Alone IsVarLen) v x r → sevens_front 5 x ≡ Some (v, r)
+begins_varlen : (v : ℕ) (x r : List ℕ) → Begins (Alone IsVarLen v) x r → sevens_front 5 x ≡ Some (v, r)
 begins_varlen v x r t = rw t.joined (sevens_front-complete 5 v t.bytes r t.is.sevens)
 
-pub varlen_reads : (v : ℕ) (x r : List ℕ) → sevens_front 5 x ≡ Some (v, r) → v < 2 ^ 32 → Reads (Alone IsVarLen) Equal v x r
+pub varlen_reads : (v : ℕ) (x r : List ℕ) → sevens_front 5 x ≡ Some (v, r) → v < 2 ^ 32 → Reads (Alone IsVarLen) v x r
 varlen_reads v x r e fits =
     let t = sevens_front-sound 5 v x r e in
     record {

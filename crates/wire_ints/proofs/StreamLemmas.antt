@@ -2,7 +2,7 @@
 use Rattle.std.proofs.Common.{◌≡◌, ◌++◌, ℕ, List, length, take, drop, append_assoc, sym, ap, subst, ◌∙◌, Option, Some, None}
 use Rattle.std.proofs.lemmas.List.{append-nil, take-append-drop}
 use Rattle.std.proofs.Math.Seq.{take-append_seam}
-use Rattle.wire_buf.specs.Spelling.{Lacks, Alone, Equal}
+use Rattle.wire_buf.specs.Spelling.{Lacks, Alone}
 use Rattle.wire_buf.proofs.SpellingLemmas.{Reads-front}
 use Rattle.wire_streams.specs.Transfers.{WritesSome}
 use Rattle.wire_ints.specs.Streams.{ReadsFrom, LacksIn}
@@ -12,7 +12,7 @@ use Rattle.std.specs.Io.KnownBytes.{Consumes, Appends, IsAtEnd}
 -- what a prefix of the known bytes says of them all
 module _ {A : Type 0} (spells : A → List ℕ → Type 0) (front : List ℕ → Option (A × List ℕ))
     (complete : (v : A) (bytes r : List ℕ) → spells v bytes → front (bytes ++ r) ≡ Some (v, r)) where
-  pub ReadsFrom-taken : (v : A) (taken : List ℕ) (old new : Option (List ℕ)) → spells v taken → Consumes old new taken → ReadsFrom (Alone spells) Equal v old new
+  pub ReadsFrom-taken : (v : A) (taken : List ℕ) (old new : Option (List ℕ)) → spells v taken → Consumes old new taken → ReadsFrom (Alone spells) v old new
   ReadsFrom-taken v taken None new is h = tt
   ReadsFrom-taken v taken (Some x) None is h = absurd h
   ReadsFrom-taken v taken (Some x) (Some y) is h = Reads-front spells front complete v x y (record { bytes = taken; joined = h; is = is })

@@ -1,11 +1,11 @@
 -- Numbers of one byte each: many of them are read and written at once.
 use Rattle.std.specs.Prelude.{◌≡◌, ℕ, List, [], ◌∷◌, Option, Some}
-use Rattle.wire_buf.specs.Spelling.{Reads, Alone, Equal, IsShortest}
+use Rattle.wire_buf.specs.Spelling.{Reads, Alone, IsShortest}
 
 -- each number is the one that its byte spells, whatever follows
 abbrev pub AreBytewise : {N : Type 0} → (N → List ℕ → Type 0) → List N → List ℕ → Type 0
 AreBytewise spells [] [] = Unit {0}
-AreBytewise spells (v ∷ vs) (b ∷ bs) = ((rest : List ℕ) → Reads (Alone spells) Equal v (b ∷ rest) rest) × AreBytewise spells vs bs
+AreBytewise spells (v ∷ vs) (b ∷ bs) = ((rest : List ℕ) → Reads (Alone spells) v (b ∷ rest) rest) × AreBytewise spells vs bs
 AreBytewise spells vs bs = ⊥
 
 -- each byte is what is written for its number, and a shortest spelling of it

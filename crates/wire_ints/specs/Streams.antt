@@ -6,10 +6,10 @@ use Rattle.wire_buf.specs.declared.fault.WireFault.TheVariants.{Eof, BadNumber, 
 use Rattle.wire_buf.specs.Spelling.{ByteForm, Reads, Lacks}
 
 -- v is the one value at the front of the reader's bytes, where those are known, and what follows it is left
-abbrev pub ReadsFrom : {A : Type 0} → ByteForm A → (A → A → Type 0) → A → Option (List ℕ) → Option (List ℕ) → Type 0
-ReadsFrom spells same v None new = ⊤
-ReadsFrom spells same v (Some xs) None = ⊥
-ReadsFrom spells same v (Some xs) (Some ys) = Reads spells same v xs ys
+abbrev pub ReadsFrom : {A : Type 0} → ByteForm A → A → Option (List ℕ) → Option (List ℕ) → Type 0
+ReadsFrom spells v None new = ⊤
+ReadsFrom spells v (Some xs) None = ⊥
+ReadsFrom spells v (Some xs) (Some ys) = Reads spells v xs ys
 
 -- no value is at the front of the known bytes
 abbrev pub LacksIn : {A : Type 0} → ByteForm A → Option (List ℕ) → Type 0

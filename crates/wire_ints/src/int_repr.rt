@@ -1,7 +1,7 @@
 ghost use Rattle.std.specs.Prelude.{◌≡◌, List, ℕ, length, OnOk, IfOk, IfErr, IfSome, Option};
-ghost use Rattle.wire_buf.specs.Spelling.{Reads, Lacks, IsShortest, HasSize, HasRoom, Alone, Equal, Holding, SameBy};
+ghost use Rattle.wire_buf.specs.Spelling.{Reads, Lacks, HasSize, HasRoom, Alone};
 ghost use Rattle.wire_buf.specs.Writing.{Writes, Refuses};
-ghost use Rattle.wire_buf.specs.declared.fault.WireFault.TheVariants.{Eof, Memory};
+ghost use Rattle.wire_buf.specs.declared.fault.WireFault.TheVariants.{Eof};
 ghost use Rattle.wire_buf.specs.declared.fault.WireFault.{WireFault};
 ghost use Rattle.std.specs.Borrow.{Lends, sem};
 ghost use Rattle.wire_ints.specs.contracts.int_repr.RawInt.{the_row as raw_int_row};
@@ -11,7 +11,7 @@ ghost use Rattle.wire_ints.specs.Raw.{with_number};
 use std::alloc::{Allocator, Global};
 use std::marker::PhantomData;
 use std::ops::{Deref, DerefMut};
-use wire_buf::{MyDeserialize, MySerialize, ParseBuf, WireFault, WireSize};
+use wire_buf::{Inner, MyDeserialize, MySerialize, ParseBuf, WireFault, WireSize};
 
 /// A way to spell an integer in bytes, as in `mysql_common`.
 pub trait IntRepr {
@@ -42,7 +42,7 @@ pub trait IntRepr {
     /// open. Asks that `SIZE` bytes stand there, if there is one.
     fn deserialize(buf: &mut ParseBuf<'_>) -> Result<Self::Primitive, WireFault>
         requires { HasRoom Self.Size.SIZE (length buf.old.0.now) }
-        ensures ok { IfOk result (λ v. Reads (Alone spells) Equal v buf.old.0.now buf.new.0.now) }
+        ensures ok { IfOk result (λ v. Reads (Alone spells) v buf.old.0.now buf.new.0.now) }
         ensures err { IfErr result
             (λ e. Lacks (Alone spells) buf.old.0.now × (e ≡ fault_at buf.old.0.now)) };
 
@@ -118,13 +118,13 @@ impl<'de, T: IntRepr> MyDeserialize<'de> for RawInt<T> {
 
     type Fault = WireFault;
 
-    ghost spells = { λ ctx. Holding (λ v. v.0) (Alone T.spells) };
+    ghost View = { T.Primitive };
 
-    ghost same = { SameBy (λ v. v.0) Equal };
+    ghost view = { λ v. v.0 };
+
+    ghost spells = { λ ctx. Alone T.spells };
 
     ghost refusal = { λ ctx x e. Lacks (Alone T.spells) x × (e ≡ T.fault_at x) };
-
-    ghost is_memory = { λ e. e ≡ Memory };
 
     fn deserialize(
         _alloc: Global,
@@ -135,18 +135,24 @@ impl<'de, T: IntRepr> MyDeserialize<'de> for RawInt<T> {
         Ok(RawInt::new(value))
     }
 
-    ghost sized = { λ ctx v bytes rest h. T.sized v.0 bytes h };
-
-    ghost tells_memory = { λ f h. h };
+    ghost sized = { λ ctx v bytes rest h. T.sized v bytes h };
 }
 
 impl<T: IntRepr> MySerialize for RawInt<T> {
-    ghost spelling = { λ v. T.spelling (T.kept v.0) };
+    ghost View = { T.Primitive };
 
-    ghost is_shortest = { λ v. IsShortest T.spells (T.kept v.0) };
+    ghost view = { λ v. T.kept v.0 };
 
-    #[tactic(auto, using(wire_buf::proofs::SpellingLemmas::writes_shortest))]
+    ghost form = { Alone T.spells };
+
+    ghost spelling = { T.spelling };
+
+    #[tactic(auto, using(wire_buf::proofs::WritingLemmas::writes_field))]
     fn serialize<A: Allocator>(&self, buf: &mut Vec<u8, A>) -> Result<(), WireFault> {
         T::serialize(self.0, buf)
     }
+}
+
+impl<T: IntRepr> Inner for RawInt<T> {
+    ghost before_any = { λ rest. tt };
 }

@@ -1,7 +1,7 @@
 //! Length-encoded numbers and strings from a reader.
 
 ghost use Rattle.std.specs.Prelude.{◌⊎◌, IfOk, IfErr};
-ghost use Rattle.wire_buf.specs.Spelling.{Alone, Equal};
+ghost use Rattle.wire_buf.specs.Spelling.{Alone};
 ghost use Rattle.wire_buf.specs.Numbers.{IsLenenc, IsLenencString};
 ghost use Rattle.wire_ints.specs.Streams.{ReadsFrom, FailsFrom, LacksMemory};
 
@@ -21,7 +21,7 @@ pub trait ReadMysqlExt: Read {
     final fn read_lenenc_int(&mut self) -> Result<u64, WireFault>
     where
         Self: Sized,
-        ensures ok { IfOk result (λ v. ReadsFrom (Alone IsLenenc) Equal v
+        ensures ok { IfOk result (λ v. ReadsFrom (Alone IsLenenc) v
             (Self.remaining self.old) (Self.remaining self.new)) }
         ensures err { IfErr result (λ e. FailsFrom (Alone IsLenenc) e
             (Self.remaining self.old) (Self.remaining self.new)) }
@@ -55,7 +55,7 @@ pub trait ReadMysqlExt: Read {
     final fn read_lenenc_str(&mut self, alloc: Global) -> Result<Vec<u8>, WireFault>
     where
         Self: Sized,
-        ensures ok { IfOk result (λ s. ReadsFrom (Alone IsLenencString) Equal s.items
+        ensures ok { IfOk result (λ s. ReadsFrom (Alone IsLenencString) s.items
             (Self.remaining self.old) (Self.remaining self.new)) }
         ensures err { IfErr result (λ e.
             FailsFrom (Alone IsLenencString) e (Self.remaining self.old) (Self.remaining self.new)

@@ -2,7 +2,7 @@
 //! the trailing one bits of the first byte say how many bytes follow it.
 
 ghost use Rattle.std.specs.Prelude.{◌≡◌, ◌≤◌, ◌<◌, ◌^◌, ◌⊎◌, Some, length, IfOk, IfErr, OnOk};
-ghost use Rattle.wire_buf.specs.Spelling.{Reads, Lacks, Alone, Equal};
+ghost use Rattle.wire_buf.specs.Spelling.{Reads, Lacks, Alone};
 ghost use Rattle.wire_buf.specs.Writing.{Writes};
 ghost use Rattle.wire_buf.specs.declared.fault.WireFault.TheVariants.{Eof, Memory};
 ghost use Rattle.wire_ints.specs.TrailingOnes.{HasTrailingOnes, IsVarlenUint, marked, varlen_uint_len, varlen_uint_spelling};
@@ -15,7 +15,7 @@ use wire_buf::{ParseBuf, WireFault};
 /// longer spelling than needed is read too.
 pub fn read_varlen_uint(buf: &mut ParseBuf<'_>) -> Result<u64, WireFault>
     ensures ok { IfOk result
-        (λ v. Reads (Alone IsVarlenUint) Equal v buf.old.0.now buf.new.0.now) }
+        (λ v. Reads (Alone IsVarlenUint) v buf.old.0.now buf.new.0.now) }
     ensures err { IfErr result (λ e. (e ≡ Eof) × Lacks (Alone IsVarlenUint) buf.old.0.now
         × (buf.new.0.now ≡ buf.old.0.now)) }
 {

@@ -1,4 +1,3 @@
 pub mod SequenceLemmas
-pub mod ShortestLemmas
 pub mod CountLemmas
 pub mod BytewiseLemmas

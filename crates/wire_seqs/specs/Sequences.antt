@@ -1,38 +1,27 @@
 -- Sequences of fields: a count in some form, and then so many elements, one after the other.
-use Rattle.std.specs.Prelude.{◌≡◌, ◌++◌, ◌≤◌, ℕ, List, [], ◌∷◌, length, take, Option, Some, None, option_map, ◌⊎◌, ◌<◌}
-use Rattle.wire_buf.specs.Spelling.{IsSequence, Alone, AreBytes, Lacks, BeginsWith}
+use Rattle.std.specs.Prelude.{◌≡◌, ℕ, List, [], ◌∷◌, length, Option, Some, ◌⊎◌, ◌<◌}
+use Rattle.wire_buf.specs.Spelling.{ByteForm, IsSequence, ◌⨾◌, Alone, Lacks, BeginsWith}
+use Rattle.wire_buf.specs.Writing.{with_front}
 use Rattle.wire_buf.specs.declared.fault.WireFault.{WireFault}
 use Rattle.wire_buf.specs.declared.fault.WireFault.TheVariants.{Eof, Memory}
 use Rattle.wire_buf.specs.Refusals.{Behind, ParseRefusal}
 
--- the number of the elements, and then the elements
-pub record IsCountedSequence {A : Type 0} (counts : ℕ → List ℕ → Type 0) (spells : A → List ℕ → List ℕ → Type 0) (vs : List A) (bytes rest : List ℕ) : Type 0 where
-  pub front : List ℕ
-  pub back : List ℕ
-  pub joined : bytes ≡ front ++ back
-  pub count_is : counts (length vs) front
-  pub items_are : IsSequence (length vs) spells vs back rest
+-- as many values as the list has, one after the other
+abbrev pub IsRow : {A : Type 0} → ByteForm A → ByteForm (List A)
+IsRow spells vs = IsSequence (length vs) spells vs
 
--- the bytes of one value before others
-abbrev pub with_front : Option (List ℕ) → Option (List ℕ) → Option (List ℕ)
-with_front None rest = None
-with_front (Some front) rest = option_map (λ back. front ++ back) rest
+-- the number of the elements, and then the elements
+abbrev pub IsCountedSequence : {A : Type 0} → (ℕ → List ℕ → Type 0) → ByteForm A → ByteForm (List A)
+IsCountedSequence counts spells vs = Alone counts (length vs) ⨾ IsRow spells vs
 
 -- the bytes of the values, one after the other; None where one of them has none
 abbrev pub joined_spelling : {A : Type 0} → (A → Option (List ℕ)) → List A → Option (List ℕ)
 joined_spelling spelling [] = Some []
 joined_spelling spelling (v ∷ vs) = with_front (spelling v) (joined_spelling spelling vs)
 
--- what is written for values: the count and the bytes of those up to the greatest count
-abbrev pub sequence_spelling : {A : Type 0} → (ℕ → List ℕ) → ℕ → (A → Option (List ℕ)) → List A → Option (List ℕ)
-sequence_spelling count_spelling greatest spelling vs =
-    option_map (λ back. count_spelling (length (take greatest vs)) ++ back) (joined_spelling spelling (take greatest vs))
-
--- The bytes of a count are appended: they say it in each context that suits it, and no bytes that say it are fewer.
-pub record WritesCount {C : Type 0} (counts : C → ℕ → List ℕ → Type 0) (suits : C → ℕ → Type 0) (bytes : List ℕ) (count : ℕ) (old new : List ℕ) : Type 0 where
-  pub appended : new ≡ old ++ bytes
-  pub is : (ctx : C) → suits ctx count → counts ctx count bytes
-  pub least : (ctx : C) (other : List ℕ) → counts ctx count other → AreBytes other → length bytes ≤ length other
+-- what is written for values: the count, and their bytes
+abbrev pub sequence_spelling : {A : Type 0} → (ℕ → List ℕ) → (A → Option (List ℕ)) → List A → Option (List ℕ)
+sequence_spelling count_spelling spelling vs = with_front (Some (count_spelling (length vs))) (joined_spelling spelling vs)
 
 -- whole values, fewer than n, stand at the front, and the next one is refused, or stands there too and no memory is given for it
 pub record ItemsRefusal {A E : Type 0} (n : ℕ) (spells : A → List ℕ → List ℕ → Type 0) (refusal : List ℕ → E → Type 0) (no_memory : E → Type 0) (x : List ℕ) (fault : E) : Type 0 where
@@ -54,12 +43,3 @@ NumberRefusal size spells fault_at =
 abbrev pub NumbersRefusal : {N : Type 0} → ℕ → Option ℕ → (N → List ℕ → Type 0) → (List ℕ → WireFault) → List ℕ → WireFault → Type 0
 NumbersRefusal n size spells fault_at =
     ItemsRefusal n (Alone spells) (NumberRefusal size spells fault_at) (λ fault. fault ≡ Memory)
-
--- a shortest spelling of the count, and then the bytes of the values, for each of which the fact holds
-pub record IsShortestSequence {C A : Type 0} (counts : C → ℕ → List ℕ → Type 0) (suits : C → ℕ → Type 0) (fact : A → List ℕ → Type 0) (vs : List A) (bytes : List ℕ) : Type 0 where
-  pub front : List ℕ
-  pub back : List ℕ
-  pub joined : bytes ≡ front ++ back
-  pub count_is : (ctx : C) → suits ctx (length vs) → counts ctx (length vs) front
-  pub count_least : (ctx : C) (other : List ℕ) → counts ctx (length vs) other → AreBytes other → length front ≤ length other
-  pub items_are : IsSequence (length vs) (Alone fact) vs back []

@@ -1,6 +1,7 @@
 //! The forms of counts. A number before the elements is at most the greatest of its width.
 
 ghost use Rattle.std.specs.Prelude.{◌≡◌, ◌^◌, ◌-◌, []};
+ghost use Rattle.std.proofs.Common.{refl, sym};
 ghost use Rattle.byteorder.specs.Endian.{little_bytes};
 ghost use Rattle.wire_buf.specs.Numbers.{IsLittle};
 ghost use Rattle.wire_seqs.specs.Counts.{IsCount, greatest};
@@ -25,7 +26,7 @@ impl SeqRepr for Unknown {
 
     ghost count_spelling = { λ count. [] };
 
-    ghost suits = { λ ctx count. count ≡ ctx };
+    ghost context = { λ count. count };
 
     fn read_count(ctx: usize, _buf: &mut ParseBuf<'_>) -> Result<usize, WireFault> {
         Ok(ctx)
@@ -34,6 +35,8 @@ impl SeqRepr for Unknown {
     fn write_count<A: Allocator>(_count: usize, _buf: &mut Vec<u8, A>) -> Result<(), WireFault> {
         Ok(())
     }
+
+    ghost one_context = { λ ctx count bytes h. sym h.0 };
 }
 
 /// A count in one byte.
@@ -48,6 +51,8 @@ impl SeqRepr for u8 {
 
     ghost count_spelling = { little_bytes 1 };
 
+    ghost context = { λ count. tt };
+
     fn read_count(_ctx: (), buf: &mut ParseBuf<'_>) -> Result<usize, WireFault> {
         let Some(count) = buf.checked_eat_u8() else {
             return Err(WireFault::Eof);
@@ -59,6 +64,8 @@ impl SeqRepr for u8 {
         buf.extend_from_slice(&count.to_le_bytes()[..1])?;
         Ok(())
     }
+
+    ghost one_context = { λ ctx count bytes h. refl };
 }
 
 /// The greatest count in so many bytes, or the greatest length.
@@ -85,6 +92,8 @@ impl<P: Unsigned + InBytes<N>, O: ByteOrder, const N: usize> SeqRepr for Fixed<P
 
     ghost count_spelling = { O.bytes_of N };
 
+    ghost context = { λ count. tt };
+
     fn read_count(_ctx: (), buf: &mut ParseBuf<'_>) -> Result<usize, WireFault> {
         if buf.len() < N {
             return Err(WireFault::Eof);
@@ -103,4 +112,6 @@ impl<P: Unsigned + InBytes<N>, O: ByteOrder, const N: usize> SeqRepr for Fixed<P
         buf.extend_from_slice(&bytes)?;
         Ok(())
     }
+
+    ghost one_context = { λ ctx count bytes h. refl };
 }

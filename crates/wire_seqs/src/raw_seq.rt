@@ -1,14 +1,16 @@
-ghost use Rattle.std.specs.Prelude.{◌≡◌, ◌⊎◌, ◌↔◌, [], length, slice_get, option_map, IfOk, IfErr, IfSome, IfNone, OnOk, OnErr, IsTrue};
+ghost use Rattle.std.specs.Prelude.{◌≡◌, ◌⊎◌, ◌↔◌, ⊤, List, [], length, map, slice_get, option_map, IfOk, IfErr, IfSome, IfNone, OnOk, OnErr, IsTrue};
 ghost use Rattle.std.specs.Cow.{cow_slice_items, IsOwnedSlice};
-ghost use Rattle.wire_buf.specs.Spelling.{Reads, Lacks, Alone, Equal, Holding, SameBy, SameAll, IsSequence, IsShortest};
-ghost use Rattle.wire_buf.specs.Writing.{Appends, AppendsOf, Refuses};
+ghost use Rattle.wire_buf.specs.Spelling.{Reads, Lacks, Alone, IsSequence};
+ghost use Rattle.wire_buf.specs.Writing.{WritesField, Refuses};
 ghost use Rattle.wire_buf.specs.declared.fault.WireFault.TheVariants.{Memory};
-ghost use Rattle.wire_seqs.specs.Sequences.{joined_spelling, NumberRefusal, NumbersRefusal};
+ghost use Rattle.wire_seqs.specs.Sequences.{IsRow, joined_spelling, NumberRefusal, NumbersRefusal};
 
 use std::alloc::{AllocError, Allocator, Global};
 use std::borrow::CowSlice;
 use std::marker::PhantomData;
-use wire_buf::{AnySize, MyDeserialize, MySerialize, ParseBuf, WireFault, WireSize, whole_or_none};
+use wire_buf::{
+    AnySize, Inner, MyDeserialize, MySerialize, ParseBuf, WireFault, WireSize, whole_or_none,
+};
 use wire_forms::RawConst;
 use wire_ints::IntRepr;
 
@@ -84,13 +86,13 @@ impl<'de, T: IntRepr, U> MyDeserialize<'de> for RawSeq<'de, T, U> {
 
     type Fault = WireFault;
 
-    ghost spells = { λ ctx. Holding (λ v. cow_slice_items v.0) (IsSequence ctx (Alone T.spells)) };
+    ghost View = { List T.Primitive };
 
-    ghost same = { SameBy (λ v. cow_slice_items v.0) Equal };
+    ghost view = { λ v. cow_slice_items v.0 };
+
+    ghost spells = { λ ctx. IsSequence ctx (Alone T.spells) };
 
     ghost refusal = { λ ctx. NumbersRefusal ctx T.Size.SIZE T.spells T.fault_at };
-
-    ghost is_memory = { λ e. e ≡ Memory };
 
     fn deserialize(
         alloc: Global,
@@ -102,19 +104,24 @@ impl<'de, T: IntRepr, U> MyDeserialize<'de> for RawSeq<'de, T, U> {
     }
 
     ghost sized = { λ ctx v bytes rest h. tt };
-
-    ghost tells_memory = { λ f h. h };
 }
 
 impl<'a, T: IntRepr, U> MySerialize for RawSeq<'a, T, U> {
-    ghost spelling = { λ v. joined_spelling (λ n. T.spelling (T.kept n)) (cow_slice_items v.0) };
+    ghost View = { List T.Primitive };
 
-    ghost is_shortest = { λ v bytes. IsSequence (length (cow_slice_items v.0))
-        (Alone (λ n. IsShortest T.spells (T.kept n))) (cow_slice_items v.0) bytes [] };
+    ghost view = { λ v. map T.kept (cow_slice_items v.0) };
+
+    ghost form = { IsRow (Alone T.spells) };
+
+    ghost spelling = { joined_spelling T.spelling };
 
     fn serialize<A: Allocator>(&self, buf: &mut Vec<u8, A>) -> Result<(), WireFault> {
         write_numbers::<T, A>(self.0.as_slice(), buf)
     }
+}
+
+impl<'a, T: IntRepr, U> Inner for RawSeq<'a, T, U> {
+    ghost before_any = { λ rest. tt };
 }
 
 /// Appends the bytes of the numbers, or nothing where one of them is refused.
@@ -122,13 +129,10 @@ fn write_numbers<T: IntRepr, A: Allocator>(
     numbers: &[T::Primitive],
     buf: &mut Vec<u8, A>,
 ) -> Result<(), WireFault>
-    ensures ok { OnOk result (Appends (joined_spelling (λ n. T.spelling (T.kept n))) numbers.now
+    ensures ok { OnOk result (WritesField (joined_spelling T.spelling) (IsRow (Alone T.spells)) (λ rest. ⊤)
+        (map T.kept numbers.now) buf.old.items buf.new.items) }
+    ensures err { IfErr result (λ e. Refuses (joined_spelling T.spelling) (map T.kept numbers.now) e
         buf.old.items buf.new.items) }
-    ensures shortest { OnOk result (AppendsOf (λ bytes. IsSequence (length numbers.now)
-        (Alone (λ n. IsShortest T.spells (T.kept n))) numbers.now bytes [])
-        buf.old.items buf.new.items) }
-    ensures err { IfErr result (λ e. Refuses (joined_spelling (λ n. T.spelling (T.kept n)))
-        numbers.now e buf.old.items buf.new.items) }
 {
     if let Some(bytes) = T::as_bytes(numbers) {
         buf.extend_from_slice(bytes)?;
@@ -149,7 +153,7 @@ fn take_numbers<'de, T: IntRepr>(
     count: usize,
     buf: &mut ParseBuf<'de>,
 ) -> Result<CowSlice<'de, T::Primitive>, WireFault>
-    ensures ok { IfOk result (λ v. Reads (IsSequence count (Alone T.spells)) (SameAll Equal)
+    ensures ok { IfOk result (λ v. Reads (IsSequence count (Alone T.spells))
         (cow_slice_items v) buf.old.0.now buf.new.0.now) }
     ensures err { IfErr result (λ e. (e ≡ Memory)
         ⊎ Lacks (IsSequence count (Alone T.spells)) buf.old.0.now) }
@@ -169,7 +173,7 @@ fn borrow_numbers<'de, T: IntRepr>(
     count: usize,
     buf: &mut ParseBuf<'de>,
 ) -> Option<&'de [T::Primitive]>
-    ensures some { IfSome result (λ numbers. Reads (IsSequence count (Alone T.spells)) (SameAll Equal)
+    ensures some { IfSome result (λ numbers. Reads (IsSequence count (Alone T.spells))
         numbers.now buf.old.0.now buf.new.0.now) }
     ensures none { IfNone result (buf.new.0.now ≡ buf.old.0.now) }
 {
@@ -186,7 +190,7 @@ fn read_numbers<T: IntRepr>(
     count: usize,
     buf: &mut ParseBuf<'_>,
 ) -> Result<Vec<T::Primitive>, WireFault>
-    ensures ok { IfOk result (λ v. Reads (IsSequence count (Alone T.spells)) (SameAll Equal) v.items
+    ensures ok { IfOk result (λ v. Reads (IsSequence count (Alone T.spells)) v.items
         buf.old.0.now buf.new.0.now) }
     ensures err { IfErr result (λ e. (e ≡ Memory)
         ⊎ Lacks (IsSequence count (Alone T.spells)) buf.old.0.now) }
@@ -206,7 +210,7 @@ fn read_numbers<T: IntRepr>(
 /// Reads a number, of which not all bytes need to stand there.
 fn read_number<T: IntRepr>(buf: &mut ParseBuf<'_>) -> Result<T::Primitive, WireFault>
     ensures ok { IfOk result
-        (λ v. Reads (Alone T.spells) Equal v buf.old.0.now buf.new.0.now) }
+        (λ v. Reads (Alone T.spells) v buf.old.0.now buf.new.0.now) }
     ensures err { OnErr result (Lacks (Alone T.spells) buf.old.0.now) }
     ensures why { IfErr result (NumberRefusal T.Size.SIZE T.spells T.fault_at buf.old.0.now) }
 {

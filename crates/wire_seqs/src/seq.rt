@@ -1,7 +1,6 @@
-ghost use Rattle.std.specs.Prelude.{◌≡◌, ◌↔◌, ◌++◌, ◌∷◌, [], length, take, OnOk, OnErr, IfOk, IsTrue};
+ghost use Rattle.std.specs.Prelude.{◌≡◌, ◌↔◌, ◌++◌, ◌∷◌, List, [], length, map, take, OnOk, OnErr, IfOk, IsTrue};
 ghost use Rattle.std.specs.Cow.{cow_slice_items, IsOwnedSlice};
-ghost use Rattle.wire_buf.specs.Spelling.{Holding, SameBy, SameAll};
-ghost use Rattle.wire_seqs.specs.Sequences.{IsCountedSequence, IsShortestSequence, sequence_spelling, ItemsRefusal, SequenceRefusal};
+ghost use Rattle.wire_seqs.specs.Sequences.{IsCountedSequence, sequence_spelling, ItemsRefusal, SequenceRefusal};
 ghost use Rattle.wire_buf.specs.Refusals.{ParseRefusal};
 ghost use Rattle.wire_buf.specs.declared.fault.WireFault.TheVariants.{Eof, Memory};
 
@@ -11,7 +10,7 @@ use std::alloc::{AllocError, Allocator, Global};
 use std::borrow::CowSlice;
 use std::marker::PhantomData;
 use std::ops::DerefSlice;
-use wire_buf::{AnySize, MyDeserialize, MySerialize, ParseBuf, WireFault, whole_or_none};
+use wire_buf::{AnySize, Inner, MyDeserialize, MySerialize, ParseBuf, WireFault, whole_or_none};
 
 /// A sequence of elements, whose number is said in the form `U`.
 #[derive(Drop)]
@@ -115,13 +114,13 @@ impl<'de, T: MyDeserialize<'de, Ctx = ()> + Drop, U: SeqRepr> MyDeserialize<'de>
 
     type Fault = T::Fault;
 
-    ghost spells = { λ ctx. Holding (λ v. cow_slice_items v.0) (IsCountedSequence (U.counts ctx) (T.spells tt)) };
+    ghost View = { List T.View };
 
-    ghost same = { SameBy (λ v. cow_slice_items v.0) (SameAll T.same) };
+    ghost view = { λ v. map T.view (cow_slice_items v.0) };
+
+    ghost spells = { λ ctx. IsCountedSequence (U.counts ctx) (T.spells tt) };
 
     ghost refusal = { λ ctx. SequenceRefusal (U.counts ctx) (T.Fault.from_gives Eof) (λ n. ItemsRefusal n (T.spells tt) (ParseRefusal T.Size.SIZE (T.refusal tt) (T.Fault.from_gives Eof)) (T.Fault.from_gives Memory)) };
-
-    ghost is_memory = { T.is_memory };
 
     fn deserialize(
         alloc: Global,
@@ -134,14 +133,16 @@ impl<'de, T: MyDeserialize<'de, Ctx = ()> + Drop, U: SeqRepr> MyDeserialize<'de>
     }
 
     ghost sized = { λ ctx v bytes rest h. tt };
-
-    ghost tells_memory = { T.tells_memory };
 }
 
-impl<'a, T: MySerialize, U: SeqRepr> MySerialize for Seq<'a, T, U> {
-    ghost spelling = { λ v. sequence_spelling U.count_spelling U.MAX_LEN T.spelling (cow_slice_items v.0) };
+impl<'a, T: Inner, U: SeqRepr> MySerialize for Seq<'a, T, U> {
+    ghost View = { List T.View };
 
-    ghost is_shortest = { λ v. IsShortestSequence U.counts U.suits T.is_shortest (take U.MAX_LEN (cow_slice_items v.0)) };
+    ghost view = { λ v. map T.view (take U.MAX_LEN (cow_slice_items v.0)) };
+
+    ghost form = { λ vs. IsCountedSequence (U.counts (U.context (length vs))) T.form vs };
+
+    ghost spelling = { sequence_spelling U.count_spelling T.spelling };
 
     fn serialize<A: Allocator>(&self, buf: &mut Vec<u8, A>) -> Result<(), WireFault> {
         let start = buf.len();
@@ -150,4 +151,8 @@ impl<'a, T: MySerialize, U: SeqRepr> MySerialize for Seq<'a, T, U> {
         let written = write_items(items, buf);
         whole_or_none(written, start, buf)
     }
+}
+
+impl<'a, T: Inner, U: SeqRepr> Inner for Seq<'a, T, U> {
+    ghost before_any = { λ rest. tt };
 }

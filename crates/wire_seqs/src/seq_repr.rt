@@ -1,7 +1,7 @@
-ghost use Rattle.std.specs.Prelude.{◌≡◌, ◌≤◌, ⊤, List, ℕ, OnOk, OnErr, IfOk, IfErr};
-ghost use Rattle.wire_buf.specs.Spelling.{Reads, Lacks, Alone, Equal};
+ghost use Rattle.std.specs.Prelude.{◌≡◌, ◌≤◌, ⊤, List, ℕ, OnOk, IfOk, IfErr, Some};
+ghost use Rattle.wire_buf.specs.Spelling.{Reads, Lacks, Alone};
 ghost use Rattle.wire_buf.specs.declared.fault.WireFault.TheVariants.{Eof, Memory};
-ghost use Rattle.wire_seqs.specs.Sequences.{WritesCount};
+ghost use Rattle.wire_buf.specs.Writing.{WritesField};
 
 use std::alloc::Allocator;
 use wire_buf::{ParseBuf, WireFault};
@@ -22,13 +22,13 @@ pub trait SeqRepr {
     /// The bytes that are written for a number.
     ghost count_spelling: { ℕ → List ℕ };
 
-    /// The context with which the number is read back.
-    ghost suits: { Self.Ctx → ℕ → Type 0 } = { λ ctx count. ⊤ };
+    /// The one context in which a number is read: the number itself, or nothing.
+    ghost context: { ℕ → Self.Ctx };
 
     /// Reads the number of the elements, or answers `Eof` exactly where none stands there.
     fn read_count(ctx: Self::Ctx, buf: &mut ParseBuf<'_>) -> Result<usize, WireFault>
         ensures ok { IfOk result
-            (λ count. Reads (Alone (counts ctx)) Equal count buf.old.0.now buf.new.0.now) }
+            (λ count. Reads (Alone (counts ctx)) count buf.old.0.now buf.new.0.now) }
         ensures err { IfErr result
             (λ e. Lacks (Alone (counts ctx)) buf.old.0.now × (e ≡ Eof)) };
 
@@ -36,7 +36,10 @@ pub trait SeqRepr {
     /// memory is the one refusal, and leaves the bytes of `buf` as they were.
     fn write_count<A: Allocator>(count: usize, buf: &mut Vec<u8, A>) -> Result<(), WireFault>
         requires { count ≤ MAX_LEN }
-        ensures ok { OnOk result (WritesCount counts suits (count_spelling count) count
-            buf.old.items buf.new.items) }
+        ensures ok { OnOk result (WritesField (λ n. Some (count_spelling n)) (λ n. Alone (counts (context n)) n)
+            (λ rest. ⊤) count buf.old.items buf.new.items) }
         ensures err { IfErr result (λ e. (e ≡ Memory) × (buf.new.items ≡ buf.old.items)) };
+
+    /// A number is said in its own context alone.
+    ghost one_context: { (ctx : Self.Ctx) (count : ℕ) (bytes : List ℕ) → counts ctx count bytes → ctx ≡ context count };
 }

@@ -1,7 +1,7 @@
 //! Length-encoded integers.
 
 ghost use Rattle.std.specs.Prelude.{◌≡◌, IfSome, IfNone, option_map};
-ghost use Rattle.wire_buf.specs.Spelling.{Reads, Lacks, BeginsWith, Alone, Equal};
+ghost use Rattle.wire_buf.specs.Spelling.{Reads, Lacks, BeginsWith, Alone};
 ghost use Rattle.wire_buf.specs.Numbers.{IsLenenc};
 ghost use Rattle.wire_buf.specs.Fronts.{lenenc_front};
 
@@ -30,7 +30,7 @@ impl<'a> ParseBuf<'a> {
     /// A length-encoded integer, which is known to stand there.
     pub fn eat_lenenc_int(&mut self) -> u64
         requires { BeginsWith (Alone IsLenenc) self.old.0.now }
-        ensures { Reads (Alone IsLenenc) Equal result self.old.0.now self.new.0.now }
+        ensures { Reads (Alone IsLenenc) result self.old.0.now self.new.0.now }
     {
         self.checked_eat_lenenc_int().unwrap()
     }
@@ -39,7 +39,7 @@ impl<'a> ParseBuf<'a> {
     /// longer spelling than needed is taken too.
     pub fn checked_eat_lenenc_int(&mut self) -> Option<u64>
         ensures some { IfSome result
-            (λ v. Reads (Alone IsLenenc) Equal v self.old.0.now self.new.0.now) }
+            (λ v. Reads (Alone IsLenenc) v self.old.0.now self.new.0.now) }
         ensures none { IfNone result
             (Lacks (Alone IsLenenc) self.old.0.now × (self.new.0.now ≡ self.old.0.now)) }
     {

@@ -19,8 +19,8 @@ impl<'a> ParseBuf<'a> {
     ) -> Result<T, T::Fault>
         requires { HasRoom T.Size.SIZE (length self.old.0.now) }
         ensures ok { IfOk result
-            (λ v. Reads (T.spells ctx) T.same v self.old.0.now self.new.0.now) }
-        ensures err { IfErr result (λ e. T.is_memory e ⊎ Lacks (T.spells ctx) self.old.0.now) }
+            (λ v. Reads (T.spells ctx) (T.view v) self.old.0.now self.new.0.now) }
+        ensures err { IfErr result (λ e. T.Fault.is_memory e ⊎ Lacks (T.spells ctx) self.old.0.now) }
         ensures why { IfErr result (λ e. T.refusal ctx self.old.0.now e) }
     {
         T::deserialize(alloc, ctx, self)
@@ -30,8 +30,8 @@ impl<'a> ParseBuf<'a> {
     /// fault, or with fewer there none and the fault is `Eof`.
     pub fn parse<T: MyDeserialize<'a>>(&mut self, alloc: Global, ctx: T::Ctx) -> Result<T, T::Fault>
         ensures ok { IfOk result
-            (λ v. Reads (T.spells ctx) T.same v self.old.0.now self.new.0.now) }
-        ensures err { IfErr result (λ e. T.is_memory e ⊎ Lacks (T.spells ctx) self.old.0.now) }
+            (λ v. Reads (T.spells ctx) (T.view v) self.old.0.now self.new.0.now) }
+        ensures err { IfErr result (λ e. T.Fault.is_memory e ⊎ Lacks (T.spells ctx) self.old.0.now) }
         ensures why { IfErr result (ParseRefusal T.Size.SIZE (T.refusal ctx)
             (T.Fault.from_gives Eof) self.old.0.now) }
         ensures short { IfShort T.Size.SIZE (length self.old.0.now)

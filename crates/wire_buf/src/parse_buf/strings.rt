@@ -1,7 +1,7 @@
 //! Strings: behind a count of their bytes, or up to a zero.
 
 ghost use Rattle.std.specs.Prelude.{◌≡◌, IfSome, IfNone};
-ghost use Rattle.wire_buf.specs.Spelling.{Reads, Lacks, BeginsWith, Alone, Equal};
+ghost use Rattle.wire_buf.specs.Spelling.{Reads, Lacks, BeginsWith, Alone};
 ghost use Rattle.wire_buf.specs.Numbers.{IsLenencString, IsShortString, IsLongString};
 ghost use Rattle.wire_buf.specs.Eating.{TakesToZero};
 
@@ -12,7 +12,7 @@ impl<'a> ParseBuf<'a> {
     /// A length-encoded string, which is known to stand there.
     pub fn eat_lenenc_str(&mut self) -> &'a [u8]
         requires { BeginsWith (Alone IsLenencString) self.old.0.now }
-        ensures { Reads (Alone IsLenencString) Equal result.now self.old.0.now self.new.0.now }
+        ensures { Reads (Alone IsLenencString) result.now self.old.0.now self.new.0.now }
     {
         self.checked_eat_lenenc_str().unwrap()
     }
@@ -21,7 +21,7 @@ impl<'a> ParseBuf<'a> {
     /// the length is ill-formed.
     pub fn checked_eat_lenenc_str(&mut self) -> Option<&'a [u8]>
         ensures some { IfSome result
-            (λ s. Reads (Alone IsLenencString) Equal s.now self.old.0.now self.new.0.now) }
+            (λ s. Reads (Alone IsLenencString) s.now self.old.0.now self.new.0.now) }
         ensures none { IfNone result
             (Lacks (Alone IsLenencString) self.old.0.now × (self.new.0.now ≡ self.old.0.now)) }
     {
@@ -35,7 +35,7 @@ impl<'a> ParseBuf<'a> {
     /// A string behind its length in one byte, which is known to stand there.
     pub fn eat_u8_str(&mut self) -> &'a [u8]
         requires { BeginsWith (Alone IsShortString) self.old.0.now }
-        ensures { Reads (Alone IsShortString) Equal result.now self.old.0.now self.new.0.now }
+        ensures { Reads (Alone IsShortString) result.now self.old.0.now self.new.0.now }
     {
         self.checked_eat_u8_str().unwrap()
     }
@@ -43,7 +43,7 @@ impl<'a> ParseBuf<'a> {
     /// A string behind its length in one byte, or None where bytes are missing.
     pub fn checked_eat_u8_str(&mut self) -> Option<&'a [u8]>
         ensures some { IfSome result
-            (λ s. Reads (Alone IsShortString) Equal s.now self.old.0.now self.new.0.now) }
+            (λ s. Reads (Alone IsShortString) s.now self.old.0.now self.new.0.now) }
         ensures none { IfNone result
             (Lacks (Alone IsShortString) self.old.0.now × (self.new.0.now ≡ self.old.0.now)) }
     {
@@ -57,7 +57,7 @@ impl<'a> ParseBuf<'a> {
     /// A string behind its length in four bytes, which is known to stand there.
     pub fn eat_u32_str(&mut self) -> &'a [u8]
         requires { BeginsWith (Alone IsLongString) self.old.0.now }
-        ensures { Reads (Alone IsLongString) Equal result.now self.old.0.now self.new.0.now }
+        ensures { Reads (Alone IsLongString) result.now self.old.0.now self.new.0.now }
     {
         self.checked_eat_u32_str().unwrap()
     }
@@ -65,7 +65,7 @@ impl<'a> ParseBuf<'a> {
     /// A string behind its length in four bytes, or None where bytes are missing.
     pub fn checked_eat_u32_str(&mut self) -> Option<&'a [u8]>
         ensures some { IfSome result
-            (λ s. Reads (Alone IsLongString) Equal s.now self.old.0.now self.new.0.now) }
+            (λ s. Reads (Alone IsLongString) s.now self.old.0.now self.new.0.now) }
         ensures none { IfNone result
             (Lacks (Alone IsLongString) self.old.0.now × (self.new.0.now ≡ self.old.0.now)) }
     {

@@ -6,15 +6,15 @@ pub returns-clause-ok : goal.returns-clause-ok
 returns-clause-ok g c =
     let w = c.in_ok-serialize.ensures.ok in
     let kept = g.T.BytesRepr.kept c.args.text.now in
-    let bytes = g.T.BytesRepr.spelling kept in
+    let bytes = w.bytes in
     let joined = c.deref.ensures.value ∙ w.appended ∙ ap (λ (l : List ℕ). l ++ bytes) c.new-bytes.ensures.items ∙ sym (append-nil bytes) in
     c.in_ok-items.ensures.items_if_clones_equal (λ x y e. e)
-    ∙ (c.in_ok-read.ensures.ok.only kept [] (record { bytes = bytes; joined = joined; is = w.is c.args.ctx [] c.requires })).1
+    ∙ (c.in_ok-read.ensures.ok.only kept [] (record { bytes = bytes; joined = joined; is = rw c.requires.context (w.spells [] c.requires.alone) })).1
 
 pub returns-in_err-read-clause-err : goal.returns-in_err-read-clause-err
 returns-in_err-read-clause-err g c =
     let w = c.in_ok-serialize.ensures.ok in
     let kept = g.T.BytesRepr.kept c.args.text.now in
-    let bytes = g.T.BytesRepr.spelling kept in
+    let bytes = w.bytes in
     let joined = c.deref.ensures.value ∙ w.appended ∙ ap (λ (l : List ℕ). l ++ bytes) c.new-bytes.ensures.items ∙ sym (append-nil bytes) in
-    absurd (c.in_err-read.ensures.err.0 kept [] (record { bytes = bytes; joined = joined; is = w.is c.args.ctx [] c.requires }))
+    absurd (c.in_err-read.ensures.err.0 kept [] (record { bytes = bytes; joined = joined; is = rw c.requires.context (w.spells [] c.requires.alone) }))

@@ -15,12 +15,12 @@ returns-in_err-raw-clause-err g c =
     IfErr-same _ _ (λ e. e ≡ Memory ⊎ ((e ≡ Form) × (g.T.IntRepr.spelling (g.T.IntRepr.kept c.args.value) ≡ None))) c.from_residual-in_err-raw.ensures
     (elim c.in_err-raw.ensures.err [
       | inl m ↦ inl m
-      | inr none ↦ absurd (none (record { 0 = g.T.IntRepr.kept c.args.value; 1 = _ }) [] (record { bytes = w.bytes; joined = joined; is = w.least.is }))
+      | inr none ↦ absurd (none (g.T.IntRepr.kept c.args.value) [] (record { bytes = w.bytes; joined = joined; is = w.least.is }))
     ])
 
 pub returns-clause-ok : goal.returns-clause-ok
 returns-clause-ok g c =
     let w = c.in_ok-serialize.ensures.ok in
     let joined = c.deref.ensures.value ∙ w.appended ∙ ap (λ (l : List ℕ). l ++ w.bytes) c.new-bytes.ensures.items ∙ sym (append-nil w.bytes) in
-    (c.in_ok-raw.ensures.ok.only (record c.in_ok-raw.raw { 0 = g.T.IntRepr.kept c.args.value }) []
+    (c.in_ok-raw.ensures.ok.only (g.T.IntRepr.kept c.args.value) []
     (record { bytes = w.bytes; joined = joined; is = w.least.is })).1

@@ -1,16 +1,20 @@
-use Rattle.std.proofs.Common.{◌≢◌, refl, sym, ◌∙◌}
-use Rattle.wire_buf.specs.Spelling.{Alone, Equal}
+use Rattle.std.proofs.Common.{◌≢◌, inr, sym, ◌∙◌}
+use Rattle.wire_buf.specs.Spelling.{Alone}
 use Rattle.wire_buf.specs.Numbers.{IsLittle}
-use Rattle.wire_buf.proofs.SpellingLemmas.{Reads-through}
 use Rattle.wire_buf.proofs.NumberLemmas.{little_reads}
 use Rattle.wire_buf.specs.declared.fault.WireFault.TheVariants.{Eof}
-use Rattle.wire_forms.proofs.FieldLemmas.{unknown_stands}
+use Rattle.wire_forms.proofs.FieldLemmas.{unknown_stands, constant_reads, constant_lacks}
 use Rattle.wire_forms.proofs.fixed.ConstU32MyDeserialize.deserialize.Goals as goal
 
 pub returns-clause-ok : goal.returns-clause-ok
 returns-clause-ok g c =
-    Reads-through (λ w. g.row.VALUE) (Alone (IsLittle 4)) Equal c.new.result _ _ _ refl
-    (little_reads 4 _ _ _ c.requires (sym c.if-eat_u32_le.false ∙ c.eat_u32_le.ensures.value) c.eat_u32_le.ensures.rest)
+    constant_reads (Alone (IsLittle 4)) g.row.VALUE _ _ _ c.if-eat_u32_le.false
+    (little_reads 4 _ _ _ c.requires c.eat_u32_le.ensures.value c.eat_u32_le.ensures.rest)
+
+pub returns-then-eat_u32_le-clause-err : goal.returns-then-eat_u32_le-clause-err
+returns-then-eat_u32_le-clause-err g c =
+    inr (constant_lacks (Alone (IsLittle 4)) g.row.VALUE _ _ _ c.if-eat_u32_le.true
+    (little_reads 4 _ _ _ c.requires c.eat_u32_le.ensures.value c.eat_u32_le.ensures.rest))
 
 pub returns-then-eat_u32_le-clause-why : goal.returns-then-eat_u32_le-clause-why
 returns-then-eat_u32_le-clause-why g c =

@@ -1,16 +1,20 @@
-use Rattle.std.proofs.Common.{◌≢◌, refl, sym, ◌∙◌}
-use Rattle.wire_buf.specs.Spelling.{Alone, Equal}
+use Rattle.std.proofs.Common.{◌≢◌, inr, sym, ◌∙◌}
+use Rattle.wire_buf.specs.Spelling.{Alone}
 use Rattle.wire_buf.specs.Numbers.{IsLittle}
-use Rattle.wire_buf.proofs.SpellingLemmas.{Reads-through}
 use Rattle.wire_buf.proofs.NumberLemmas.{byte_reads}
 use Rattle.wire_buf.specs.declared.fault.WireFault.TheVariants.{Eof}
-use Rattle.wire_forms.proofs.FieldLemmas.{unknown_stands}
+use Rattle.wire_forms.proofs.FieldLemmas.{unknown_stands, constant_reads, constant_lacks}
 use Rattle.wire_forms.proofs.fixed.ConstU8MyDeserialize.deserialize.Goals as goal
 
 pub returns-clause-ok : goal.returns-clause-ok
 returns-clause-ok g c =
-    Reads-through (λ w. g.row.VALUE) (Alone (IsLittle 1)) Equal c.new.result _ _ _ refl
-    (byte_reads _ _ _ c.requires (sym c.if-eat_u8.false ∙ c.eat_u8.ensures.value) c.eat_u8.ensures.rest)
+    constant_reads (Alone (IsLittle 1)) g.row.VALUE _ _ _ c.if-eat_u8.false
+    (byte_reads _ _ _ c.requires c.eat_u8.ensures.value c.eat_u8.ensures.rest)
+
+pub returns-then-eat_u8-clause-err : goal.returns-then-eat_u8-clause-err
+returns-then-eat_u8-clause-err g c =
+    inr (constant_lacks (Alone (IsLittle 1)) g.row.VALUE _ _ _ c.if-eat_u8.true
+    (byte_reads _ _ _ c.requires c.eat_u8.ensures.value c.eat_u8.ensures.rest))
 
 pub returns-then-eat_u8-clause-why : goal.returns-then-eat_u8-clause-why
 returns-then-eat_u8-clause-why g c =

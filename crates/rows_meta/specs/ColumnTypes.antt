@@ -1,0 +1,51 @@
+-- The types of a table's columns: how many bytes of metadata each has, and which type a column really has.
+use Rattle.std.specs.Prelude.{ℕ, List, [], ◌∷◌, ◌==◌, if◌then◌else◌}
+use Rattle.std.specs.Int.RustNames.{bit_or}
+use Rattle.std.specs.declared.result.Result.{Result}
+use Rattle.std.specs.declared.result.Result.TheVariants.{Ok, Err}
+use Rattle.wire_consts.specs.declared.column_type.ColumnType.{ColumnType}
+use Rattle.wire_consts.specs.declared.column_type.ColumnType.TheVariants as column
+use Rattle.rows_meta.specs.declared.bad_column_type.BadColumnType.{BadColumnType}
+use Rattle.rows_meta.specs.declared.bad_column_type.BadColumnType.TheVariants.{Unexpected}
+
+-- how many bytes of metadata a type has, save TYPED_ARRAY, whose metadata is its element's type and metadata
+abbrev pub metadata_size : ColumnType → ℕ
+metadata_size column.MYSQL_TYPE_FLOAT = 1
+metadata_size column.MYSQL_TYPE_DOUBLE = 1
+metadata_size column.MYSQL_TYPE_TINY_BLOB = 1
+metadata_size column.MYSQL_TYPE_MEDIUM_BLOB = 1
+metadata_size column.MYSQL_TYPE_LONG_BLOB = 1
+metadata_size column.MYSQL_TYPE_BLOB = 1
+metadata_size column.MYSQL_TYPE_GEOMETRY = 1
+metadata_size column.MYSQL_TYPE_JSON = 1
+metadata_size column.MYSQL_TYPE_TIME2 = 1
+metadata_size column.MYSQL_TYPE_DATETIME2 = 1
+metadata_size column.MYSQL_TYPE_TIMESTAMP2 = 1
+metadata_size column.MYSQL_TYPE_VECTOR = 1
+metadata_size column.MYSQL_TYPE_STRING = 2
+metadata_size column.MYSQL_TYPE_VAR_STRING = 2
+metadata_size column.MYSQL_TYPE_ENUM = 2
+metadata_size column.MYSQL_TYPE_SET = 2
+metadata_size column.MYSQL_TYPE_BIT = 2
+metadata_size column.MYSQL_TYPE_VARCHAR = 2
+metadata_size column.MYSQL_TYPE_NEWDECIMAL = 2
+metadata_size other = 0
+
+-- a STRING column has the type of this number
+abbrev pub string_type : ℕ → Result ColumnType BadColumnType
+string_type n =
+    if n == 247 then Ok column.MYSQL_TYPE_ENUM
+    else if n == 248 then Ok column.MYSQL_TYPE_SET
+    else if n == 254 then Ok column.MYSQL_TYPE_STRING
+    else Err (Unexpected n)
+
+-- the first byte of a STRING's metadata, with bits 4 and 5 set, is the number of the real type; where it is 0 or missing, the column is a STRING
+abbrev pub string_of : List ℕ → Result ColumnType BadColumnType
+string_of [] = Ok column.MYSQL_TYPE_STRING
+string_of (m ∷ metadata) = if m == 0 then Ok column.MYSQL_TYPE_STRING else string_type (bit_or m 48)
+
+-- a DATE column has the cells of NEWDATE
+abbrev pub real_type : ColumnType → List ℕ → Result ColumnType BadColumnType
+real_type column.MYSQL_TYPE_DATE metadata = Ok column.MYSQL_TYPE_NEWDATE
+real_type column.MYSQL_TYPE_STRING metadata = string_of metadata
+real_type other metadata = Ok other

@@ -1,0 +1,2 @@
+pub mod TableMaps
+pub mod ColumnTypes

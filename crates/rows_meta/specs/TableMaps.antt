@@ -1,0 +1,53 @@
+-- TABLE_MAP_EVENT: what it says of a table, and its bytes.
+use Rattle.std.specs.Prelude.{ℕ, List, [], ◌∷◌, length, Option, Some, None, ◌≡◌, ◌⊎◌, ◌+◌, ◌/◌, ◌==◌, ◌&&◌, nat_le, if◌then◌else◌}
+use Rattle.wire_buf.specs.Spelling.{ByteForm, ◌⨾◌, Alone, IsBytes}
+use Rattle.wire_buf.specs.Writing.{with_front}
+use Rattle.wire_buf.specs.Numbers.{IsLittle, IsLenenc, IsShortString, IsLenencString, lenenc_spelling}
+use Rattle.wire_buf.specs.declared.fault.WireFault.{WireFault}
+use Rattle.wire_buf.specs.declared.fault.WireFault.TheVariants.{Eof, BadNumber}
+use Rattle.wire_ints.specs.Ints.{little_spelling}
+use Rattle.wire_ints.specs.Strings.{counted_bytes, lenenc_string_spelling}
+use Rattle.wire_forms.specs.Texts.{IsAll, IsSkipped}
+
+-- a number of n bytes
+abbrev pub number : ℕ → ByteForm ℕ
+number n = Alone (IsLittle n)
+
+-- n bytes as they stand
+abbrev pub text : ℕ → ByteForm (List ℕ)
+text n = Alone (IsBytes n)
+
+-- what a table map says of a table: its columns' types, what their types say further, one bit for each whether it may be null, and what a server adds
+pub record TableMap : Type 0 where
+  pub table_id : ℕ
+  pub flags : ℕ
+  pub database : List ℕ
+  pub table : List ℕ
+  pub column_types : List ℕ
+  pub metadata : List ℕ
+  pub null_bitmask : List ℕ
+  pub optional_metadata : List ℕ
+
+-- the id has four bytes where the post-header length of table maps is 6
+abbrev pub id_width : ℕ → ℕ
+id_width post_header = if post_header == 6 then 4 else 6
+
+-- each name stands behind its length in a byte, and a byte that means nothing follows it
+abbrev pub IsTableMap : ℕ → ByteForm TableMap
+IsTableMap post_header t =
+    (number (id_width post_header) t.table_id ⨾ number 2 t.flags ⨾ Alone IsShortString t.database ⨾ IsSkipped 1 ⨾ Alone IsShortString t.table ⨾ IsSkipped 1 ⨾ Alone IsLenenc (length t.column_types))
+    ⨾ text (length t.column_types) t.column_types ⨾ Alone IsLenencString t.metadata ⨾ text ((length t.column_types + 7) / 8) t.null_bitmask ⨾ IsAll t.optional_metadata
+
+-- bytes are missing, or a length can't be read
+abbrev pub IsMapFault : WireFault → Type 0
+IsMapFault fault = fault ≡ Eof ⊎ fault ≡ BadNumber
+
+-- the bytes that are written for a table map: the id in six bytes; zeros for the bytes that mean nothing; None where the numbers of columns and of bits don't agree
+abbrev pub table_map_spelling : TableMap → Option (List ℕ)
+table_map_spelling t =
+    if nat_le (length t.column_types) 4294967295 && (length t.null_bitmask == (length t.column_types + 7) / 8) then
+    with_front
+    (with_front (little_spelling 6 t.table_id) (with_front (little_spelling 2 t.flags) (with_front (Some (counted_bytes 1 t.database)) (with_front (Some (0 ∷ []))
+    (with_front (Some (counted_bytes 1 t.table)) (with_front (Some (0 ∷ [])) (Some (lenenc_spelling (length t.column_types)))))))))
+    (with_front (Some t.column_types) (with_front (Some (lenenc_string_spelling t.metadata)) (with_front (Some t.null_bitmask) (Some t.optional_metadata))))
+    else None

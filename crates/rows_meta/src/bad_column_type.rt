@@ -1,0 +1,25 @@
+ghost use Rattle.std.specs.Prelude.{◌≡◌};
+ghost use Rattle.rows_meta.specs.declared.bad_column_type.BadColumnType.TheVariants.{Unknown};
+
+use thiserror::Error;
+use wire_consts::UnknownColumnType;
+
+/// Why a column of a table map has no type.
+#[derive(Clone, Copy, Debug, PartialEq, Eq, Hash, Error)]
+pub enum BadColumnType {
+    /// No column type has its number.
+    #[error("{0}")]
+    Unknown(UnknownColumnType),
+    /// The metadata of a STRING column names a type that no such column has, by this number.
+    #[error("Unexpected column type {0}")]
+    Unexpected(u8),
+}
+
+impl From<UnknownColumnType> for BadColumnType {
+    ghost from_gives = { λ unknown bad. bad ≡ Unknown unknown };
+
+    /// The refusal of the number.
+    fn from(unknown: UnknownColumnType) -> BadColumnType {
+        BadColumnType::Unknown(unknown)
+    }
+}

@@ -1,0 +1,70 @@
+//! Which type a column really has, and how many bytes of metadata.
+
+ghost use Rattle.std.specs.Prelude.{◌≡◌};
+ghost use Rattle.rows_meta.specs.ColumnTypes.{metadata_size, string_type, string_of, real_type as real_type_of};
+
+use crate::bad_column_type::BadColumnType;
+use wire_consts::ColumnType;
+
+/// How many bytes of metadata a type has. That of `MYSQL_TYPE_TYPED_ARRAY`, for which this is 0, is
+/// its element's type and metadata.
+pub fn metadata_len(column_type: ColumnType) -> usize
+    ensures { result ≡ metadata_size column_type }
+{
+    match column_type {
+        ColumnType::MYSQL_TYPE_FLOAT
+        | ColumnType::MYSQL_TYPE_DOUBLE
+        | ColumnType::MYSQL_TYPE_TINY_BLOB
+        | ColumnType::MYSQL_TYPE_MEDIUM_BLOB
+        | ColumnType::MYSQL_TYPE_LONG_BLOB
+        | ColumnType::MYSQL_TYPE_BLOB
+        | ColumnType::MYSQL_TYPE_GEOMETRY
+        | ColumnType::MYSQL_TYPE_JSON
+        | ColumnType::MYSQL_TYPE_TIME2
+        | ColumnType::MYSQL_TYPE_DATETIME2
+        | ColumnType::MYSQL_TYPE_TIMESTAMP2
+        | ColumnType::MYSQL_TYPE_VECTOR => 1,
+        ColumnType::MYSQL_TYPE_STRING
+        | ColumnType::MYSQL_TYPE_VAR_STRING
+        | ColumnType::MYSQL_TYPE_ENUM
+        | ColumnType::MYSQL_TYPE_SET
+        | ColumnType::MYSQL_TYPE_BIT
+        | ColumnType::MYSQL_TYPE_VARCHAR
+        | ColumnType::MYSQL_TYPE_NEWDECIMAL => 2,
+        _ => 0,
+    }
+}
+
+/// The real type of a column of this type and metadata: a DATE has the cells of `NEWDATE`, and a
+/// STRING may be an ENUM or a SET. `Unexpected` where its metadata names another type.
+pub fn real_type(column_type: ColumnType, metadata: &[u8]) -> Result<ColumnType, BadColumnType>
+    ensures { result ≡ real_type_of column_type metadata.now }
+{
+    match column_type {
+        ColumnType::MYSQL_TYPE_DATE => Ok(ColumnType::MYSQL_TYPE_NEWDATE),
+        ColumnType::MYSQL_TYPE_STRING => string(metadata),
+        _ => Ok(column_type),
+    }
+}
+
+/// The real type of a STRING of this metadata.
+fn string(metadata: &[u8]) -> Result<ColumnType, BadColumnType>
+    ensures { result ≡ string_of metadata.now }
+{
+    match metadata {
+        [] | [0, ..] => Ok(ColumnType::MYSQL_TYPE_STRING),
+        [first, ..] => numbered(*first | 0x30),
+    }
+}
+
+/// The type of a STRING column that this number names.
+fn numbered(number: u8) -> Result<ColumnType, BadColumnType>
+    ensures { result ≡ string_type number }
+{
+    match number {
+        247 => Ok(ColumnType::MYSQL_TYPE_ENUM),
+        248 => Ok(ColumnType::MYSQL_TYPE_SET),
+        254 => Ok(ColumnType::MYSQL_TYPE_STRING),
+        _ => Err(BadColumnType::Unexpected(number)),
+    }
+}
