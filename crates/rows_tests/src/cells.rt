@@ -282,22 +282,6 @@ fn refusal(kind: ColumnType, metadata: &[u8], bytes: &[u8]) -> Option<RowsError>
     }
 }
 
-// Its cells can't be read, but NULL has no bytes.
-#[test]
-fn typed_array_cell(rt: HostRuntime) {
-    let alloc = rt.alloc();
-    let kind = ColumnType::MYSQL_TYPE_TYPED_ARRAY;
-    let columns = [ImageColumn {
-        place: 0,
-        form: CellForm::of_column(kind, b"\x03", false),
-    }];
-    assert!(rt;
-        refusal(kind, b"\x03", b"\0\0\0\0") == Some(RowsError::Cell)
-            && is_image(alloc, &columns, b"\x01", b" 0=NULL", 0)
-            && !is_image(alloc, &columns, b"\x00\0\0\0\0", b" 0=0", 0)
-    );
-}
-
 #[test]
 fn cells_refused(rt: HostRuntime) {
     let rows: [(ColumnType, &[u8], &[u8], RowsError); 8] = [

@@ -7,6 +7,7 @@ use mysql_binlog_rows::{
     JsonDiffOperation, RowPart, RowPlan, RowsCursor, RowsError, Width,
 };
 use std::alloc::Global;
+use wire_consts::ColumnType;
 
 /// A column of signed integers of four bytes.
 fn long_column(place: u32) -> ImageColumn {
@@ -87,7 +88,34 @@ fn have_text(
 // Of two columns the second is in the image: it has the first null bit.
 #[test]
 fn second_column_null(rt: HostRuntime) {
-    assert!(rt; have_text(rt.alloc(), one_image(&[long_column(1)]), b"\x01", b" 1=NULL\n", None));
+    assert!(rt;
+        have_text(
+            rt.alloc(),
+            one_image(&[long_column(1)]),
+            b"\x01",
+            b" 1=NULL\n",
+            None
+        )
+    );
+}
+
+// Its cells can't be read, but NULL has no bytes.
+#[test]
+fn typed_array_cell(rt: HostRuntime) {
+    let columns = [ImageColumn {
+        place: 0,
+        form: CellForm::of_column(ColumnType::MYSQL_TYPE_TYPED_ARRAY, b"\x03", false),
+        json_index: 0,
+    }];
+    assert!(rt;
+        have_text(
+            rt.alloc(),
+            one_image(&columns),
+            b"\x01\x00\0\0\0\0",
+            b" 0=NULL\n",
+            Some(RowsError::Cell)
+        )
+    );
 }
 
 #[test]
@@ -119,7 +147,10 @@ fn update_row(rt: HostRuntime) {
             None
         ) && have_text(
             rt.alloc(),
-            RowPlan { first: plain(&columns), second: Some(plain(&[])) },
+            RowPlan {
+                first: plain(&columns),
+                second: Some(plain(&[]))
+            },
             b"\0\x05\0\0\0\0\x06\0\0\0",
             b" 0=5 to\n 0=6 to\n",
             None
@@ -133,9 +164,25 @@ fn rows_up_to_a_broken_one(rt: HostRuntime) {
     let columns = [long_column(0)];
     let end = Some(RowsError::EndOfBody);
     assert!(rt;
-        have_text(rt.alloc(), one_image(&columns), b"\0\x05\0\0\0\0\x06\0\0", b" 0=5\n", end)
-            && have_text(rt.alloc(), two_images(&columns), b"\0\x05\0\0\0", b" 0=5", end)
-            && have_text(rt.alloc(), two_images(&columns), b"\0\x05\0\0\0\0\x06", b" 0=5 to", end)
+        have_text(
+            rt.alloc(),
+            one_image(&columns),
+            b"\0\x05\0\0\0\0\x06\0\0",
+            b" 0=5\n",
+            end
+        ) && have_text(
+            rt.alloc(),
+            two_images(&columns),
+            b"\0\x05\0\0\0",
+            b" 0=5",
+            end
+        ) && have_text(
+            rt.alloc(),
+            two_images(&columns),
+            b"\0\x05\0\0\0\0\x06",
+            b" 0=5 to",
+            end
+        )
     );
 }
 
@@ -151,7 +198,11 @@ fn rows_that_take_no_bytes(rt: HostRuntime) {
     assert!(rt;
         have_text(rt.alloc(), one_image(&[]), b"", b"", None)
             && stays_refused(one_image(&[]), b"\0", RowsError::EmptyPair)
-            && stays_refused(one_image(&[long_column(0)]), b"\0\x05", RowsError::EndOfBody)
+            && stays_refused(
+                one_image(&[long_column(0)]),
+                b"\0\x05",
+                RowsError::EndOfBody
+            )
     );
 }
 
@@ -214,7 +265,7 @@ fn json_diff_cell(rt: HostRuntime) {
             && have_text(
                 rt.alloc(),
                 partial(&columns, 2),
-                b"\x01\x02\0\x0d\0\0\0\x02\x03$.a\x01\x03$.b\x02\x04\x01\x01\x02\0\0\0\0",
+                b"\x01\x02\0\x0d\0\0\0\x02\x03$.a\x01\x03$.b\x02\x04\x01\x01\x02\0\0\0\0\0",
                 b" 4=diff[remove '$.a',insert '$.b' true]\n 4=diff[]\n",
                 None
             )
@@ -232,7 +283,13 @@ fn whole_documents_of_partial_updates(rt: HostRuntime) {
             b"\x01\x01\0\x03\0\0\0\x05\x07\0\x01\0\x01",
             b" 4=7\n 4=NULL\n",
             None
-        ) && have_text(rt.alloc(), partial(&columns, 2), b"\0\0\x03\0\0\0\x05\x07\0", b" 4=7\n", None)
+        ) && have_text(
+            rt.alloc(),
+            partial(&columns, 2),
+            b"\0\0\x03\0\0\0\x05\x07\0",
+            b" 4=7\n",
+            None
+        )
     );
 }
 
@@ -245,7 +302,13 @@ fn shared_part_of_partial_updates(rt: HostRuntime) {
             && stays_refused(plan, b"\xfc\x01", RowsError::EndOfBody)
             && stays_refused(plan, b"\x01\xff", RowsError::EndOfBody)
             && have_text(rt.alloc(), partial(&[], 9), b"\x02\0", b"\n\n", None)
-            && have_text(rt.alloc(), plan, b"\xfc\x01\0\xff\0\0\x03\0\0\0\x05\x07\0", b" 0=7\n", None)
+            && have_text(
+                rt.alloc(),
+                plan,
+                b"\xfc\x01\0\xff\0\0\x03\0\0\0\x05\x07\0",
+                b" 0=7\n",
+                None
+            )
     );
 }
 
@@ -256,7 +319,11 @@ fn broken_changes(rt: HostRuntime) {
     let plan = partial(&columns, 1);
     assert!(rt;
         stays_refused(plan, b"\x01\x01\0\x02\0\0\0\x03\0", RowsError::Jsonb(None))
-            && stays_refused(plan, b"\x01\x01\0\x03\0\0\0\x02\0\x02", RowsError::Jsonb(None))
+            && stays_refused(
+                plan,
+                b"\x01\x01\0\x03\0\0\0\x02\0\x02",
+                RowsError::Jsonb(None)
+            )
             && stays_refused(plan, b"\x01\x01\0\x02\0\0\0\x02", RowsError::EndOfBody)
     );
 }
