@@ -1,1 +1,4 @@
 pub mod TableMapParts
+pub mod TypeNumberLemmas
+pub mod ArrayLemmas
+pub mod ColumnLemmas

@@ -1,2 +1,4 @@
 pub mod TableMaps
 pub mod ColumnTypes
+pub mod ColumnMetadata
+pub mod ColumnViews

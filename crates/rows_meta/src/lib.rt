@@ -5,10 +5,12 @@
 
 mod bad_column_type;
 mod column_types;
+mod columns;
 mod table_id;
 mod table_map;
 
 pub use bad_column_type::BadColumnType;
 pub use column_types::{metadata_len, real_type};
+pub use columns::{ColumnMeta, IterColumns};
 pub use table_id::TableId;
 pub use table_map::TableMapEvent;

@@ -1,0 +1,64 @@
+-- The columns of a table map: the number of each one's type, and the metadata that belongs to it.
+use Rattle.std.specs.Prelude.{ℕ, ◌+◌, List, [], ◌∷◌, length, take, drop, find, Option, Some, None, nat_le, ◌==◌, if◌then◌else◌}
+use Rattle.std.specs.Option.{option_map}
+use Rattle.wire_consts.specs.ColumnTypes.{column_type_number}
+use Rattle.wire_consts.specs.declared.column_type.ColumnType.{ColumnType}
+use Rattle.wire_consts.specs.declared.column_type.ColumnType.TheVariants as column
+use Rattle.rows_jsonb.specs.AllColumnTypes.{column_types}
+use Rattle.rows_meta.specs.ColumnTypes.{metadata_size}
+
+-- the type that has a number, if there is one
+unfoldable pub column_type : ℕ → Option ColumnType
+column_type n = find (λ t. column_type_number t == n) column_types
+
+-- how many bytes the type of an array's element and its metadata take, of which a VARCHAR has three; None for an array of arrays
+abbrev pub plain_size : ColumnType → Option ℕ
+plain_size column.MYSQL_TYPE_TYPED_ARRAY = None
+plain_size column.MYSQL_TYPE_VARCHAR = Some 4
+plain_size t = Some (1 + metadata_size t)
+
+abbrev pub size_or : Option ℕ → Option ℕ → Option ℕ
+size_or None inner = option_map (λ n. 1 + n) inner
+size_or (Some n) inner = Some n
+
+abbrev pub element_size : Option ColumnType → Option ℕ → Option ℕ
+element_size None inner = None
+element_size (Some t) inner = size_or (plain_size t) inner
+
+-- How many bytes the metadata of a TYPED_ARRAY takes: its element's type in one byte, and the element's metadata. None where the element's type is missing or unknown. The element may be an array itself.
+unfoldable pub array_size : List ℕ → Option ℕ
+array_size [] = None
+array_size (n ∷ bytes) = element_size (column_type n) (array_size bytes)
+
+-- how many bytes of metadata a column of this type has, by what stands there
+abbrev pub size_by_type : Option ColumnType → List ℕ → Option ℕ
+size_by_type None bytes = None
+size_by_type (Some column.MYSQL_TYPE_TYPED_ARRAY) bytes = array_size bytes
+size_by_type (Some t) bytes = Some (metadata_size t)
+
+-- a column's metadata, and what follows it: nothing where its length can't be found or fewer bytes are left
+abbrev pub cut : Option ℕ → List ℕ → Option (List ℕ × List ℕ)
+cut None bytes = None
+cut (Some n) bytes = if nat_le n (length bytes) then Some (take n bytes, drop n bytes) else None
+
+abbrev pub metadata_front : ℕ → Option (List ℕ) → Option (List ℕ × List ℕ)
+metadata_front n None = None
+metadata_front n (Some bytes) = cut (size_by_type (column_type n) bytes) bytes
+
+-- a column: the number of its type, and its metadata
+pub record ColumnMeta : Type 0 where
+  pub number : ℕ
+  pub metadata : List ℕ
+
+abbrev pub own_metadata : Option (List ℕ × List ℕ) → List ℕ
+own_metadata None = []
+own_metadata (Some x) = x.0
+
+abbrev pub after_metadata : Option (List ℕ × List ℕ) → Option (List ℕ)
+after_metadata None = None
+after_metadata (Some x) = Some x.1
+
+-- The columns of these types, before whose metadata these bytes stand. A column's metadata is all of the bytes that its type has, or none where they can't be found; then no column after it has any.
+unfoldable pub columns_of : List ℕ → Option (List ℕ) → List ColumnMeta
+columns_of [] bytes = []
+columns_of (n ∷ types) bytes = record { number = n; metadata = own_metadata (metadata_front n bytes) } ∷ columns_of types (after_metadata (metadata_front n bytes))

@@ -1,0 +1,186 @@
+//! The columns of a table map: the type of each, and the metadata that belongs to it.
+
+ghost use Rattle.std.specs.Prelude.{◌≡◌, ◌≤◌, IfSome};
+ghost use Rattle.std.specs.Option.{option_map};
+ghost use Rattle.rows_meta.specs.ColumnViews.{bytes_of};
+ghost use Rattle.rows_meta.specs.ColumnMetadata.{column_type as column_type_of, array_size, size_by_type, cut, plain_size, metadata_front as front_of};
+
+use crate::bad_column_type::BadColumnType;
+use crate::column_types::{metadata_len, real_type};
+use crate::table_map::TableMapEvent;
+use wire_consts::{ColumnType, UnknownColumnType};
+
+/// A column of a table map, borrowed from its bytes.
+#[derive(Clone, Copy, Debug, PartialEq, Eq)]
+pub struct ColumnMeta<'a> {
+    /// The number of its type.
+    pub number: u8,
+    /// What the type says further: as many bytes as its type has, or none where they can't be found.
+    pub metadata: &'a [u8],
+}
+
+/// The columns of a table map that are still to come, in order.
+#[derive(Clone, Copy, Debug)]
+pub struct IterColumns<'a> {
+    types: &'a [u8],
+    /// The metadata of these columns, and what follows it; None once it can't be found.
+    metadata: Option<&'a [u8]>,
+}
+
+impl<'a> IterColumns<'a> {
+    ghost use Rattle.std.specs.Prelude.{Some};
+    ghost use Rattle.rows_meta.specs.ColumnMetadata.{columns_of};
+    ghost use Rattle.rows_meta.specs.ColumnViews.{columns_left, TakesColumn};
+
+    /// The columns of these types, whose metadata stands there one after the other.
+    pub fn new(types: &'a [u8], metadata: &'a [u8]) -> IterColumns<'a>
+        ensures { columns_left result ≡ columns_of types.entry.now (Some metadata.entry.now) }
+    {
+        IterColumns {
+            types,
+            metadata: Some(metadata),
+        }
+    }
+
+    /// The next column; none once all were given.
+    #[tactic(auto, unfolding(crate::specs::ColumnMetadata::columns_of))]
+    pub fn next_column(&mut self) -> Option<ColumnMeta<'a>>
+        ensures { TakesColumn self.old result self.new }
+    {
+        let (number, types) = self.types.split_first()?;
+        self.types = types;
+        match metadata_front(*number, self.metadata) {
+            Some((metadata, rest)) => {
+                self.metadata = Some(rest);
+                Some(ColumnMeta {
+                    number: *number,
+                    metadata,
+                })
+            }
+            None => {
+                self.metadata = None;
+                Some(ColumnMeta {
+                    number: *number,
+                    metadata: &[],
+                })
+            }
+        }
+    }
+}
+
+impl TableMapEvent<'_> {
+    ghost use Rattle.std.specs.Prelude.{slice_get};
+    ghost use Rattle.rows_meta.specs.ColumnViews.{columns_left, map_columns, column_view, metadata_in, type_in};
+
+    /// The columns, in order.
+    pub fn columns(&self) -> IterColumns<'_>
+        ensures { columns_left result ≡ map_columns self.now }
+    {
+        IterColumns::new(self.column_types_raw(), self.metadata_raw())
+    }
+
+    /// The column at `index`, or None where there are not so many columns.
+    pub fn column(&self, index: usize) -> Option<ColumnMeta<'_>>
+        ensures { option_map column_view result ≡ slice_get (map_columns self.now) index }
+    {
+        let mut columns = self.columns();
+        for _ in 0..index {
+            match columns.next_column() {
+                Some(_) => {}
+                None => return None,
+            }
+        }
+        columns.next_column()
+    }
+
+    /// The metadata of the column at `index`, or None where there are not so many columns: as many bytes as
+    /// its type has, or none where they can't be found.
+    pub fn get_column_metadata(&self, index: usize) -> Option<&[u8]>
+        ensures { bytes_of result ≡ metadata_in (slice_get (map_columns self.now) index) }
+    {
+        match self.column(index) {
+            Some(column) => Some(column.metadata),
+            None => None,
+        }
+    }
+
+    /// The real type of the column at `index`, or None where there are not so many columns: a DATE has the
+    /// cells of `NEWDATE`, and a STRING may be an ENUM or a SET.
+    ///
+    /// `Unknown` where no type has its number; `Unexpected` where a STRING's metadata names another type.
+    pub fn get_column_type(&self, index: usize) -> Result<Option<ColumnType>, BadColumnType>
+        ensures { result ≡ type_in (slice_get (map_columns self.now) index) }
+    {
+        let Some(column) = self.column(index) else {
+            return Ok(None);
+        };
+        let Some(column_type) = column_type(column.number) else {
+            return Err(BadColumnType::Unknown(UnknownColumnType(column.number)));
+        };
+        match real_type(column_type, column.metadata) {
+            Ok(real) => Ok(Some(real)),
+            Err(bad) => Err(bad),
+        }
+    }
+}
+
+/// The metadata of a column of this type, and what follows it.
+fn metadata_front<'a>(number: u8, rest: Option<&'a [u8]>) -> Option<(&'a [u8], &'a [u8])>
+    ensures { option_map (λ x. (x.0.now, x.1.now)) result ≡ front_of number (bytes_of rest.entry) }
+{
+    let bytes = rest?;
+    let len = len_by_type(column_type(number), bytes)?;
+    if len > bytes.len() {
+        return None;
+    }
+    Some(bytes.split_at(len))
+}
+
+/// How many bytes of metadata a column of this type has, by what stands there.
+fn len_by_type(column_type: Option<ColumnType>, bytes: &[u8]) -> Option<usize>
+    ensures { result ≡ size_by_type column_type bytes.now }
+{
+    match column_type {
+        None => None,
+        Some(ColumnType::MYSQL_TYPE_TYPED_ARRAY) => array_len(bytes),
+        Some(column_type) => Some(metadata_len(column_type)),
+    }
+}
+
+/// How many bytes the metadata of a `TYPED_ARRAY` takes; None where an element's type is missing or unknown.
+fn array_len(bytes: &[u8]) -> Option<usize>
+    ensures { result ≡ array_size bytes.now }
+{
+    for (depth, number) in bytes.iter().enumerate() {
+        match column_type(*number) {
+            Some(element) => match plain_len(element) {
+                Some(len) => return Some(depth + len),
+                None => {}
+            },
+            None => return None,
+        }
+    }
+    None
+}
+
+/// How many bytes the type of an array's element and its metadata take; None for an array of arrays.
+fn plain_len(element: ColumnType) -> Option<usize>
+    ensures value { result ≡ plain_size element }
+    ensures small { IfSome result (λ len. len ≤ 4) }
+{
+    match element {
+        ColumnType::MYSQL_TYPE_TYPED_ARRAY => None,
+        ColumnType::MYSQL_TYPE_VARCHAR => Some(4),
+        _ => Some(1 + metadata_len(element)),
+    }
+}
+
+/// The type that has a number, if there is one.
+fn column_type(number: u8) -> Option<ColumnType>
+    ensures { result ≡ column_type_of number }
+{
+    match ColumnType::try_from(number) {
+        Ok(column_type) => Some(column_type),
+        Err(_) => None,
+    }
+}
