@@ -33,14 +33,17 @@ abbrev pub some_type : Result ColumnType BadColumnType → Result (Option Column
 some_type (Ok t) = Ok (Some t)
 some_type (Err e) = Err e
 
+abbrev pub type_by : ColumnMeta → Option ColumnType → Result ColumnType BadColumnType
+type_by c None = Err (Unknown (record { 0 = c.number }))
+type_by c (Some t) = real_type t c.metadata
+
 -- the real type of a column, or why it has none
-abbrev pub typed : ℕ → List ℕ → Option ColumnType → Result (Option ColumnType) BadColumnType
-typed n metadata None = Err (Unknown (record { 0 = n }))
-typed n metadata (Some t) = some_type (real_type t metadata)
+abbrev pub real_type_of : ColumnMeta → Result ColumnType BadColumnType
+real_type_of c = type_by c (column_type c.number)
 
 abbrev pub type_in : Option ColumnMeta → Result (Option ColumnType) BadColumnType
 type_in None = Ok None
-type_in (Some c) = typed c.number c.metadata (column_type c.number)
+type_in (Some c) = some_type (real_type_of c)
 
 -- the columns that are left
 abbrev pub columns_left : IterColumns → List ColumnMeta

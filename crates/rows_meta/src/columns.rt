@@ -19,6 +19,22 @@ pub struct ColumnMeta<'a> {
     pub metadata: &'a [u8],
 }
 
+impl ColumnMeta<'_> {
+    ghost use Rattle.rows_meta.specs.ColumnViews.{column_view, real_type_of};
+
+    /// The real type: a DATE has the cells of `NEWDATE`, and a STRING may be an ENUM or a SET.
+    ///
+    /// `Unknown` where no type has the number; `Unexpected` where a STRING's metadata names another type.
+    pub fn real_type(&self) -> Result<ColumnType, BadColumnType>
+        ensures { result ≡ real_type_of (column_view self.now) }
+    {
+        match column_type(self.number) {
+            Some(column_type) => real_type(column_type, self.metadata),
+            None => Err(BadColumnType::Unknown(UnknownColumnType(self.number))),
+        }
+    }
+}
+
 /// The columns of a table map that are still to come, in order.
 #[derive(Clone, Copy, Debug)]
 pub struct IterColumns<'a> {
@@ -104,20 +120,16 @@ impl TableMapEvent<'_> {
         }
     }
 
-    /// The real type of the column at `index`, or None where there are not so many columns: a DATE has the
-    /// cells of `NEWDATE`, and a STRING may be an ENUM or a SET.
+    /// The real type of the column at `index`, or None where there are not so many columns.
     ///
-    /// `Unknown` where no type has its number; `Unexpected` where a STRING's metadata names another type.
+    /// The refusals of [`ColumnMeta::real_type`].
     pub fn get_column_type(&self, index: usize) -> Result<Option<ColumnType>, BadColumnType>
         ensures { result ≡ type_in (slice_get (map_columns self.now) index) }
     {
         let Some(column) = self.column(index) else {
             return Ok(None);
         };
-        let Some(column_type) = column_type(column.number) else {
-            return Err(BadColumnType::Unknown(UnknownColumnType(column.number)));
-        };
-        match real_type(column_type, column.metadata) {
+        match column.real_type() {
             Ok(real) => Ok(Some(real)),
             Err(bad) => Err(bad),
         }

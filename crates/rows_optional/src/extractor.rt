@@ -5,7 +5,7 @@ ghost use Rattle.rows_jsonb.specs.JsonbViews.{shown};
 ghost use Rattle.rows_optional.specs.Lists.{strings};
 ghost use Rattle.rows_optional.specs.Extracted.{extracted, with_field, nothing};
 ghost use Rattle.rows_optional.specs.Served.{bytes_or_none, key_indexes, charset_item, signs_or_none};
-ghost use Rattle.rows_optional.specs.MetadataViews.{field_view, fields_left, extracted_view, names_left, signs_left, primary_key_left, GivesCharsets};
+ghost use Rattle.rows_optional.specs.MetadataViews.{field_view, fields_left, extracted_view, names_left, names_view, signs_left, primary_key_left, GivesCharsets};
 
 use crate::charsets::{ColumnCharsets, DefaultCharset};
 use crate::field::{OptionalMetadataField, OptionalMetadataIter};
@@ -124,13 +124,20 @@ impl<'a> OptionalMetaExtractor<'a> {
         IterPrimaryKey::of(self.simple_primary_key, self.primary_key_with_prefix)
     }
 
+    /// The names of the columns, in order. There are none where the table map has no names.
+    pub fn column_names(&self) -> ColumnNames<'a>
+        ensures { names_view result ≡ bytes_or_none (extracted_view self.now).names }
+    {
+        match self.column_name {
+            Some(names) => names,
+            None => ColumnNames::of_value(&[]),
+        }
+    }
+
     /// The names of the columns, in order. Nothing where the table map has no names.
     pub fn iter_column_name(&self) -> IterNames<'a>
         ensures { names_left result ≡ strings (bytes_or_none (extracted_view self.now).names) }
     {
-        match self.column_name {
-            Some(names) => names.iter_names(),
-            None => ColumnNames::of_value(&[]).iter_names(),
-        }
+        self.column_names().iter_names()
     }
 }

@@ -6,7 +6,7 @@ ghost use Rattle.std.specs.Iterator.{YieldsFirstBy, item_count};
 ghost use Rattle.std.specs.Str.Lossy.{utf8_lossy};
 ghost use Rattle.rows_jsonb.specs.JsonbViews.{shown};
 ghost use Rattle.rows_optional.specs.Lists.{strings};
-ghost use Rattle.rows_optional.specs.MetadataViews.{name_view, names_left};
+ghost use Rattle.rows_optional.specs.MetadataViews.{name_view, names_left, names_view};
 
 use crate::entries::Entries;
 use rows_values::RowsError;
@@ -64,15 +64,22 @@ pub struct ColumnNames<'a> {
 
 impl<'a> ColumnNames<'a> {
     /// The names in the value of a field: length-encoded strings.
-    pub(crate) fn of_value(value: &'a [u8]) -> ColumnNames<'a>
+    pub fn of_value(value: &'a [u8]) -> ColumnNames<'a>
         ensures { result.names ≡ value.entry }
     {
         ColumnNames { names: value }
     }
 
+    /// The value of the field: length-encoded strings.
+    pub fn value(&self) -> &'a [u8]
+        ensures { result.now ≡ names_view self.now }
+    {
+        self.names
+    }
+
     /// The names, in the order of the columns.
     pub fn iter_names(&self) -> IterNames<'a>
-        ensures { names_left result ≡ strings self.now.names.now }
+        ensures { names_left result ≡ strings (names_view self.now) }
     {
         IterNames {
             entries: Entries::of(self.names),

@@ -1,0 +1,10 @@
+//! The plan of a table's columns: what a row's reader needs of each, made once from the table map and its
+//! optional metadata (`specs/Plans.antt`).
+#![tactic(auto)]
+
+mod column;
+mod plan;
+mod walk;
+
+pub use column::PlannedColumn;
+pub use plan::ColumnPlan;
