@@ -222,8 +222,8 @@ impl MySerialize for DefaultCharset<'_> {
     }
 }
 
-/// A column's index and its character set. The refusals of a length-encoded integer: `EndOfBody` where bytes are missing, and `UnknownNumber`
-/// where one begins with 251 or 255.
+/// A column's index and its character set. The refusals of a length-encoded integer: `EndOfBody` where
+/// bytes are missing, and `UnknownNumber` where one begins with 251 or 255.
 impl<'de> MyDeserialize<'de> for NonDefaultCharset {
     const SIZE: Option<usize> = None;
 

@@ -229,8 +229,8 @@ impl MySerialize for PrimaryKeysWithPrefix<'_> {
     }
 }
 
-/// A column's index and the length of its prefix. The refusals of a length-encoded integer: `EndOfBody` where bytes are missing, and `UnknownNumber`
-/// where one begins with 251 or 255.
+/// A column's index and the length of its prefix. The refusals of a length-encoded integer: `EndOfBody` where
+/// bytes are missing, and `UnknownNumber` where one begins with 251 or 255.
 impl<'de> MyDeserialize<'de> for PrimaryKeyWithPrefix {
     const SIZE: Option<usize> = None;
 
