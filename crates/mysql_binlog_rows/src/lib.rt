@@ -11,6 +11,8 @@
 pub mod laws;
 
 pub use rows_cells::BinlogValue;
+pub use rows_cells::BinlogValueCtx;
+pub use rows_cells::BinlogValueToValueError;
 pub use rows_cells::CellForm;
 pub use rows_cells::CellRef;
 pub use rows_cells::ImageCells;

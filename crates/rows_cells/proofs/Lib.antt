@@ -3,3 +3,4 @@ pub mod CellLemmas
 pub mod RowLemmas
 pub mod CursorLemmas
 pub mod ImageLemmas
+pub mod KeptLemmas

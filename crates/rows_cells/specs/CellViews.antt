@@ -1,5 +1,5 @@
 -- The value that a borrowed cell stands for, and the value in memory of its own that is made of it.
-use Rattle.std.specs.Prelude.{◌≡◌, ℕ, ◌+◌, List, [], map, Option, Some, None}
+use Rattle.std.specs.Prelude.{◌≡◌, ⊤, ℕ, ◌+◌, List, [], map, Option, Some, None, IsSome, IsOk}
 use Rattle.std.specs.declared.result.Result.TheVariants.{Ok, Err}
 use Rattle.std.specs.Fmt.{decimal}
 use Rattle.rows_decimal.specs.Unpacked.{packed_text}
@@ -66,3 +66,10 @@ IsRefused (ref.Decimal precision scale b) e = (e ≡ BadDecimal) × (packed_text
 IsRefused (ref.Json b) e = document b.now ≡ Err e
 IsRefused (ref.JsonDiffs b) e = (items_at diff_at b.now).fault ≡ Some e
 IsRefused _ e = ⊥
+
+-- nothing of a cell that was read from bytes is refused
+abbrev pub IsReadable : CellRef → Type 0
+IsReadable (ref.Decimal precision scale b) = IsSome (packed_text precision scale b.now)
+IsReadable (ref.Json b) = IsOk (document b.now)
+IsReadable (ref.JsonDiffs b) = (items_at diff_at b.now).fault ≡ None
+IsReadable _ = ⊤

@@ -8,3 +8,4 @@ pub mod Images
 pub mod ImageViews
 pub mod EventRows
 pub mod RowViews
+pub mod BinlogValues

@@ -6,7 +6,7 @@ ghost use Rattle.rows_jsonb.specs.JsonbViews.{shown};
 ghost use Rattle.rows_cells.specs.CellForms.{size_of, decimal_size};
 ghost use Rattle.rows_cells.specs.CellValues.{worth, decimal_value};
 ghost use Rattle.rows_cells.specs.Cells.{content_at, cell_at, IsSized};
-ghost use Rattle.rows_cells.specs.CellViews.{cell_value};
+ghost use Rattle.rows_cells.specs.CellViews.{cell_value, IsReadable};
 
 use crate::cell::CellRef;
 use crate::fields::{counted_front, signed, split_front, unsigned};
@@ -24,7 +24,8 @@ use wire_buf::ParseBuf;
 #[inline(always)]
 #[tactic(auto, unfolding(crate::specs::Cells::cell_at))]
 pub fn cell_front(form: CellForm, bytes: &[u8]) -> Result<(CellRef<'_>, &[u8]), RowsError>
-    ensures { shown (λ x. (cell_value x.0, x.1.now)) result ≡ cell_at form bytes.now }
+    ensures value { shown (λ x. (cell_value x.0, x.1.now)) result ≡ cell_at form bytes.now }
+    ensures readable { IfOk result (λ x. IsReadable x.0) }
 {
     let (content, rest) = content_front(form, bytes)?;
     let cell = cell_of(form, content)?;
@@ -75,7 +76,8 @@ fn decimal_front(bytes: &[u8], precision: u8, scale: u8) -> Result<(&[u8], &[u8]
 #[inline(always)]
 fn cell_of(form: CellForm, content: &[u8]) -> Result<CellRef<'_>, RowsError>
     requires { IsSized (size_of form) content.now }
-    ensures { shown cell_value result ≡ worth form content.now }
+    ensures value { shown cell_value result ≡ worth form content.now }
+    ensures readable { IfOk result IsReadable }
 {
     match form {
         CellForm::Signed(width) => Ok(CellRef::Int(signed(content, width))),
@@ -113,7 +115,8 @@ fn cell_of(form: CellForm, content: &[u8]) -> Result<CellRef<'_>, RowsError>
 /// A decimal, where the bytes pack one.
 #[inline(always)]
 fn decimal_of(content: &[u8], precision: u8, scale: u8) -> Result<CellRef<'_>, RowsError>
-    ensures { shown cell_value result ≡ decimal_value (packed_text precision scale content.now) }
+    ensures value { shown cell_value result ≡ decimal_value (packed_text precision scale content.now) }
+    ensures readable { IfOk result IsReadable }
 {
     if !packs_decimal(content, usize::from(precision), usize::from(scale)) {
         return Err(RowsError::Decimal);

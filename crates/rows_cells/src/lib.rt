@@ -2,12 +2,14 @@
 //! and metadata, and one cell, borrowed from the bytes of a rows event.
 //!
 //! `specs/ColumnForms.antt` says which form the cells of a column have, `specs/CellForms.antt` how many bytes
-//! they take, `specs/CellValues.antt` what these are worth, and `specs/Cells.antt` which bytes spell a cell.
+//! they take, `specs/CellValues.antt` what these are worth, and `specs/Cells.antt` which bytes spell a cell;
+//! `specs/BinlogValues.antt` says what callers keep of it.
 #![tactic(auto)]
 
 mod binlog_value;
 mod cell;
 mod column_form;
+mod conversions;
 mod fields;
 mod form;
 mod front;
@@ -15,10 +17,13 @@ mod image;
 pub mod laws;
 mod owned;
 mod rows;
+mod value_field;
 
 pub use binlog_value::BinlogValue;
 pub use cell::CellRef;
+pub use conversions::BinlogValueToValueError;
 pub use form::{CellForm, Width};
 pub use front::cell_front;
 pub use image::{ImageCells, ImageColumn, ImagePlan};
 pub use rows::{RowPart, RowPlan, RowsCursor};
+pub use value_field::BinlogValueCtx;

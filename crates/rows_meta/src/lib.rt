@@ -6,6 +6,7 @@
 mod bad_column_type;
 mod column_types;
 mod columns;
+mod optional_metadata;
 mod table_id;
 mod table_map;
 

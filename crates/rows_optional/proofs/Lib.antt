@@ -10,3 +10,5 @@ pub mod LawLemmas
 pub mod RefusalLemmas
 pub mod ItemLemmas
 pub mod MemberLawLemmas
+pub mod FieldLemmas
+pub mod MemberWriteLemmas

@@ -1,6 +1,7 @@
 pub mod Entries
 pub mod EntryRefusals
 pub mod Lists
+pub mod FieldSpellings
 pub mod KnownConstants
 pub mod MetadataFields
 pub mod Members

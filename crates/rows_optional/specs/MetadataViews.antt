@@ -29,6 +29,9 @@ use Rattle.rows_optional.specs.declared.primary_keys.IterKeys.{IterKeys}
 use Rattle.rows_optional.specs.declared.primary_keys.PrimaryKeyWithPrefix.{PrimaryKeyWithPrefix}
 use Rattle.rows_optional.specs.declared.str_values.StrValue.{StrValue}
 use Rattle.rows_optional.specs.declared.str_values.StrValues.{StrValues}
+use Rattle.rows_optional.specs.declared.str_values.ColumnsStrValues.{ColumnsStrValues}
+use Rattle.rows_optional.specs.declared.geometry_types.GeometryTypes.{GeometryTypes}
+use Rattle.rows_optional.specs.declared.dimensionalities.VectorDimensionalities.{VectorDimensionalities}
 use Rattle.rows_optional.specs.declared.str_values.IterStrValues.{IterStrValues}
 use Rattle.rows_optional.specs.declared.field.OptionalMetadataField.{OptionalMetadataField}
 use Rattle.rows_optional.specs.declared.field.OptionalMetadataField.TheVariants as made
@@ -66,6 +69,15 @@ charsets_view c = c.charsets.now
 
 abbrev pub names_view : ColumnNames → List ℕ
 names_view n = n.names.now
+
+abbrev pub columns_values_view : ColumnsStrValues → List ℕ
+columns_values_view v = v.values.now
+
+abbrev pub geometry_types_view : GeometryTypes → List ℕ
+geometry_types_view g = g.geometry_types.now
+
+abbrev pub dimensionalities_view : VectorDimensionalities → List ℕ
+dimensionalities_view v = v.dimensionalities.now
 
 abbrev pub indexes_view : SimplePrimaryKey → List ℕ
 indexes_view k = k.indexes.now

@@ -1,14 +1,23 @@
 //! The character sets of columns: of character columns, or of `ENUM` and `SET` columns.
 
-ghost use Rattle.std.specs.Prelude.{◌≡◌, ◌%◌, [], map};
+ghost use Rattle.std.specs.Prelude.{◌≡◌, ◌%◌, ℕ, List, [], map, Err};
 ghost use Rattle.std.specs.Iterator.{YieldsFirst, YieldsFirstBy, item_count};
+ghost use Rattle.wire_forms.specs.Texts.{IsAll};
 ghost use Rattle.rows_jsonb.specs.JsonbViews.{shown};
-ghost use Rattle.rows_optional.specs.Entries.{number_at};
+ghost use Rattle.rows_optional.specs.Entries.{PairForm, number_at, pair_at};
+ghost use Rattle.rows_optional.specs.FieldSpellings.{DefaultForm, all_spelling, pair_spelling, default_spelling};
 ghost use Rattle.rows_optional.specs.Lists.{numbers, pairs};
-ghost use Rattle.rows_optional.specs.MetadataViews.{charset as charset_of, default_charset_view, non_default_view, non_default_left, charsets_left};
+ghost use Rattle.rows_optional.specs.MetadataViews.{charset as charset_of, default_charset_view, charsets_view, non_default_view, non_default_left, charsets_left};
 
 use crate::entries::{Entries, number_front};
+use crate::reading::{take_all, take_pair};
+use crate::writing::{put_all, put_pair};
 use rows_values::RowsError;
+use std::alloc::{Allocator, Global};
+use std::borrow::CowSlice;
+use wire_buf::{AnySize, Inner, MyDeserialize, MySerialize, ParseBuf, WireFault};
+use wire_forms::{EofBytes, RawBytes};
+use wire_ints::{LenEnc, RawInt};
 
 /// The character set of most columns, and those of the others: of character columns in the field
 /// `DEFAULT_CHARSET`, of `ENUM` and `SET` columns in `ENUM_AND_SET_DEFAULT_CHARSET`.
@@ -163,5 +172,151 @@ impl<'a> Iterator for IterCharsets<'a> {
             Some(Err(fault)) => Some(Err(fault)),
             None => None,
         }
+    }
+}
+
+/// The default character set, and then the bytes of the pairs, to the end, which aren't looked at. `EndOfBody`
+/// or `UnknownNumber` where no number stands at the front.
+impl<'de> MyDeserialize<'de> for DefaultCharset<'de> {
+    const SIZE: Option<usize> = None;
+
+    type Size = AnySize;
+
+    type Ctx = ();
+
+    type Fault = RowsError;
+
+    ghost View = { ℕ × List ℕ };
+
+    ghost view = { default_charset_view };
+
+    ghost spells = { λ ctx. DefaultForm };
+
+    ghost refusal = { λ ctx x e. number_at x ≡ Err e };
+
+    fn deserialize(
+        _alloc: Global,
+        _ctx: (),
+        buf: &mut ParseBuf<'de>,
+    ) -> Result<DefaultCharset<'de>, RowsError> {
+        DefaultCharset::of_value(buf.eat_all())
+    }
+
+    ghost sized = { λ ctx v bytes rest h. tt };
+}
+
+impl MySerialize for DefaultCharset<'_> {
+    ghost View = { ℕ × List ℕ };
+
+    ghost view = { default_charset_view };
+
+    ghost form = { DefaultForm };
+
+    ghost spelling = { default_spelling };
+
+    ghost suits = { λ rest. rest ≡ [] };
+
+    fn serialize<A: Allocator>(&self, buf: &mut Vec<u8, A>) -> Result<(), WireFault> {
+        let pairs = RawBytes::<EofBytes>::new(CowSlice::Borrowed(self.non_default));
+        (RawInt::<LenEnc>::new(self.default_charset), pairs).serialize(buf)
+    }
+}
+
+/// A column's index and its character set. The refusals of a length-encoded integer: `EndOfBody` where
+/// bytes are missing, and `UnknownNumber` where one begins with 251 or 255.
+impl<'de> MyDeserialize<'de> for NonDefaultCharset {
+    const SIZE: Option<usize> = None;
+
+    type Size = AnySize;
+
+    type Ctx = ();
+
+    type Fault = RowsError;
+
+    ghost View = { ℕ × ℕ };
+
+    ghost view = { non_default_view };
+
+    ghost spells = { λ ctx. PairForm };
+
+    ghost refusal = { λ ctx x e. pair_at x ≡ Err e };
+
+    fn deserialize(
+        _alloc: Global,
+        _ctx: (),
+        buf: &mut ParseBuf<'de>,
+    ) -> Result<NonDefaultCharset, RowsError> {
+        match take_pair(buf) {
+            Ok((column_index, charset)) => Ok(NonDefaultCharset {
+                column_index,
+                charset,
+            }),
+            Err(fault) => Err(fault),
+        }
+    }
+
+    ghost sized = { λ ctx v bytes rest h. tt };
+}
+
+impl MySerialize for NonDefaultCharset {
+    ghost View = { ℕ × ℕ };
+
+    ghost view = { non_default_view };
+
+    ghost form = { PairForm };
+
+    ghost spelling = { pair_spelling };
+
+    fn serialize<A: Allocator>(&self, buf: &mut Vec<u8, A>) -> Result<(), WireFault> {
+        put_pair(self.column_index, self.charset, buf)
+    }
+}
+
+impl Inner for NonDefaultCharset {
+    ghost before_any = { λ rest. tt };
+}
+
+/// The character sets, to the end of the bytes. Reading refuses nothing.
+impl<'de> MyDeserialize<'de> for ColumnCharsets<'de> {
+    const SIZE: Option<usize> = None;
+
+    type Size = AnySize;
+
+    type Ctx = ();
+
+    type Fault = RowsError;
+
+    ghost View = { List ℕ };
+
+    ghost view = { charsets_view };
+
+    ghost spells = { λ ctx. IsAll };
+
+    ghost refusal = { λ ctx x e. ⊥ };
+
+    fn deserialize(
+        _alloc: Global,
+        _ctx: (),
+        buf: &mut ParseBuf<'de>,
+    ) -> Result<ColumnCharsets<'de>, RowsError> {
+        Ok(ColumnCharsets::of_value(take_all(buf)))
+    }
+
+    ghost sized = { λ ctx v bytes rest h. tt };
+}
+
+impl MySerialize for ColumnCharsets<'_> {
+    ghost View = { List ℕ };
+
+    ghost view = { charsets_view };
+
+    ghost form = { IsAll };
+
+    ghost spelling = { all_spelling };
+
+    ghost suits = { λ rest. rest ≡ [] };
+
+    fn serialize<A: Allocator>(&self, buf: &mut Vec<u8, A>) -> Result<(), WireFault> {
+        put_all(self.charsets, buf)
     }
 }

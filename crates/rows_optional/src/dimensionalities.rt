@@ -1,12 +1,18 @@
 //! The dimensions of vector columns.
 
-ghost use Rattle.std.specs.Prelude.{◌≡◌};
+ghost use Rattle.std.specs.Prelude.{◌≡◌, ℕ, List, []};
 ghost use Rattle.std.specs.Iterator.{YieldsFirst, item_count};
+ghost use Rattle.wire_forms.specs.Texts.{IsAll};
+ghost use Rattle.rows_optional.specs.FieldSpellings.{all_spelling};
 ghost use Rattle.rows_optional.specs.Lists.{numbers};
-ghost use Rattle.rows_optional.specs.MetadataViews.{dimensionalities_left};
+ghost use Rattle.rows_optional.specs.MetadataViews.{dimensionalities_view, dimensionalities_left};
 
 use crate::entries::Entries;
+use crate::reading::take_all;
+use crate::writing::put_all;
 use rows_values::RowsError;
+use std::alloc::{Allocator, Global};
+use wire_buf::{AnySize, MyDeserialize, MySerialize, ParseBuf, WireFault};
 
 /// How many dimensions each vector column has, in the field `VECTOR_DIMENSIONALITY`.
 #[derive(Clone, Copy, PartialEq, Eq)]
@@ -49,5 +55,50 @@ impl<'a> Iterator for IterVectorDimensionalities<'a> {
 
     fn next(&mut self) -> Option<Result<u64, RowsError>> {
         self.entries.next_number()
+    }
+}
+
+/// The dimensions, to the end of the bytes. Reading refuses nothing.
+impl<'de> MyDeserialize<'de> for VectorDimensionalities<'de> {
+    const SIZE: Option<usize> = None;
+
+    type Size = AnySize;
+
+    type Ctx = ();
+
+    type Fault = RowsError;
+
+    ghost View = { List ℕ };
+
+    ghost view = { dimensionalities_view };
+
+    ghost spells = { λ ctx. IsAll };
+
+    ghost refusal = { λ ctx x e. ⊥ };
+
+    fn deserialize(
+        _alloc: Global,
+        _ctx: (),
+        buf: &mut ParseBuf<'de>,
+    ) -> Result<VectorDimensionalities<'de>, RowsError> {
+        Ok(VectorDimensionalities::of_value(take_all(buf)))
+    }
+
+    ghost sized = { λ ctx v bytes rest h. tt };
+}
+
+impl MySerialize for VectorDimensionalities<'_> {
+    ghost View = { List ℕ };
+
+    ghost view = { dimensionalities_view };
+
+    ghost form = { IsAll };
+
+    ghost spelling = { all_spelling };
+
+    ghost suits = { λ rest. rest ≡ [] };
+
+    fn serialize<A: Allocator>(&self, buf: &mut Vec<u8, A>) -> Result<(), WireFault> {
+        put_all(self.dimensionalities, buf)
     }
 }

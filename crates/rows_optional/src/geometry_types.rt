@@ -1,13 +1,19 @@
 //! The types of geometry columns.
 
-ghost use Rattle.std.specs.Prelude.{◌≡◌, ◌%◌, map};
+ghost use Rattle.std.specs.Prelude.{◌≡◌, ◌%◌, ℕ, List, [], map};
 ghost use Rattle.std.specs.Iterator.{YieldsFirst, item_count};
+ghost use Rattle.wire_forms.specs.Texts.{IsAll};
+ghost use Rattle.rows_optional.specs.FieldSpellings.{all_spelling};
 ghost use Rattle.rows_optional.specs.KnownConstants.{geometry_type};
 ghost use Rattle.rows_optional.specs.Lists.{numbers};
-ghost use Rattle.rows_optional.specs.MetadataViews.{geometry, geometry_types_left};
+ghost use Rattle.rows_optional.specs.MetadataViews.{geometry, geometry_types_view, geometry_types_left};
 
 use crate::entries::Entries;
+use crate::reading::take_all;
+use crate::writing::put_all;
 use rows_values::RowsError;
+use std::alloc::{Allocator, Global};
+use wire_buf::{AnySize, MyDeserialize, MySerialize, ParseBuf, WireFault};
 use wire_consts::GeometryType;
 
 /// The type of each geometry column, in the field `GEOMETRY_TYPE`.
@@ -66,5 +72,50 @@ fn type_of(number: u8) -> Result<GeometryType, RowsError>
     match GeometryType::try_from(number) {
         Ok(known) => Ok(known),
         Err(_) => Err(RowsError::UnknownNumber),
+    }
+}
+
+/// The types, to the end of the bytes. Reading refuses nothing.
+impl<'de> MyDeserialize<'de> for GeometryTypes<'de> {
+    const SIZE: Option<usize> = None;
+
+    type Size = AnySize;
+
+    type Ctx = ();
+
+    type Fault = RowsError;
+
+    ghost View = { List ℕ };
+
+    ghost view = { geometry_types_view };
+
+    ghost spells = { λ ctx. IsAll };
+
+    ghost refusal = { λ ctx x e. ⊥ };
+
+    fn deserialize(
+        _alloc: Global,
+        _ctx: (),
+        buf: &mut ParseBuf<'de>,
+    ) -> Result<GeometryTypes<'de>, RowsError> {
+        Ok(GeometryTypes::of_value(take_all(buf)))
+    }
+
+    ghost sized = { λ ctx v bytes rest h. tt };
+}
+
+impl MySerialize for GeometryTypes<'_> {
+    ghost View = { List ℕ };
+
+    ghost view = { geometry_types_view };
+
+    ghost form = { IsAll };
+
+    ghost spelling = { all_spelling };
+
+    ghost suits = { λ rest. rest ≡ [] };
+
+    fn serialize<A: Allocator>(&self, buf: &mut Vec<u8, A>) -> Result<(), WireFault> {
+        put_all(self.geometry_types, buf)
     }
 }

@@ -14,9 +14,11 @@ mod geometry_types;
 pub mod laws;
 mod names;
 mod primary_keys;
+mod reading;
 mod served;
 mod served_charsets;
 mod str_values;
+mod writing;
 
 pub use charsets::{
     ColumnCharsets, DefaultCharset, IterCharsets, IterNonDefault, NonDefaultCharset,

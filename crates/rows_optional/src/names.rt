@@ -1,17 +1,23 @@
 //! The names of columns.
 
-ghost use Rattle.std.specs.Prelude.{◌≡◌, IfOk};
+ghost use Rattle.std.specs.Prelude.{◌≡◌, ℕ, List, [], IfOk, Err};
 ghost use Rattle.std.specs.Cow.{cow_slice_items, cow_str_bytes, IsOwnedSlice};
 ghost use Rattle.std.specs.Iterator.{YieldsFirstBy, item_count};
 ghost use Rattle.std.specs.Str.Lossy.{utf8_lossy};
+ghost use Rattle.wire_forms.specs.Texts.{IsAll};
 ghost use Rattle.rows_jsonb.specs.JsonbViews.{shown};
+ghost use Rattle.rows_optional.specs.Entries.{StringForm, string_at};
+ghost use Rattle.rows_optional.specs.FieldSpellings.{all_spelling, string_spelling};
 ghost use Rattle.rows_optional.specs.Lists.{strings};
-ghost use Rattle.rows_optional.specs.MetadataViews.{name_view, names_left, names_view};
+ghost use Rattle.rows_optional.specs.MetadataViews.{name_view, names_view, names_left};
 
 use crate::entries::Entries;
+use crate::reading::{take_all, take_string};
+use crate::writing::put_all;
 use rows_values::RowsError;
-use std::alloc::{AllocError, Global};
+use std::alloc::{AllocError, Allocator, Global};
 use std::borrow::{CowSlice, CowStr};
+use wire_buf::{AnySize, Inner, MyDeserialize, MySerialize, ParseBuf, WireFault};
 use wire_forms::RawBytes;
 use wire_ints::LenEnc;
 
@@ -106,5 +112,101 @@ impl<'a> Iterator for IterNames<'a> {
             Some(Err(fault)) => Some(Err(fault)),
             None => None,
         }
+    }
+}
+
+/// The name, as a length-encoded string. `EndOfBody` where bytes are missing, and `UnknownNumber` where the length
+/// begins with 251 or 255.
+impl<'de> MyDeserialize<'de> for ColumnName<'de> {
+    const SIZE: Option<usize> = None;
+
+    type Size = AnySize;
+
+    type Ctx = ();
+
+    type Fault = RowsError;
+
+    ghost View = { List ℕ };
+
+    ghost view = { name_view };
+
+    ghost spells = { λ ctx. StringForm };
+
+    ghost refusal = { λ ctx x e. string_at x ≡ Err e };
+
+    fn deserialize(
+        _alloc: Global,
+        _ctx: (),
+        buf: &mut ParseBuf<'de>,
+    ) -> Result<ColumnName<'de>, RowsError> {
+        match take_string(buf) {
+            Ok(name) => Ok(ColumnName::new(CowSlice::Borrowed(name))),
+            Err(fault) => Err(fault),
+        }
+    }
+
+    ghost sized = { λ ctx v bytes rest h. tt };
+}
+
+impl MySerialize for ColumnName<'_> {
+    ghost View = { List ℕ };
+
+    ghost view = { name_view };
+
+    ghost form = { StringForm };
+
+    ghost spelling = { string_spelling };
+
+    fn serialize<A: Allocator>(&self, buf: &mut Vec<u8, A>) -> Result<(), WireFault> {
+        self.name.serialize(buf)
+    }
+}
+
+impl Inner for ColumnName<'_> {
+    ghost before_any = { λ rest. tt };
+}
+
+/// The names, to the end of the bytes. Reading refuses nothing.
+impl<'de> MyDeserialize<'de> for ColumnNames<'de> {
+    const SIZE: Option<usize> = None;
+
+    type Size = AnySize;
+
+    type Ctx = ();
+
+    type Fault = RowsError;
+
+    ghost View = { List ℕ };
+
+    ghost view = { names_view };
+
+    ghost spells = { λ ctx. IsAll };
+
+    ghost refusal = { λ ctx x e. ⊥ };
+
+    fn deserialize(
+        _alloc: Global,
+        _ctx: (),
+        buf: &mut ParseBuf<'de>,
+    ) -> Result<ColumnNames<'de>, RowsError> {
+        Ok(ColumnNames::of_value(take_all(buf)))
+    }
+
+    ghost sized = { λ ctx v bytes rest h. tt };
+}
+
+impl MySerialize for ColumnNames<'_> {
+    ghost View = { List ℕ };
+
+    ghost view = { names_view };
+
+    ghost form = { IsAll };
+
+    ghost spelling = { all_spelling };
+
+    ghost suits = { λ rest. rest ≡ [] };
+
+    fn serialize<A: Allocator>(&self, buf: &mut Vec<u8, A>) -> Result<(), WireFault> {
+        put_all(self.names, buf)
     }
 }

@@ -1,13 +1,20 @@
 //! The columns of primary keys.
 
-ghost use Rattle.std.specs.Prelude.{◌≡◌};
+ghost use Rattle.std.specs.Prelude.{◌≡◌, ℕ, List, [], Err};
 ghost use Rattle.std.specs.Iterator.{YieldsFirst, YieldsFirstBy, item_count};
+ghost use Rattle.wire_forms.specs.Texts.{IsAll};
 ghost use Rattle.rows_jsonb.specs.JsonbViews.{shown};
+ghost use Rattle.rows_optional.specs.Entries.{PairForm, pair_at};
+ghost use Rattle.rows_optional.specs.FieldSpellings.{all_spelling, pair_spelling};
 ghost use Rattle.rows_optional.specs.Lists.{numbers, pairs};
-ghost use Rattle.rows_optional.specs.MetadataViews.{key_view, indexes_left, keys_left};
+ghost use Rattle.rows_optional.specs.MetadataViews.{key_view, indexes_view, keys_view, indexes_left, keys_left};
 
 use crate::entries::Entries;
+use crate::reading::{take_all, take_pair};
+use crate::writing::{put_all, put_pair};
 use rows_values::RowsError;
+use std::alloc::{Allocator, Global};
+use wire_buf::{AnySize, Inner, MyDeserialize, MySerialize, ParseBuf, WireFault};
 
 /// The columns of a primary key over whole columns, in the field `SIMPLE_PRIMARY_KEY`.
 #[derive(Clone, Copy, PartialEq, Eq)]
@@ -130,4 +137,148 @@ impl PrimaryKeyWithPrefix {
     {
         self.prefix_length
     }
+}
+
+/// The indexes, to the end of the bytes. Reading refuses nothing.
+impl<'de> MyDeserialize<'de> for SimplePrimaryKey<'de> {
+    const SIZE: Option<usize> = None;
+
+    type Size = AnySize;
+
+    type Ctx = ();
+
+    type Fault = RowsError;
+
+    ghost View = { List ℕ };
+
+    ghost view = { indexes_view };
+
+    ghost spells = { λ ctx. IsAll };
+
+    ghost refusal = { λ ctx x e. ⊥ };
+
+    fn deserialize(
+        _alloc: Global,
+        _ctx: (),
+        buf: &mut ParseBuf<'de>,
+    ) -> Result<SimplePrimaryKey<'de>, RowsError> {
+        Ok(SimplePrimaryKey::of_value(take_all(buf)))
+    }
+
+    ghost sized = { λ ctx v bytes rest h. tt };
+}
+
+impl MySerialize for SimplePrimaryKey<'_> {
+    ghost View = { List ℕ };
+
+    ghost view = { indexes_view };
+
+    ghost form = { IsAll };
+
+    ghost spelling = { all_spelling };
+
+    ghost suits = { λ rest. rest ≡ [] };
+
+    fn serialize<A: Allocator>(&self, buf: &mut Vec<u8, A>) -> Result<(), WireFault> {
+        put_all(self.indexes, buf)
+    }
+}
+
+/// The columns and their prefixes, to the end of the bytes. Reading refuses nothing.
+impl<'de> MyDeserialize<'de> for PrimaryKeysWithPrefix<'de> {
+    const SIZE: Option<usize> = None;
+
+    type Size = AnySize;
+
+    type Ctx = ();
+
+    type Fault = RowsError;
+
+    ghost View = { List ℕ };
+
+    ghost view = { keys_view };
+
+    ghost spells = { λ ctx. IsAll };
+
+    ghost refusal = { λ ctx x e. ⊥ };
+
+    fn deserialize(
+        _alloc: Global,
+        _ctx: (),
+        buf: &mut ParseBuf<'de>,
+    ) -> Result<PrimaryKeysWithPrefix<'de>, RowsError> {
+        Ok(PrimaryKeysWithPrefix::of_value(take_all(buf)))
+    }
+
+    ghost sized = { λ ctx v bytes rest h. tt };
+}
+
+impl MySerialize for PrimaryKeysWithPrefix<'_> {
+    ghost View = { List ℕ };
+
+    ghost view = { keys_view };
+
+    ghost form = { IsAll };
+
+    ghost spelling = { all_spelling };
+
+    ghost suits = { λ rest. rest ≡ [] };
+
+    fn serialize<A: Allocator>(&self, buf: &mut Vec<u8, A>) -> Result<(), WireFault> {
+        put_all(self.keys, buf)
+    }
+}
+
+/// A column's index and the length of its prefix. The refusals of a length-encoded integer: `EndOfBody` where
+/// bytes are missing, and `UnknownNumber` where one begins with 251 or 255.
+impl<'de> MyDeserialize<'de> for PrimaryKeyWithPrefix {
+    const SIZE: Option<usize> = None;
+
+    type Size = AnySize;
+
+    type Ctx = ();
+
+    type Fault = RowsError;
+
+    ghost View = { ℕ × ℕ };
+
+    ghost view = { key_view };
+
+    ghost spells = { λ ctx. PairForm };
+
+    ghost refusal = { λ ctx x e. pair_at x ≡ Err e };
+
+    fn deserialize(
+        _alloc: Global,
+        _ctx: (),
+        buf: &mut ParseBuf<'de>,
+    ) -> Result<PrimaryKeyWithPrefix, RowsError> {
+        match take_pair(buf) {
+            Ok((column_index, prefix_length)) => Ok(PrimaryKeyWithPrefix::new(
+                column_index,
+                prefix_length,
+            )),
+            Err(fault) => Err(fault),
+        }
+    }
+
+    ghost sized = { λ ctx v bytes rest h. tt };
+}
+
+impl MySerialize for PrimaryKeyWithPrefix {
+    ghost View = { ℕ × ℕ };
+
+    ghost view = { key_view };
+
+    ghost form = { PairForm };
+
+    ghost spelling = { pair_spelling };
+
+    fn serialize<A: Allocator>(&self, buf: &mut Vec<u8, A>) -> Result<(), WireFault> {
+        put_pair(self.column_index, self.prefix_length, buf)
+    }
+}
+
+impl Inner for PrimaryKeyWithPrefix {
+    ghost before_any = { λ rest. tt };
 }

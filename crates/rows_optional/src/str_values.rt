@@ -1,19 +1,27 @@
 //! The members of `ENUM` and `SET` columns.
 
-ghost use Rattle.std.specs.Prelude.{◌≡◌, ◌<◌, ◌⊎◌, IfOk, IfErr, Ok, Err, map, length};
+ghost use Rattle.std.specs.Prelude.{◌≡◌, ◌<◌, ◌⊎◌, ⊤, ℕ, List, [], OnOk, IfOk, IfErr, Ok, Err, map, length, take};
 ghost use Rattle.std.specs.Cow.{cow_slice_items, cow_str_bytes};
 ghost use Rattle.std.specs.Iterator.{at_most};
 ghost use Rattle.std.specs.Str.Lossy.{utf8_lossy};
+ghost use Rattle.wire_buf.specs.Writing.{WritesField};
+ghost use Rattle.wire_buf.specs.declared.fault.WireFault.TheVariants.{Memory as WantOfMemory};
+ghost use Rattle.wire_forms.specs.Texts.{IsAll};
 ghost use Rattle.rows_values.specs.declared.fault.RowsError.TheVariants.{Memory};
-ghost use Rattle.rows_optional.specs.Members.{members, members_at};
-ghost use Rattle.rows_optional.specs.MetadataViews.{value_view, values_view, members_left, GivesMembers};
+ghost use Rattle.rows_optional.specs.Entries.{StringForm, string_at};
+ghost use Rattle.rows_optional.specs.FieldSpellings.{all_spelling, string_spelling, members_spelling};
+ghost use Rattle.rows_optional.specs.Members.{MembersForm, members, members_at};
+ghost use Rattle.rows_optional.specs.MetadataViews.{value_view, values_view, columns_values_view, members_left, GivesMembers};
 
 use crate::entries::{number_front, string_front};
+use crate::reading::{take_all, take_string};
+use crate::writing::put_all;
 use rows_values::RowsError;
-use std::alloc::{AllocError, Global};
+use std::alloc::{AllocError, Allocator, Global};
 use std::borrow::{CowSlice, CowStr};
+use wire_buf::{AnySize, Inner, MyDeserialize, MySerialize, ParseBuf, WireFault, whole_or_none};
 use wire_forms::RawBytes;
-use wire_ints::LenEnc;
+use wire_ints::{BufMutExt, LenEnc};
 
 /// The name of a member, which may not be UTF-8.
 #[derive(PartialEq, Eq, Drop)]
@@ -170,4 +178,172 @@ fn members_front(alloc: Global, bytes: &[u8]) -> Result<(StrValues<'_>, &[u8]), 
         }
     }
     Ok((StrValues { values }, rest))
+}
+
+/// The name, as a length-encoded string. `EndOfBody` where bytes are missing, and `UnknownNumber` where the length
+/// begins with 251 or 255.
+impl<'de> MyDeserialize<'de> for StrValue<'de> {
+    const SIZE: Option<usize> = None;
+
+    type Size = AnySize;
+
+    type Ctx = ();
+
+    type Fault = RowsError;
+
+    ghost View = { List ℕ };
+
+    ghost view = { value_view };
+
+    ghost spells = { λ ctx. StringForm };
+
+    ghost refusal = { λ ctx x e. string_at x ≡ Err e };
+
+    fn deserialize(
+        _alloc: Global,
+        _ctx: (),
+        buf: &mut ParseBuf<'de>,
+    ) -> Result<StrValue<'de>, RowsError> {
+        match take_string(buf) {
+            Ok(value) => Ok(StrValue::new(CowSlice::Borrowed(value))),
+            Err(fault) => Err(fault),
+        }
+    }
+
+    ghost sized = { λ ctx v bytes rest h. tt };
+}
+
+impl MySerialize for StrValue<'_> {
+    ghost View = { List ℕ };
+
+    ghost view = { value_view };
+
+    ghost form = { StringForm };
+
+    ghost spelling = { string_spelling };
+
+    fn serialize<A: Allocator>(&self, buf: &mut Vec<u8, A>) -> Result<(), WireFault> {
+        self.value.serialize(buf)
+    }
+}
+
+impl Inner for StrValue<'_> {
+    ghost before_any = { λ rest. tt };
+}
+
+/// The members of one column: their count as a length-encoded integer, and that many length-encoded strings.
+/// `EndOfBody` and `UnknownNumber` where these can't be read; `Memory` where memory was refused.
+impl<'de> MyDeserialize<'de> for StrValues<'de> {
+    const SIZE: Option<usize> = None;
+
+    type Size = AnySize;
+
+    type Ctx = ();
+
+    type Fault = RowsError;
+
+    ghost View = { List (List ℕ) };
+
+    ghost view = { values_view };
+
+    ghost spells = { λ ctx. MembersForm };
+
+    ghost refusal = { λ ctx x e. (e ≡ Memory) ⊎ (members_at x ≡ Err e) };
+
+    fn deserialize(
+        alloc: Global,
+        _ctx: (),
+        buf: &mut ParseBuf<'de>,
+    ) -> Result<StrValues<'de>, RowsError> {
+        match members_front(alloc, buf.0) {
+            Ok((values, rest)) => {
+                buf.0 = rest;
+                Ok(values)
+            }
+            Err(fault) => Err(fault),
+        }
+    }
+
+    ghost sized = { λ ctx v bytes rest h. tt };
+}
+
+impl MySerialize for StrValues<'_> {
+    ghost View = { List (List ℕ) };
+
+    ghost view = { values_view };
+
+    ghost form = { MembersForm };
+
+    ghost spelling = { members_spelling };
+
+    fn serialize<A: Allocator>(&self, buf: &mut Vec<u8, A>) -> Result<(), WireFault> {
+        let start = buf.len();
+        let written = append_members(&self.values, buf);
+        whole_or_none(written, start, buf)
+    }
+}
+
+impl Inner for StrValues<'_> {
+    ghost before_any = { λ rest. tt };
+}
+
+/// Appends the count of the members and their names, or a part of it.
+fn append_members<A: Allocator>(
+    values: &[StrValue<'_>],
+    buf: &mut Vec<u8, A>,
+) -> Result<(), WireFault>
+    ensures ok { OnOk result (WritesField members_spelling MembersForm (λ rest. ⊤) (map value_view values.now) buf.old.items buf.new.items) }
+    ensures err { IfErr result (λ e. e ≡ WantOfMemory) }
+    ensures kept { take (length buf.old.items) buf.new.items ≡ buf.old.items }
+{
+    buf.put_lenenc_int(values.len() as u64)?;
+    for value in values {
+        buf.put_lenenc_str(value.value_raw())?;
+    }
+    Ok(())
+}
+
+/// The members of the columns, to the end of the bytes. Reading refuses nothing.
+impl<'de> MyDeserialize<'de> for ColumnsStrValues<'de> {
+    const SIZE: Option<usize> = None;
+
+    type Size = AnySize;
+
+    type Ctx = ();
+
+    type Fault = RowsError;
+
+    ghost View = { List ℕ };
+
+    ghost view = { columns_values_view };
+
+    ghost spells = { λ ctx. IsAll };
+
+    ghost refusal = { λ ctx x e. ⊥ };
+
+    fn deserialize(
+        _alloc: Global,
+        _ctx: (),
+        buf: &mut ParseBuf<'de>,
+    ) -> Result<ColumnsStrValues<'de>, RowsError> {
+        Ok(ColumnsStrValues::of_value(take_all(buf)))
+    }
+
+    ghost sized = { λ ctx v bytes rest h. tt };
+}
+
+impl MySerialize for ColumnsStrValues<'_> {
+    ghost View = { List ℕ };
+
+    ghost view = { columns_values_view };
+
+    ghost form = { IsAll };
+
+    ghost spelling = { all_spelling };
+
+    ghost suits = { λ rest. rest ≡ [] };
+
+    fn serialize<A: Allocator>(&self, buf: &mut Vec<u8, A>) -> Result<(), WireFault> {
+        put_all(self.values, buf)
+    }
 }

@@ -1,0 +1,67 @@
+//! Kept values of cells in memory of their own, and as plain values.
+
+ghost use Rattle.std.specs.Prelude.{◌≡◌, IfOk, map};
+ghost use Rattle.rows_jsonb.specs.JsonDiffViews.{diff_view};
+ghost use Rattle.rows_cells.specs.BinlogValues.{kept_view, plain_value};
+
+use crate::binlog_value::BinlogValue;
+use rows_jsonb::JsonDiff;
+use rows_values::Value;
+use std::alloc::{AllocError, Global};
+use thiserror::Error;
+
+impl BinlogValue<'_> {
+    /// The same value, borrowed from nothing.
+    pub fn into_owned(self, alloc: Global) -> Result<BinlogValue<'static>, AllocError>
+        ensures { IfOk result (λ v. kept_view v ≡ kept_view self.entry) }
+    {
+        match self {
+            BinlogValue::Value(value) => Ok(BinlogValue::Value(value)),
+            BinlogValue::Jsonb(document) => Ok(BinlogValue::Jsonb(document.into_owned(alloc)?)),
+            BinlogValue::JsonDiff(diffs) => Ok(BinlogValue::JsonDiff(owned_diffs(alloc, diffs)?)),
+        }
+    }
+}
+
+/// The same changes, borrowed from nothing.
+fn owned_diffs(
+    alloc: Global,
+    diffs: Vec<JsonDiff<'_>>,
+) -> Result<Vec<JsonDiff<'static>>, AllocError>
+    ensures { IfOk result (λ owned. map diff_view owned.items ≡ map diff_view diffs.entry.items) }
+{
+    let mut owned = Vec::with_capacity(alloc, diffs.len())?;
+    for diff in diffs {
+        owned.push(diff.into_owned(alloc)?)?;
+    }
+    Ok(owned)
+}
+
+/// Why a kept value is no plain value.
+#[derive(Clone, Copy, Debug, PartialEq, Eq, Error)]
+pub enum BinlogValueToValueError {
+    /// It is a JSON document.
+    #[error("a JSON document is no plain value")]
+    ToJson,
+    /// It is changes of a JSON document.
+    #[error("changes of a JSON document are no plain value")]
+    JsonDiff,
+    /// Memory was refused. Whole rows are refused for it, a value never.
+    #[error("out of memory")]
+    Memory,
+}
+
+impl<'a> TryFrom<BinlogValue<'a>> for Value {
+    type Error = BinlogValueToValueError;
+
+    ghost try_from_gives = { λ kept result. result ≡ plain_value kept };
+
+    /// The plain value; `ToJson` for a document, and `JsonDiff` for changes of one.
+    fn try_from(kept: BinlogValue<'a>) -> Result<Value, BinlogValueToValueError> {
+        match kept {
+            BinlogValue::Value(value) => Ok(value),
+            BinlogValue::Jsonb(_) => Err(BinlogValueToValueError::ToJson),
+            BinlogValue::JsonDiff(_) => Err(BinlogValueToValueError::JsonDiff),
+        }
+    }
+}
