@@ -6,11 +6,13 @@
 mod bad_column_type;
 mod column_types;
 mod columns;
+mod lengths;
 mod table_id;
 mod table_map;
 
 pub use bad_column_type::BadColumnType;
 pub use column_types::{metadata_len, real_type};
 pub use columns::{ColumnMeta, IterColumns};
+pub use lengths::{MAX_EVENT_LEN, event_len};
 pub use table_id::TableId;
 pub use table_map::TableMapEvent;
