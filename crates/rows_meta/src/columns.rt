@@ -1,6 +1,6 @@
 //! The columns of a table map: the type of each, and the metadata that belongs to it.
 
-ghost use Rattle.std.specs.Prelude.{◌≡◌, ◌≤◌, IfSome};
+ghost use Rattle.std.specs.Prelude.{◌≡◌, ◌≤◌, ◌==◌, IfSome, count_by};
 ghost use Rattle.std.specs.Option.{option_map};
 ghost use Rattle.rows_meta.specs.ColumnViews.{bytes_of};
 ghost use Rattle.rows_meta.specs.ColumnMetadata.{column_type as column_type_of, array_size, size_by_type, cut, plain_size, metadata_front as front_of};
@@ -86,6 +86,9 @@ impl<'a> IterColumns<'a> {
 
 impl TableMapEvent<'_> {
     ghost use Rattle.std.specs.Prelude.{slice_get};
+    ghost use Rattle.wire_forms.specs.RawTexts.{text_of};
+    ghost use Rattle.wire_consts.specs.ColumnTypes.{column_type_number};
+    ghost use Rattle.wire_consts.specs.declared.column_type.ColumnType.TheVariants as column;
     ghost use Rattle.rows_meta.specs.ColumnViews.{columns_left, map_columns, column_view, metadata_in, type_in};
 
     /// The columns, in order.
@@ -93,6 +96,16 @@ impl TableMapEvent<'_> {
         ensures { columns_left result ≡ map_columns self.now }
     {
         IterColumns::new(self.column_types_raw(), self.metadata_raw())
+    }
+
+    /// How many columns have the type JSON.
+    pub fn json_column_count(&self) -> usize
+        ensures { result ≡ count_by (λ n. n == column_type_number column.MYSQL_TYPE_JSON) (text_of self.now.column_types) }
+    {
+        self.column_types_raw()
+            .iter()
+            .filter(|number| **number == ColumnType::MYSQL_TYPE_JSON as u8)
+            .count()
     }
 
     /// The column at `index`, or None where there are not so many columns.

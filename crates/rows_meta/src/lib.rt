@@ -6,6 +6,7 @@
 mod bad_column_type;
 mod column_types;
 mod columns;
+mod lengths;
 mod optional_metadata;
 mod table_id;
 mod table_map;
@@ -13,5 +14,6 @@ mod table_map;
 pub use bad_column_type::BadColumnType;
 pub use column_types::{metadata_len, real_type};
 pub use columns::{ColumnMeta, IterColumns};
+pub use lengths::{MAX_EVENT_LEN, event_len};
 pub use table_id::TableId;
 pub use table_map::TableMapEvent;

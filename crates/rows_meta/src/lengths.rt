@@ -1,0 +1,48 @@
+//! How many bytes events take.
+
+ghost use Rattle.std.specs.Prelude.{◌≡◌, sum, min};
+
+use crate::table_map::TableMapEvent;
+use wire_ints::lenenc_int_len;
+
+/// The most bytes that a call `len` of an event answers: with a header of 19 bytes so many have a size
+/// that fits 32 bits.
+pub const MAX_EVENT_LEN: usize = 4_294_967_276;
+
+/// The sum of the lengths of an event's parts, at most [`MAX_EVENT_LEN`].
+pub fn event_len(parts: &[usize]) -> usize
+    ensures { result ≡ min (sum parts.now) MAX_EVENT_LEN }
+{
+    let mut len = 0usize;
+    for part in parts {
+        len = len.saturating_add(*part);
+    }
+    len.min(MAX_EVENT_LEN)
+}
+
+impl TableMapEvent<'_> {
+    ghost use Rattle.rows_meta.specs.TableMaps.{table_map_spelling};
+    ghost use Rattle.rows_meta.specs.Lengths.{IsEventLen};
+    ghost use Rattle.rows_meta.specs.MapViews.{written_map};
+
+    /// How many bytes `serialize` appends, at most [`MAX_EVENT_LEN`].
+    pub fn len(&self) -> usize
+        ensures { IsEventLen (table_map_spelling (written_map self.now)) result }
+    {
+        let columns = self.column_types_raw().len();
+        let metadata = self.metadata_raw().len();
+        event_len(&[
+            8,
+            1 + self.database_name_raw().len().min(255),
+            1,
+            1 + self.table_name_raw().len().min(255),
+            1,
+            lenenc_int_len(columns as u64) as usize,
+            columns,
+            lenenc_int_len(metadata as u64) as usize,
+            metadata,
+            self.null_bitmask().len(),
+            self.optional_metadata_raw().len(),
+        ])
+    }
+}
