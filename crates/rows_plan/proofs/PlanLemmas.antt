@@ -1,8 +1,8 @@
 -- The columns of a plan, one after the other.
-use Rattle.std.proofs.Common.{◌≡◌, ◌≤◌, ◌<◌, ℕ, zero, suc, List, [], ◌∷◌, ◌++◌, length, take, Ok, Err, refl, sym, ap, ◌∙◌, arith, inl, inr, if◌then◌else◌}
+use Rattle.std.proofs.Common.{◌≡◌, ◌≤◌, ◌<◌, ℕ, zero, suc, ◌+◌, List, [], ◌∷◌, ◌++◌, length, take, Ok, Err, refl, sym, ap, ◌∙◌, arith, inl, inr, if◌then◌else◌}
 use Rattle.std.specs.Prelude.{nat_le}
 use Rattle.std.proofs.lemmas.Bool.Decides.{leb_tells}
-use Rattle.std.proofs.lemmas.List.{take-append-le, map-append}
+use Rattle.std.proofs.lemmas.List.{take-append-le}
 use Rattle.std.proofs.Math.Seq.{take-length}
 use Rattle.rows_values.specs.declared.fault.RowsError.{RowsError}
 use Rattle.rows_jsonb.specs.JsonbValues.{Reading, ◌>>=◌}
@@ -16,7 +16,7 @@ use Rattle.rows_optional.specs.Extracted.{Extracted, extracted}
 use Rattle.rows_optional.specs.Served.{bytes_or_none}
 use Rattle.rows_plan.specs.declared.column.PlannedColumn.{PlannedColumn as CodeColumn}
 use Rattle.rows_plan.specs.Plans.{Table, table_of, PlannedColumn, column_at, first_columns}
-use Rattle.rows_plan.specs.PlanViews.{column_view, columns_view, plan_of}
+use Rattle.rows_plan.specs.PlanViews.{column_view, columns_from, own_name, plan_of}
 use Rattle.rows_plan.specs.Walks.{AreColumns}
 
 same : {A : Type 0} (a b : A) → (let found : Reading A = Ok a in found ≡ Ok b) → a ≡ b
@@ -30,13 +30,23 @@ pub one_longer : {A : Type 0} (xs : List A) (x : A) → length (xs ++ x ∷ []) 
 one_longer [] x = refl
 one_longer (y ∷ xs) x = ap suc (one_longer xs x)
 
+from_zero : (k : ℕ) → 0 + k ≡ k
+from_zero k = omega arith
+
+-- one column more is seen
+one_seen : (names : List (Reading (List ℕ))) (cs : List CodeColumn) (c : CodeColumn) (i : ℕ) → columns_from names i (cs ++ c ∷ []) ≡ columns_from names i cs ++ column_view (own_name names (i + length cs)) c ∷ []
+one_seen names [] c i = let z : i + 0 ≡ i = omega arith in ap (λ (k : ℕ). column_view (own_name names k) c ∷ []) (sym z)
+one_seen names (d ∷ cs) c i =
+    let z : (i + 1) + length cs ≡ i + suc (length cs) = omega arith in
+    ap (λ l. column_view (own_name names i) d ∷ l) (one_seen names cs c (i + 1) ∙ ap (λ (k : ℕ). columns_from names (i + 1) cs ++ column_view (own_name names k) c ∷ []) z)
+
 -- one column more
-pub one_taken : (t : Table) (cs : List CodeColumn) (c : CodeColumn) → first_columns t (length cs) ≡ Ok (columns_view t.names cs) → column_at t (length cs) ≡ Ok (column_view t.names c)
-    → first_columns t (length (cs ++ c ∷ [])) ≡ Ok (columns_view t.names (cs ++ c ∷ []))
+pub one_taken : (t : Table) (cs : List CodeColumn) (c : CodeColumn) → first_columns t (length cs) ≡ Ok (columns_from t.names 0 cs) → column_at t (length cs) ≡ Ok (column_view (own_name t.names (length cs)) c)
+    → first_columns t (length (cs ++ c ∷ [])) ≡ Ok (columns_from t.names 0 (cs ++ c ∷ []))
 unfolding first_columns
-one_taken t cs c h k = ap (first_columns t) (one_longer cs c) ∙ more ∙ ap Ok (sym (map-append (column_view t.names) cs (c ∷ [])))
+one_taken t cs c h k = ap (first_columns t) (one_longer cs c) ∙ more ∙ ap Ok (sym (one_seen t.names cs c 0 ∙ ap (λ (k : ℕ). columns_from t.names 0 cs ++ column_view (own_name t.names k) c ∷ []) (from_zero (length cs))))
   where
-    more : first_columns t (suc (length cs)) ≡ Ok (columns_view t.names cs ++ column_view t.names c ∷ [])
+    more : first_columns t (suc (length cs)) ≡ Ok (columns_from t.names 0 cs ++ column_view (own_name t.names (length cs)) c ∷ [])
     more = rw (h, k) refl
 
 -- the columns before one
@@ -81,14 +91,20 @@ past_stop t m l stop (suc n) h k lt = elim (leb_tells (suc m) n) [
 
 -- the plan for n columns, by the columns and their stop
 pub plan_known : (t : Table) (cs : List CodeColumn) (stop : RowsError) (n : ℕ) → AreColumns t cs stop
-    → (if nat_le n (length cs) then Ok (take n (columns_view t.names cs)) else Err stop) ≡ first_columns t n
+    → (if nat_le n (length cs) then Ok (take n (columns_from t.names 0 cs)) else Err stop) ≡ first_columns t n
 plan_known t cs stop n h = elim (leb_tells n (length cs)) [
-  | inl e ↦ rw e.0 (sym (fewer t (length cs) n (columns_view t.names cs) h.columns_are e.1))
-  | inr e ↦ rw e.0 (sym (past_stop t (length cs) (columns_view t.names cs) stop n h.columns_are h.stop_is e.1))
+  | inl e ↦ rw e.0 (sym (fewer t (length cs) n (columns_from t.names 0 cs) h.columns_are e.1))
+  | inr e ↦ rw e.0 (sym (past_stop t (length cs) (columns_from t.names 0 cs) stop n h.columns_are h.stop_is e.1))
 ]
 
--- the plan of a table map, by what was read of it
+-- the plan of a table by what was read of it
 pub plan_made : (m : TableMapEvent) (e : Extracted) (walked : List ColumnMeta) (names : List ℕ) (cs : List CodeColumn) (stop : RowsError)
     → Ok e ≡ extracted (fields (text_of m.column_types) (text_of m.optional_metadata)) → walked ≡ map_columns m → names ≡ bytes_or_none e.names → AreColumns (table_of walked e) cs stop
-    → (n : ℕ) → (if nat_le n (length cs) then Ok (take n (columns_view (strings names) cs)) else Err stop) ≡ plan_of m n
+    → (n : ℕ) → (if nat_le n (length cs) then Ok (take n (columns_from (strings names) 0 cs)) else Err stop) ≡ plan_of m n
 plan_made m e walked names cs stop read at named are n = rw (named, sym read, sym at) (plan_known (table_of walked e) cs stop n are)
+
+-- the first columns are seen as a front
+pub taken_from : (names : List (Reading (List ℕ))) (n i : ℕ) (cs : List CodeColumn) → columns_from names i (take n cs) ≡ take n (columns_from names i cs)
+taken_from names zero i cs = refl
+taken_from names (suc n) i [] = refl
+taken_from names (suc n) i (c ∷ cs) = ap (λ l. column_view (own_name names i) c ∷ l) (taken_from names n (i + 1) cs)

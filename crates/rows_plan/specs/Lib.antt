@@ -1,3 +1,4 @@
 pub mod Plans
 pub mod PlanViews
 pub mod Walks
+pub mod PickedColumns

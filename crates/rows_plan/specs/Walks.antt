@@ -10,7 +10,7 @@ use Rattle.rows_optional.specs.MetadataViews.{signs_left, names_left, primary_ke
 use Rattle.rows_plan.specs.declared.column.PlannedColumn.{PlannedColumn as CodeColumn}
 use Rattle.rows_plan.specs.declared.walk.ColumnWalk.{ColumnWalk}
 use Rattle.rows_plan.specs.Plans.{Table, count_before, is_json, keys_after, column_at, first_columns}
-use Rattle.rows_plan.specs.PlanViews.{column_view, columns_view}
+use Rattle.rows_plan.specs.PlanViews.{column_view, own_name, columns_from}
 
 -- the walk is before column i
 pub record StandsAt (w : ColumnWalk) (t : Table) (i : ℕ) : Type 0 where
@@ -24,17 +24,17 @@ pub record StandsAt (w : ColumnWalk) (t : Table) (i : ℕ) : Type 0 where
 
 -- column i was given, and the walk is behind it; or it meets this fault
 abbrev pub TakesColumn : Table → ℕ → Result CodeColumn RowsError → ColumnWalk → Type 0
-TakesColumn t i (Ok c) new = (column_at t i ≡ Ok (column_view t.names c)) × StandsAt new t (suc i)
+TakesColumn t i (Ok c) new = (column_at t i ≡ Ok (column_view (own_name t.names i) c)) × StandsAt new t (suc i)
 TakesColumn t i (Err e) new = column_at t i ≡ Err e
 
 -- these are the columns of the table up to the first that meets a fault, and this is the fault
 pub record AreColumns (t : Table) (columns : List CodeColumn) (stop : RowsError) : Type 0 where
-  pub columns_are : first_columns t (length columns) ≡ Ok (columns_view t.names columns)
+  pub columns_are : first_columns t (length columns) ≡ Ok (columns_from t.names 0 columns)
   pub stop_is : column_at t (length columns) ≡ Err stop
 
 -- the columns so far, and what is left behind them
 pub record HasTaken (t : Table) (columns : List CodeColumn) (w : ColumnWalk) : Type 0 where
-  pub columns_are : first_columns t (length columns) ≡ Ok (columns_view t.names columns)
+  pub columns_are : first_columns t (length columns) ≡ Ok (columns_from t.names 0 columns)
   pub at : StandsAt w t (length columns)
 
 -- a name was passed, if there was one; or it can't be read

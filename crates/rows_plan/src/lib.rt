@@ -3,7 +3,9 @@
 #![tactic(auto)]
 
 mod column;
+mod picked;
 mod plan;
+mod run;
 mod walk;
 
 pub use column::PlannedColumn;

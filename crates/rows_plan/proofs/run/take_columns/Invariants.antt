@@ -2,7 +2,7 @@ use Rattle.std.proofs.Common.{◌≤◌, length}
 use Rattle.rows_plan.specs.Plans.{Table}
 use Rattle.rows_plan.specs.Walks.{StandsAt, HasTaken}
 use Rattle.rows_meta.specs.ColumnViews.{columns_left}
-use Rattle.rows_plan.proofs.plan.take_columns.Given as goal
+use Rattle.rows_plan.proofs.run.take_columns.Given as goal
 
 abbrev pub invariant-loop-place : goal.invariant-loop-place
 invariant-loop-place l = record {

@@ -1,7 +1,6 @@
 use Rattle.std.proofs.Common.{◌≡◌, suc, length, ◌++◌, ◌∷◌, [], sym, ap, ◌∙◌, arith, rules}
-use Rattle.rows_plan.specs.Plans.{column_at}
 use Rattle.rows_plan.proofs.PlanLemmas.{none_taken, one_taken, one_longer}
-use Rattle.rows_plan.proofs.plan.take_columns.Goals as goal
+use Rattle.rows_plan.proofs.run.take_columns.Goals as goal
 
 pub loop-place-init : goal.loop-place-init
 loop-place-init c = record {
@@ -20,7 +19,7 @@ loop-place-preserved c =
           let had = c.loop-place.invariant.taken t at in
           let step = c.in-Ok-next_column.ensures.takes t (rw e had.at) in
           record {
-            columns_are = rw grown (one_taken t c.loop-place.columns.items c.in-Ok-next_column.column had.columns_are (ap (column_at t) (sym e) ∙ step.0));
+            columns_are = rw grown (one_taken t c.loop-place.columns.items c.in-Ok-next_column.column had.columns_are (rw (sym e) step.0));
             at = rw (n, sym e) step.1;
           };
     }
