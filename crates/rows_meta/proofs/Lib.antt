@@ -2,3 +2,4 @@ pub mod TableMapParts
 pub mod TypeNumberLemmas
 pub mod ArrayLemmas
 pub mod ColumnLemmas
+pub mod MapFaultLemmas
