@@ -3,3 +3,4 @@ pub mod TypeNumberLemmas
 pub mod ArrayLemmas
 pub mod ColumnLemmas
 pub mod LengthLemmas
+pub mod MapFaultLemmas

@@ -1,10 +1,12 @@
 -- TABLE_MAP_EVENT: what it says of a table, and its bytes.
 use Rattle.std.specs.Prelude.{ℕ, List, [], ◌∷◌, length, Option, Some, None, ◌≡◌, ◌⊎◌, ◌+◌, ◌/◌, ◌==◌, ◌&&◌, nat_le, if◌then◌else◌}
-use Rattle.wire_buf.specs.Spelling.{ByteForm, ◌⨾◌, Alone, IsBytes}
+use Rattle.wire_buf.specs.Spelling.{ByteForm, ◌⨾◌, Both, Alone, IsBytes}
+use Rattle.wire_buf.specs.Refusals.{Behind}
 use Rattle.wire_buf.specs.Writing.{with_front}
 use Rattle.wire_buf.specs.Numbers.{IsLittle, IsLenenc, IsShortString, IsLenencString, lenenc_spelling}
 use Rattle.wire_buf.specs.declared.fault.WireFault.{WireFault}
 use Rattle.wire_buf.specs.declared.fault.WireFault.TheVariants.{Eof, BadNumber}
+use Rattle.wire_ints.specs.Faults.{lenenc_fault}
 use Rattle.wire_ints.specs.Ints.{little_spelling}
 use Rattle.wire_ints.specs.Strings.{counted_bytes, lenenc_string_spelling}
 use Rattle.wire_forms.specs.Texts.{IsAll, IsSkipped}
@@ -38,9 +40,31 @@ IsTableMap post_header t =
     (number (id_width post_header) t.table_id ⨾ number 2 t.flags ⨾ Alone IsShortString t.database ⨾ IsSkipped 1 ⨾ Alone IsShortString t.table ⨾ IsSkipped 1 ⨾ Alone IsLenenc (length t.column_types))
     ⨾ text (length t.column_types) t.column_types ⨾ Alone IsLenencString t.metadata ⨾ text ((length t.column_types + 7) / 8) t.null_bitmask ⨾ IsAll t.optional_metadata
 
--- bytes are missing, or a length can't be read
-abbrev pub IsMapFault : WireFault → Type 0
-IsMapFault fault = fault ≡ Eof ⊎ fault ≡ BadNumber
+-- what stands before the number of the columns: the id, the flags and the names, with the bytes that mean nothing
+abbrev pub Names : Type 0
+Names = ℕ × (ℕ × (List ℕ × (Unit {0} × (List ℕ × Unit {0}))))
+
+abbrev pub Skipped : ByteForm (Unit {0})
+Skipped v = IsSkipped 1
+
+abbrev pub IsNames : ℕ → ByteForm Names
+IsNames post_header = Both (number (id_width post_header)) (Both (number 2) (Both (Alone IsShortString) (Both Skipped (Both (Alone IsShortString) Skipped))))
+
+-- the number of the columns, and then their types
+abbrev pub IsTypes : ByteForm (List ℕ)
+IsTypes types = Alone IsLenenc (length types) ⨾ text (length types) types
+
+-- the first byte begins no length-encoded integer: it is 251 or 255
+abbrev pub BeginsNone : List ℕ → Type 0
+BeginsNone bytes = lenenc_fault bytes ≡ BadNumber
+
+-- the number of the columns, or the length of their metadata, begins with 251 or 255
+abbrev pub HasBadNumber : ℕ → List ℕ → Type 0
+HasBadNumber post_header x = Behind (IsNames post_header) (λ names rest. BeginsNone rest) x ⊎ Behind (Both (IsNames post_header) IsTypes) (λ v rest. BeginsNone rest) x
+
+-- `BadNumber` exactly where there is such a number, else `Eof`: bytes are missing
+abbrev pub IsMapFault : ℕ → List ℕ → WireFault → Type 0
+IsMapFault post_header x fault = ((fault ≡ BadNumber) × HasBadNumber post_header x) ⊎ ((fault ≡ Eof) × (HasBadNumber post_header x → ⊥))
 
 -- the bytes that are written for a table map: the id in six bytes; zeros for the bytes that mean nothing; None where the numbers of columns and of bits don't agree
 abbrev pub table_map_spelling : TableMap → Option (List ℕ)

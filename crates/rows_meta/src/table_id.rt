@@ -1,4 +1,5 @@
 ghost use Rattle.std.specs.Prelude.{◌≡◌, ℕ};
+ghost use Rattle.wire_buf.specs.Spelling.{Lacks};
 ghost use Rattle.wire_buf.specs.declared.fault.WireFault.TheVariants.{Eof};
 ghost use Rattle.rows_meta.specs.TableMaps.{id_width, number};
 
@@ -27,7 +28,7 @@ impl<'de> MyDeserialize<'de> for TableId {
 
     ghost spells = { λ ctx. number (id_width ctx) };
 
-    ghost refusal = { λ ctx x e. e ≡ Eof };
+    ghost refusal = { λ ctx x e. Lacks (number (id_width ctx)) x × (e ≡ Eof) };
 
     fn deserialize(
         alloc: Global,

@@ -5,6 +5,8 @@
 #[cfg(test)]
 mod bits;
 #[cfg(test)]
+mod cell_values;
+#[cfg(test)]
 mod cells;
 #[cfg(test)]
 mod columns_and_rows;
@@ -24,6 +26,8 @@ mod json_text;
 mod jsonb;
 #[cfg(test)]
 mod laws;
+#[cfg(test)]
+mod optional_fields;
 #[cfg(test)]
 mod optional_metadata;
 #[cfg(test)]

@@ -1,5 +1,6 @@
 //! Table maps: read and written, and their columns.
 
+use mysql_binlog_rows::OptionalMetadataField;
 use rows_meta::{BadColumnType, TableMapEvent};
 use std::alloc::Global;
 use wire_buf::{MyDeserialize, MySerialize, ParseBuf, WireFault};
@@ -219,5 +220,34 @@ fn real_types(rt: HostRuntime) {
             && type_of(alloc, 254, b"") == Ok(Some(ColumnType::MYSQL_TYPE_STRING))
             && type_of(alloc, 254, b"\x01\x00") == Err(BadColumnType::Unexpected(49))
             && type_of(alloc, 100, b"") == Err(BadColumnType::Unknown(UnknownColumnType(100)))
+    );
+}
+
+/// Whether the table map has a sign for its numeric column, and the names of its columns.
+fn has_sign_and_names(alloc: Global, bytes: &[u8]) -> bool {
+    let Ok(map) = table_map(alloc, bytes) else {
+        return false;
+    };
+    let mut fields = map.iter_optional_meta();
+    let Some(Ok(OptionalMetadataField::Signedness(signs))) = fields.next() else {
+        return false;
+    };
+    let Some(Ok(OptionalMetadataField::ColumnName(names))) = fields.next() else {
+        return false;
+    };
+    let last = match names.iter_names().last() {
+        Some(Ok(name)) => name.name_raw() == b"b".as_slice(),
+        _ => false,
+    };
+    signs.len() == 1 && signs.get(0) == Some(true) && last && fields.next().is_none()
+}
+
+#[test]
+fn optional_metadata_of_a_map(rt: HostRuntime) {
+    assert!(rt;
+        has_sign_and_names(
+            rt.alloc(),
+            b"\x07\0\0\0\0\0\x01\0\x01d\0\x01t\0\x02\x03\x0f\x02\x0a\x00\x02\x01\x01\x80\x04\x04\x01a\x01b"
+        )
     );
 }
