@@ -6,7 +6,6 @@ use Rattle.std.proofs.Math.Seq.{drop-cons}
 use Rattle.std.proofs.lemmas.List.{map-append}
 use Rattle.std.specs.Iterator.{YieldsFirstBy}
 use Rattle.std.specs.declared.result.Result.{Result}
-use Rattle.rows_values.specs.declared.bits.Bits.{Bits}
 use Rattle.rows_values.specs.declared.fault.RowsError.{RowsError}
 use Rattle.rows_jsonb.specs.JsonbValues.{Reading}
 use Rattle.rows_jsonb.specs.JsonbViews.{shown}
@@ -34,29 +33,29 @@ next_named all i old new None h y = (sym (none_left all i (sym h ∙ y.0)), y.1 
 next_named all i old new (Some x) h y =
     (sym (at_front all i (shown name_view x) (names_left new) (sym h ∙ y)), behind_front all i (shown name_view x) (names_left new) (sym h ∙ y) ∙ one_further all i)
 
-picked_both : (bits : Bits) (c : PlannedColumn) (cs : List PlannedColumn) → picked bits (c ∷ cs) ≡ picked bits (c ∷ []) ++ picked bits cs
-picked_both bits c cs = by_test (is_picked bits c)
+picked_both : (bit : ℕ → Option Bool) (c : PlannedColumn) (cs : List PlannedColumn) → picked bit (c ∷ cs) ≡ picked bit (c ∷ []) ++ picked bit cs
+picked_both bit c cs = by_test (is_picked bit c)
   where
-    by_test : (b : Bool) → cond b (c ∷ picked bits cs) (picked bits cs) ≡ cond b (c ∷ []) [] ++ picked bits cs
+    by_test : (b : Bool) → cond b (c ∷ picked bit cs) (picked bit cs) ≡ cond b (c ∷ []) [] ++ picked bit cs
     by_test true = refl
     by_test false = refl
 
 -- one column more is defined
-pub one_defined : {A : Type 0} (f : PlannedColumn → A) (bits : Bits) (done more all : List A) (c : PlannedColumn) (cs : List PlannedColumn)
-    → done ++ map f (picked bits (c ∷ cs)) ≡ all → more ≡ done ++ map f (picked bits (c ∷ [])) → more ++ map f (picked bits cs) ≡ all
-one_defined f bits done more all c cs h e =
-    ap (λ l. l ++ map f (picked bits cs)) e ∙ append_assoc done (map f (picked bits (c ∷ []))) (map f (picked bits cs))
-    ∙ ap (λ l. done ++ l) (sym (map-append f (picked bits (c ∷ [])) (picked bits cs)) ∙ ap (map f) (sym (picked_both bits c cs))) ∙ h
+pub one_defined : {A : Type 0} (f : PlannedColumn → A) (bit : ℕ → Option Bool) (done more all : List A) (c : PlannedColumn) (cs : List PlannedColumn)
+    → done ++ map f (picked bit (c ∷ cs)) ≡ all → more ≡ done ++ map f (picked bit (c ∷ [])) → more ++ map f (picked bit cs) ≡ all
+one_defined f bit done more all c cs h e =
+    ap (λ l. l ++ map f (picked bit cs)) e ∙ append_assoc done (map f (picked bit (c ∷ []))) (map f (picked bit cs))
+    ∙ ap (λ l. done ++ l) (sym (map-append f (picked bit (c ∷ [])) (picked bit cs)) ∙ ap (map f) (sym (picked_both bit c cs))) ∙ h
 
 -- the same, where the column is that of an index
-pub next_defined : {A : Type 0} (f : PlannedColumn → A) (bits : Bits) (names : List (Reading (List ℕ))) (cs : List CodeColumn) (i : ℕ) (d : CodeColumn) (name : Option (Reading (List ℕ))) (done more all : List A)
-    → i < length cs → name ≡ slice_get names i → done ++ map f (picked bits (columns_from names i (drop i cs))) ≡ all
-    → more ≡ done ++ map f (picked bits (column_view (name_in (name_or_place i name)) (get_or cs i d) ∷ []))
-    → more ++ map f (picked bits (columns_from names (i + 1) (drop (i + 1) cs))) ≡ all
-next_defined f bits names cs i d name done more all lt named h e =
+pub next_defined : {A : Type 0} (f : PlannedColumn → A) (bit : ℕ → Option Bool) (names : List (Reading (List ℕ))) (cs : List CodeColumn) (i : ℕ) (d : CodeColumn) (name : Option (Reading (List ℕ))) (done more all : List A)
+    → i < length cs → name ≡ slice_get names i → done ++ map f (picked bit (columns_from names i (drop i cs))) ≡ all
+    → more ≡ done ++ map f (picked bit (column_view (name_in (name_or_place i name)) (get_or cs i d) ∷ []))
+    → more ++ map f (picked bit (columns_from names (i + 1) (drop (i + 1) cs))) ≡ all
+next_defined f bit names cs i d name done more all lt named h e =
     let c = column_view (own_name names i) (get_or cs i d) in
     let behind = columns_from names (i + 1) (drop (i + 1) cs) in
     let seen : columns_from names i (drop i cs) ≡ c ∷ behind
     = ap (columns_from names i) (drop-cons cs i d lt ∙ ap (λ l. get_or cs i d ∷ l) (one_further cs i)) in
-    one_defined f bits done more all c behind (ap (λ l. done ++ map f (picked bits l)) (sym seen) ∙ h)
-    (e ∙ ap (λ (o : Option (Reading (List ℕ))). done ++ map f (picked bits (column_view (name_in (name_or_place i o)) (get_or cs i d) ∷ []))) named)
+    one_defined f bit done more all c behind (ap (λ l. done ++ map f (picked bit l)) (sym seen) ∙ h)
+    (e ∙ ap (λ (o : Option (Reading (List ℕ))). done ++ map f (picked bit (column_view (name_in (name_or_place i o)) (get_or cs i d) ∷ []))) named)

@@ -2,9 +2,7 @@
 use Rattle.std.specs.Prelude.{ℕ, ◌+◌, Bool, false, List, ◌++◌, map, filter, Option, Some, None, if◌then◌else◌}
 use Rattle.std.specs.declared.result.Result.TheVariants.{Ok}
 use Rattle.wire_consts.specs.declared.column_flags.ColumnFlags.{ColumnFlags}
-use Rattle.rows_values.specs.BitLists.{bit_at}
 use Rattle.rows_values.specs.Columns.{ColumnParts}
-use Rattle.rows_values.specs.declared.bits.Bits.{Bits}
 use Rattle.rows_jsonb.specs.JsonbValues.{Reading, ◌>>=◌}
 use Rattle.rows_cells.specs.declared.image.ImageColumn.{ImageColumn}
 use Rattle.rows_plan.specs.Plans.{PlannedColumn}
@@ -14,16 +12,16 @@ abbrev pub is_set : Option Bool → Bool
 is_set None = false
 is_set (Some b) = b
 
-abbrev pub is_picked : Bits → PlannedColumn → Bool
-is_picked bits c = is_set (bit_at bits c.image.place)
+abbrev pub is_picked : (ℕ → Option Bool) → PlannedColumn → Bool
+is_picked bit c = is_set (bit c.image.place)
 
 -- the columns whose bits are set
-abbrev pub picked : Bits → List PlannedColumn → List PlannedColumn
-picked bits columns = filter (is_picked bits) columns
+abbrev pub picked : (ℕ → Option Bool) → List PlannedColumn → List PlannedColumn
+picked bit columns = filter (is_picked bit) columns
 
 -- of these columns, if there are any, those whose bits are set, as f sees them
-abbrev pub picked_as : {A : Type 0} → (PlannedColumn → A) → Bits → Reading (List PlannedColumn) → Reading (List A)
-picked_as f bits columns = columns >>= λ cs. Ok (map f (picked bits cs))
+abbrev pub picked_as : {A : Type 0} → (PlannedColumn → A) → (ℕ → Option Bool) → Reading (List PlannedColumn) → Reading (List A)
+picked_as f bit columns = columns >>= λ cs. Ok (map f (picked bit cs))
 
 -- these, and then those of an image
 abbrev pub appended : List ImageColumn → Reading (List ImageColumn) → Reading (List ImageColumn)

@@ -30,7 +30,7 @@ impl ColumnPlan {
         bits: Bits<'_>,
         columns: &mut Vec<ImageColumn>,
     ) -> Result<(), RowsError>
-        ensures ok { IfOk result (λ _. appended columns.old.items (picked_as in_image bits.entry (planned self.now.run (len_of bits.entry))) ≡ Ok columns.new.items) }
+        ensures ok { IfOk result (λ _. appended columns.old.items (picked_as in_image (bit_at bits.entry) (planned self.now.run (len_of bits.entry))) ≡ Ok columns.new.items) }
         ensures err { IfErr result (λ e. e ≡ Memory ⊎ ((planned self.now.run (len_of bits.entry) ≡ Err e) × (columns.new.items ≡ columns.old.items))) }
     {
         let image = match self.run.first(bits.len()) {
@@ -49,7 +49,7 @@ impl ColumnPlan {
     ///
     /// The refusals of [`ColumnPlan::image_columns`].
     pub fn definitions(&self, alloc: Global, bits: Bits<'_>) -> Result<Vec<Column>, RowsError>
-        ensures ok { IfOk result (λ columns. picked_as (definition_of self.now.database.items self.now.table.items) bits.entry (planned self.now.run (len_of bits.entry)) ≡ Ok (map parts_of columns.items)) }
+        ensures ok { IfOk result (λ columns. picked_as (definition_of self.now.database.items self.now.table.items) (bit_at bits.entry) (planned self.now.run (len_of bits.entry)) ≡ Ok (map parts_of columns.items)) }
         ensures err { IfErr result (λ e. e ≡ Memory ⊎ (planned self.now.run (len_of bits.entry) ≡ Err e)) }
     {
         let image = match self.run.first(bits.len()) {
@@ -75,7 +75,7 @@ impl ColumnPlan {
         name: Option<Result<ColumnName<'_>, RowsError>>,
         definitions: &mut Vec<Column>,
     ) -> Result<(), AllocError>
-        ensures { IfOk result (λ _. map parts_of definitions.new.items ≡ map parts_of definitions.old.items ++ map (definition_of self.now.database.items self.now.table.items) (picked bits.entry (column_view (name_in (name_or_place place (option_map (shown name_view) name.entry))) column.now ∷ []))) }
+        ensures { IfOk result (λ _. map parts_of definitions.new.items ≡ map parts_of definitions.old.items ++ map (definition_of self.now.database.items self.now.table.items) (picked (bit_at bits.entry) (column_view (name_in (name_or_place place (option_map (shown name_view) name.entry))) column.now ∷ []))) }
     {
         if is_picked(bits, column) {
             definitions.push(self.definition(alloc, place, column, name)?)?;

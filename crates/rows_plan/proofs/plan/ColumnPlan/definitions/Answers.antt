@@ -1,4 +1,5 @@
 use Rattle.std.proofs.Common.{rules}
+use Rattle.rows_values.specs.BitLists.{bit_at}
 use Rattle.rows_optional.specs.Lists.{strings}
 use Rattle.rows_plan.specs.PickedColumns.{definition}
 use Rattle.rows_plan.proofs.PickedLemmas.{next_named, next_defined}
@@ -10,6 +11,6 @@ loop-place-preserved c =
     let named = next_named names c.loop-place.place c.loop-place.names c.next-name.new.self c.next-name.result c.loop-place.invariant.named c.next-name.ensures.steps in
     let step = c.in_ok-define.ensures in
     record {
-      defined = next_defined (definition c.args.self.now.database.items c.args.self.now.table.items) c.args.bits names c.in-Ok.image.now c.loop-place.place _ _ _ _ _ (search rules) named.0 c.loop-place.invariant.defined step;
+      defined = next_defined (definition c.args.self.now.database.items c.args.self.now.table.items) (bit_at c.args.bits) names c.in-Ok.image.now c.loop-place.place _ _ _ _ _ (search rules) named.0 c.loop-place.invariant.defined step;
       named = named.1;
     }
