@@ -1,0 +1,5 @@
+pub mod RowsEventTypes
+pub mod Fields
+pub mod FieldViews
+pub mod RowsEvents
+pub mod Views

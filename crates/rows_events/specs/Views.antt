@@ -1,0 +1,17 @@
+-- What the code's rows events show.
+use Rattle.wire_forms.specs.RawTexts.{text_of}
+use Rattle.rows_events.specs.FieldViews.{maybe_text, maybe_extra}
+use Rattle.rows_events.specs.RowsEvents.{RowsBody}
+use Rattle.rows_events.specs.declared.rows_event.RowsEvent.{RowsEvent}
+
+abbrev pub body_of : RowsEvent → RowsBody
+body_of e = record {
+  event_type = e.event_type;
+  table_id = e.table_id.0;
+  flags = e.flags.0;
+  extra = maybe_extra e.extra_data;
+  columns = e.num_columns.0;
+  before = maybe_text e.before;
+  after = maybe_text e.after;
+  rows_data = text_of e.rows_data;
+}

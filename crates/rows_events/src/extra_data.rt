@@ -1,0 +1,72 @@
+//! Extra data of rows events.
+
+ghost use Rattle.std.specs.Prelude.{◌≡◌, List, ℕ};
+ghost use Rattle.wire_buf.specs.Spelling.{Lacks};
+ghost use Rattle.wire_buf.specs.declared.fault.WireFault.TheVariants.{Eof};
+ghost use Rattle.wire_forms.specs.RawTexts.{text_of};
+ghost use Rattle.rows_events.specs.Fields.{IsExtra, extra_spelling};
+
+use std::alloc::{Allocator, Global};
+use wire_buf::{AnySize, Inner, MyDeserialize, MySerialize, ParseBuf, WireFault};
+use wire_forms::{BareBytes, RawBytes};
+use wire_ints::{LeU16, RawInt};
+
+/// Data behind its size in two bytes, which counts these two. A size below 2 is that of no data.
+#[derive(Drop)]
+pub struct ExtraData<'a>(pub RawBytes<'a, BareBytes<65533>>);
+
+/// `Eof` where bytes are missing.
+impl<'de> MyDeserialize<'de> for ExtraData<'de> {
+    const SIZE: Option<usize> = None;
+
+    type Size = AnySize;
+
+    type Ctx = ();
+
+    type Fault = WireFault;
+
+    ghost View = { List ℕ };
+
+    ghost view = { λ v. text_of v.0 };
+
+    ghost spells = { λ ctx. IsExtra };
+
+    ghost refusal = { λ ctx x e. e ≡ Eof };
+
+    fn deserialize(
+        alloc: Global,
+        _ctx: (),
+        buf: &mut ParseBuf<'de>,
+    ) -> Result<ExtraData<'de>, WireFault> {
+        let size = buf.parse::<RawInt<LeU16>>(alloc, ())?;
+        let len = (size.0 as usize).saturating_sub(2);
+        let data = buf.parse::<RawBytes<BareBytes<65533>>>(alloc, len)?;
+        Ok(ExtraData(data))
+    }
+
+    ghost sized = { λ ctx v bytes rest h. tt };
+}
+
+/// `Form` where there are more than 65,533 bytes of data.
+impl MySerialize for ExtraData<'_> {
+    ghost View = { List ℕ };
+
+    ghost view = { λ v. text_of v.0 };
+
+    ghost form = { IsExtra };
+
+    ghost spelling = { extra_spelling };
+
+    fn serialize<A: Allocator>(&self, buf: &mut Vec<u8, A>) -> Result<(), WireFault> {
+        let len = self.0.len();
+        if len > 65533 {
+            return Err(WireFault::Form);
+        }
+        let size = RawInt::<LeU16>::new(len as u16 + 2);
+        (size, &self.0).serialize(buf)
+    }
+}
+
+impl Inner for ExtraData<'_> {
+    ghost before_any = { λ rest. tt };
+}

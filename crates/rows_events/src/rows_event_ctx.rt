@@ -1,0 +1,26 @@
+ghost use Rattle.std.specs.Prelude.{◌≡◌};
+
+use crate::rows_event_type::RowsEventType;
+
+/// What a reader of a rows event has to know beforehand.
+#[derive(Clone, Copy, Debug, PartialEq, Eq, Hash)]
+pub struct RowsEventCtx {
+    /// The event's type.
+    pub event_type: RowsEventType,
+    /// The post-header length of this type. Where it is 6, the table's id has four bytes.
+    pub post_header_len: usize,
+    /// The post-header length of `WRITE_ROWS_EVENT`. Events whose type has the same have extra data.
+    pub write_post_header_len: usize,
+}
+
+impl RowsEventCtx {
+    ghost use Rattle.rows_events.specs.Fields.{only_if};
+    ghost use Rattle.rows_events.specs.RowsEvents.{has_extra};
+
+    /// The context of the extra data, where such stands in the event.
+    pub(crate) fn extra_data(&self) -> Option<()>
+        ensures { result ≡ only_if (has_extra self.now) (tt {0}) }
+    {
+        (self.post_header_len == self.write_post_header_len).then_some(())
+    }
+}
