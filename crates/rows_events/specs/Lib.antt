@@ -3,3 +3,5 @@ pub mod Fields
 pub mod FieldViews
 pub mod RowsEvents
 pub mod Views
+pub mod EventShapes
+pub mod EventColumnViews

@@ -3,12 +3,14 @@
 //! A rows event is a row of pieces (`specs/RowsEvents.antt`), which is read and written by that one relation.
 #![tactic(auto)]
 
+mod event_columns;
 mod extra_data;
 mod maybe;
 mod rows_event;
 mod rows_event_ctx;
 mod rows_event_type;
 
+pub use event_columns::EventColumns;
 pub use rows_event::RowsEvent;
 pub use rows_event_ctx::RowsEventCtx;
 pub use rows_event_type::{RowImages, RowsEventType};

@@ -3,10 +3,12 @@
 #![tactic(auto)]
 
 mod column;
+mod image_columns;
 mod picked;
 mod plan;
 mod run;
 mod walk;
 
 pub use column::PlannedColumn;
+pub use image_columns::ImageColumns;
 pub use plan::ColumnPlan;

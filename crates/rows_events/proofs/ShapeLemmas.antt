@@ -1,0 +1,71 @@
+-- The columns of images, by the bits that an event shows.
+use Rattle.std.proofs.Common.{◌≡◌, ℕ, Bool, false, List, [], ◌∷◌, map, Option, Some, None, Ok, Err, refl, sym, ap, ◌∙◌, if◌then◌else◌}
+use Rattle.std.specs.Prelude.{filter, nat_lt, IfOk}
+use Rattle.std.specs.declared.result.Result.{Result}
+use Rattle.rows_values.specs.BitLists.{bit_of, bit_at, len_of, lowest_bit}
+use Rattle.rows_values.specs.declared.bits.Bits.{Bits}
+use Rattle.rows_jsonb.specs.JsonbValues.{Reading, ◌>>=◌}
+use Rattle.rows_cells.specs.Images.{ImageShape}
+use Rattle.rows_cells.specs.declared.image.ImageColumn.{ImageColumn}
+use Rattle.rows_plan.specs.Plans.{PlannedColumn}
+use Rattle.rows_plan.specs.PickedColumns.{is_picked, picked_as, is_set, in_image}
+use Rattle.rows_plan.specs.ImageShapes.{TablePlan, shape_picked}
+use Rattle.rows_events.specs.FieldViews.{ShowsBits}
+use Rattle.rows_events.specs.EventShapes.{column_bit, shape_by, shapes_by}
+
+-- tests that agree let the same elements through
+same_filter : {A : Type 0} (f g : A → Bool) → ((x : A) → f x ≡ g x) → (xs : List A) → filter f xs ≡ filter g xs
+same_filter f g h [] = refl
+same_filter f g h (x ∷ xs) = rw (h x, same_filter f g h xs) refl
+
+-- what is shown of the bits of an image
+pub record Shown (n : ℕ) (all : Option (List ℕ)) (bits : Bits) : Type 0 where
+  pub bytes : List ℕ
+  pub all_are : all ≡ Some bytes
+  pub len : len_of bits ≡ n
+  pub each : (i : ℕ) → bit_of bits i ≡ lowest_bit bytes i
+
+pub shown_bits : (n : ℕ) (all : Option (List ℕ)) (r : Option Bits) (bits : Bits) → ShowsBits n all r → r ≡ Some bits → Shown n all bits
+shown_bits n None None bits h e = absurd cc
+shown_bits n None (Some b) bits h e = absurd h
+shown_bits n (Some bytes) None bits h e = absurd cc
+shown_bits n (Some bytes) (Some b) bits h e =
+    let same : b ≡ bits = cc in
+    record { bytes = bytes; all_are = refl; len = ap len_of (sym same) ∙ h.0; each = λ i. ap (λ (x : Bits). bit_of x i) (sym same) ∙ h.1 i }
+
+pub no_bits : (n : ℕ) (all : Option (List ℕ)) (r : Option Bits) → ShowsBits n all r → r ≡ None → all ≡ None
+no_bits n None r h e = refl
+no_bits n (Some bytes) None h e = absurd h
+no_bits n (Some bytes) (Some b) h e = absurd cc
+
+same_bit : (n : ℕ) (all : Option (List ℕ)) (bits : Bits) (s : Shown n all bits) (i : ℕ) → bit_at bits i ≡ column_bit n s.bytes i
+same_bit n all bits s i = ap (λ (k : ℕ). if nat_lt i k then Some (bit_of bits i) else None) s.len ∙ ap (λ (b : Bool). if nat_lt i n then Some b else None) (s.each i)
+
+same_picked : (n : ℕ) (all : Option (List ℕ)) (bits : Bits) (s : Shown n all bits) (columns : Reading (List PlannedColumn)) → picked_as in_image (bit_at bits) columns ≡ picked_as in_image (column_bit n s.bytes) columns
+same_picked n all bits s (Err e) = refl
+same_picked n all bits s (Ok cs) = ap (λ l. Ok (map in_image l)) (same_filter (is_picked (bit_at bits)) (is_picked (column_bit n s.bytes)) (λ c. ap is_set (same_bit n all bits s c.image.place)) cs)
+
+-- the image that the bits pick is the one that the event says
+pub same_shape : (p : TablePlan) (n : ℕ) (part : Bool) (all : Option (List ℕ)) (bits : Bits) (s : Shown n all bits) → shape_picked p (len_of bits) part (bit_at bits) ≡ shape_by p n part s.bytes
+same_shape p n part all bits s =
+    ap (λ (k : ℕ). shape_picked p k part (bit_at bits)) s.len
+    ∙ ap (λ (r : Reading (List ImageColumn)). r >>= λ columns. Ok (record { columns = columns; json_columns = if part then Some p.json_columns else None })) (same_picked n all bits s (p.first n))
+
+pub one_image : (p : TablePlan) (n : ℕ) (part : Bool) (before after : Option (List ℕ)) (bytes : List ℕ) (s : ImageShape) → before ≡ Some bytes → after ≡ None → shape_by p n false bytes ≡ Ok s → shapes_by p n part before after ≡ Ok (s ∷ [])
+one_image p n part before after bytes s b a h = rw (b, a, h) refl
+
+pub after_image : (p : TablePlan) (n : ℕ) (part : Bool) (before after : Option (List ℕ)) (bytes : List ℕ) (s : ImageShape) → before ≡ None → after ≡ Some bytes → shape_by p n part bytes ≡ Ok s → shapes_by p n part before after ≡ Ok (s ∷ [])
+after_image p n part before after bytes s b a h = rw (b, a, h) refl
+
+pub two_images : (p : TablePlan) (n : ℕ) (part : Bool) (before after : Option (List ℕ)) (x y : List ℕ) (s t : ImageShape) → before ≡ Some x → after ≡ Some y
+    → shape_by p n false x ≡ Ok s → shape_by p n part y ≡ Ok t → shapes_by p n part before after ≡ Ok (s ∷ t ∷ [])
+two_images p n part before after x y s t b a h k = rw (b, a, h, k) refl
+
+-- what holds of a success holds of it still
+pub ok_still : {A E : Type 0} (r : Result A E) (P Q : Type 0) → (P → Q) → IfOk r (λ x. P) → IfOk r (λ x. Q)
+ok_still (Ok x) P Q f h = f h
+ok_still (Err e) P Q f h = h
+
+-- the image that was picked is the one that the event says
+pub picked_shape : (p : TablePlan) (n : ℕ) (said part : Bool) (all : Option (List ℕ)) (bits : Bits) (s : Shown n all bits) (o : Reading ImageShape) → said ≡ part → shape_picked p (len_of bits) said (bit_at bits) ≡ o → shape_by p n part s.bytes ≡ o
+picked_shape p n said part all bits s o e h = sym (same_shape p n part all bits s) ∙ ap (λ (b : Bool). shape_picked p (len_of bits) b (bit_at bits)) (sym e) ∙ h

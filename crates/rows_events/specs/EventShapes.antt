@@ -1,0 +1,43 @@
+-- The images of an event's rows: which columns of the table each has, by the plan of the table; and the rows that are found so.
+use Rattle.std.specs.Prelude.{ℕ, Bool, false, List, [], ◌∷◌, Option, Some, None, nat_lt, if◌then◌else◌}
+use Rattle.std.specs.declared.result.Result.TheVariants.{Ok, Err}
+use Rattle.rows_values.specs.BitLists.{lowest_bit}
+use Rattle.rows_values.specs.declared.fault.RowsError.TheVariants.{EmptyPair}
+use Rattle.rows_jsonb.specs.JsonbValues.{Reading, ◌>>=◌}
+use Rattle.rows_jsonb.specs.Items.{Walked, items_at, all_found}
+use Rattle.rows_cells.specs.Images.{PlacedValue, ImageShape}
+use Rattle.rows_cells.specs.EventRows.{row_at}
+use Rattle.rows_plan.specs.ImageShapes.{TablePlan, shape_picked}
+use Rattle.rows_events.specs.RowsEventTypes.{images_of, has_partial_after}
+use Rattle.rows_events.specs.RowsEvents.{RowsBody}
+
+-- bit i of those that stand for n columns
+abbrev pub column_bit : ℕ → List ℕ → ℕ → Option Bool
+column_bit n bits i = if nat_lt i n then Some (lowest_bit bits i) else None
+
+-- the image whose columns these bits say
+abbrev pub shape_by : TablePlan → ℕ → Bool → List ℕ → Reading ImageShape
+shape_by p n is_partial bits = shape_picked p n is_partial (column_bit n bits)
+
+-- the images of a row in order; a row without images takes no bytes
+abbrev pub shapes_by : TablePlan → ℕ → Bool → Option (List ℕ) → Option (List ℕ) → Reading (List ImageShape)
+shapes_by p n is_partial None None = Err EmptyPair
+shapes_by p n is_partial (Some before) None = shape_by p n false before >>= λ first. Ok (first ∷ [])
+shapes_by p n is_partial None (Some after) = shape_by p n is_partial after >>= λ first. Ok (first ∷ [])
+shapes_by p n is_partial (Some before) (Some after) = do
+  first ← shape_by p n false before
+  second ← shape_by p n is_partial after
+  Ok (first ∷ second ∷ [])
+
+abbrev pub event_shapes : RowsBody → TablePlan → Reading (List ImageShape)
+event_shapes r p = shapes_by p r.columns (has_partial_after (images_of r.event_type)) r.before r.after
+
+-- the rows that are found in rows data: all, or those before the first that can't be read; where no bytes stand there, the images don't matter
+abbrev pub rows_in : Reading (List ImageShape) → List ℕ → Walked (List (List PlacedValue))
+rows_in shapes [] = all_found []
+rows_in (Ok shapes) (b ∷ bytes) = items_at (row_at shapes) (b ∷ bytes)
+rows_in (Err e) (b ∷ bytes) = record { items = []; fault = Some e }
+
+-- the rows of an event
+abbrev pub event_rows : RowsBody → TablePlan → Walked (List (List PlacedValue))
+event_rows r p = rows_in (event_shapes r p) r.rows_data

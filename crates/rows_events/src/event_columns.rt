@@ -1,0 +1,82 @@
+//! The columns of the images of an event's rows.
+
+ghost use Rattle.std.specs.Prelude.{◌≡◌, ◌⊎◌, IfOk, IfErr, Ok, Err};
+ghost use Rattle.rows_values.specs.declared.fault.RowsError.TheVariants.{Memory};
+ghost use Rattle.rows_cells.specs.RowViews.{row_shape, IsBetween};
+ghost use Rattle.rows_plan.specs.ImageShapes.{table_plan};
+ghost use Rattle.rows_events.specs.EventShapes.{event_shapes};
+ghost use Rattle.rows_events.specs.EventColumnViews.{shapes_of};
+ghost use Rattle.rows_events.specs.Views.{body_of};
+
+use crate::rows_event::RowsEvent;
+use rows_cells::{RowPlan, RowsCursor};
+use rows_plan::{ColumnPlan, ImageColumns};
+use rows_values::RowsError;
+use std::alloc::Global;
+
+/// The columns of the images of a rows event. It keeps its memory from event to event.
+#[derive(Drop)]
+pub struct EventColumns {
+    first: ImageColumns,
+    second: ImageColumns,
+    has_second: bool,
+}
+
+impl EventColumns {
+    /// The columns of no event.
+    pub fn new(alloc: Global) -> EventColumns {
+        EventColumns {
+            first: ImageColumns::new(alloc),
+            second: ImageColumns::new(alloc),
+            has_second: false,
+        }
+    }
+
+    /// Takes the columns of an event's images, by the plan of its table, in place of those before.
+    ///
+    /// The fault of the first column of the event that has no plan, or of the optional metadata; `Memory` where
+    /// memory is refused, and for a table of 2^32 JSON columns or more.
+    pub fn fill(&mut self, event: &RowsEvent<'_>, plan: &ColumnPlan) -> Result<(), RowsError>
+        ensures ok { IfOk result (λ _. event_shapes (body_of event.now) (table_plan plan.now) ≡ Ok (shapes_of self.new)) }
+        ensures err { IfErr result (λ e. e ≡ Memory ⊎ event_shapes (body_of event.now) (table_plan plan.now) ≡ Err e) }
+    {
+        let is_partial = event.images().has_partial_after();
+        self.has_second = false;
+        match (event.columns_before_image(), event.columns_after_image()) {
+            (Some(before), Some(after)) => {
+                if let Err(fault) = self.first.fill(plan, before, false) {
+                    return Err(fault);
+                }
+                self.has_second = true;
+                self.second.fill(plan, after, is_partial)
+            }
+            (Some(before), None) => self.first.fill(plan, before, false),
+            (None, Some(after)) => self.first.fill(plan, after, is_partial),
+            (None, None) => Err(RowsError::EmptyPair),
+        }
+    }
+
+    /// The images that each row of the event has.
+    pub fn row_plan(&self) -> RowPlan<'_>
+        ensures { row_shape result ≡ shapes_of self.now }
+    {
+        RowPlan {
+            first: self.first.plan(),
+            second: if self.has_second {
+                Some(self.second.plan())
+            } else {
+                None
+            },
+        }
+    }
+}
+
+impl RowsEvent<'_> {
+    /// The rows of the event, one part after the other, by the columns of its images. It takes no memory.
+    pub fn cursor<'p>(&self, columns: &'p EventColumns) -> RowsCursor<'p, '_>
+        ensures plan { row_shape result.plan ≡ shapes_of columns.now }
+        ensures rows { IsBetween result (body_of self.now).rows_data }
+    {
+        RowsCursor::of(columns.row_plan(), self.rows_data())
+    }
+}
