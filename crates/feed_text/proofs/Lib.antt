@@ -7,3 +7,4 @@ pub mod PlainTextLemmas
 pub mod CellLemmas
 pub mod DocumentLemmas
 pub mod DiffTextLemmas
+pub mod BufferLemmas

@@ -9,3 +9,4 @@ pub mod ShortTexts
 pub mod DiffText
 pub mod CellText
 pub mod CellParts
+pub mod Buffers
