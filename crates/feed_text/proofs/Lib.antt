@@ -8,3 +8,5 @@ pub mod CellLemmas
 pub mod DocumentLemmas
 pub mod DiffTextLemmas
 pub mod BufferLemmas
+pub mod FieldTextLemmas
+pub mod ImageTextLemmas

@@ -10,3 +10,5 @@ pub mod DiffText
 pub mod CellText
 pub mod CellParts
 pub mod Buffers
+pub mod FieldText
+pub mod ImageText

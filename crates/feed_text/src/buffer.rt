@@ -18,7 +18,7 @@ pub struct TextBuffer<A: Allocator> {
 }
 
 impl<A: Allocator> TextBuffer<A> {
-    ghost use Rattle.std.specs.Prelude.{◌≡◌, ◌≤◌, ◌+◌, ◌++◌, ◌∷◌, [], OnOk, OnErr, length};
+    ghost use Rattle.std.specs.Prelude.{◌≡◌, ◌≤◌, ◌+◌, ◌++◌, ◌∷◌, [], OnOk, OnErr, length, take};
     ghost use Rattle.feed_text.specs.Buffers.{text_in};
 
     /// No text.
@@ -50,6 +50,15 @@ impl<A: Allocator> TextBuffer<A> {
         ensures { text_in self.new ≡ [] }
     {
         self.len = 0;
+    }
+
+    /// Keeps so many bytes of the text, at most, and forgets those behind them.
+    pub fn truncate(&mut self, len: usize)
+        ensures { text_in self.new ≡ take len (text_in self.old) }
+    {
+        if len < self.len {
+            self.len = len;
+        }
     }
 
     /// Appends bytes as they are. Want of memory leaves the text as it was.

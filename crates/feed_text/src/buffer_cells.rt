@@ -13,17 +13,11 @@ use crate::buffer::TextBuffer;
 use crate::cells::{LABEL, put_cell_ref, put_label};
 use crate::decimals::write_quoted;
 use crate::parts::CellParts;
-use crate::short::{SHORT, Short, put_short};
+use crate::short::{FEW, FEW_DIGITS, SHORT, Short, put_short};
 use feed_writers::{put_between, put_byte, put_quoted};
 use rows_cells::CellRef;
 use rows_values::RowsError;
 use std::alloc::{Allocator, Global};
-
-/// The most bytes whose quoted text is short.
-const FEW: usize = 24;
-
-/// The most digits of a decimal whose quoted text is short.
-const FEW_DIGITS: u8 = 71;
 
 /// How many bytes are quoted at once, where they are many.
 const AT_ONCE: usize = 1024;

@@ -11,6 +11,8 @@ mod cells;
 mod decimals;
 mod diffs;
 mod documents;
+mod fields;
+mod images;
 mod json_scalars;
 pub mod laws;
 mod parts;
