@@ -7,3 +7,6 @@ pub mod PlainTextLemmas
 pub mod CellLemmas
 pub mod DocumentLemmas
 pub mod DiffTextLemmas
+pub mod BufferLemmas
+pub mod FieldTextLemmas
+pub mod ImageTextLemmas

@@ -9,3 +9,6 @@ pub mod ShortTexts
 pub mod DiffText
 pub mod CellText
 pub mod CellParts
+pub mod Buffers
+pub mod FieldText
+pub mod ImageText

@@ -30,7 +30,7 @@ use std::alloc::{Allocator, Global};
 use wire_buf::ParseBuf;
 
 /// The most bytes of a label.
-const LABEL: usize = 22;
+pub(crate) const LABEL: usize = 22;
 
 /// Appends the text of a cell: a space, its column's place in the table from 0, `=`, and the value as
 /// [`put_value`] and [`put_json`] write it.
@@ -90,8 +90,9 @@ pub fn put_cell_ref<A: Allocator>(
 
 /// Writes a label: a space, a column's place and `=`.
 #[inline(always)]
-fn put_label(text: &mut [u8], at: usize, place: u32) -> usize
+pub(crate) fn put_label(text: &mut [u8], at: usize, place: u32) -> usize
     requires { at + 22 ≤ length text.old }
+    ensures from { at ≤ result }
     ensures most { result ≤ at + 22 }
     ensures text { take result text.new ≡ take at text.old ++ label place }
 {

@@ -36,7 +36,8 @@ pub fn put_decimal<A: Allocator>(
 
 /// Writes the quoted text over bytes from `at` on, and answers where it ends; None where the bytes pack
 /// no decimal, and what stands before `at` is left.
-fn write_quoted(
+#[inline(always)]
+pub(crate) fn write_quoted(
     text: &mut [u8],
     at: usize,
     precision: usize,

@@ -5,10 +5,14 @@
 //! memory, and where bytes pack no decimal. `specs/` has the texts.
 #![tactic(auto)]
 
+mod buffer;
+mod buffer_cells;
 mod cells;
 mod decimals;
 mod diffs;
 mod documents;
+mod fields;
+mod images;
 mod json_scalars;
 pub mod laws;
 mod parts;
@@ -17,6 +21,7 @@ mod quoting;
 mod short;
 mod values;
 
+pub use buffer::TextBuffer;
 pub use cells::{put_cell, put_cell_ref};
 pub use decimals::put_decimal;
 pub use documents::put_json;

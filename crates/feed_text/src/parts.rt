@@ -3,6 +3,7 @@
 ghost use Rattle.std.specs.Prelude.{◌≡◌, Ok};
 ghost use Rattle.rows_cells.specs.CellValues.{new_date as new_date_value, old_time as old_time_value, old_datetime as old_datetime_value, date_of, span_of};
 ghost use Rattle.feed_text.specs.CellText.{text_of};
+ghost use Rattle.feed_text.specs.Times.{date_text, span_text};
 ghost use Rattle.feed_text.specs.ShortTexts.{short_text};
 
 use crate::short::Short;
@@ -121,45 +122,61 @@ fn old_datetime(digits: u64) -> Short
 
 /// A packed date and time. A sign is dropped.
 #[inline(always)]
-#[tactic(auto, unfolding(crate::specs::CellText::text_of, crate::specs::ShortTexts::short_text))]
+#[tactic(auto, unfolding(crate::specs::ShortTexts::short_text))]
 fn datetime(packed: i64) -> Short
     ensures { text_of (date_of packed) ≡ Ok (short_text result) }
+{
+    let (day, clock) = datetime_parts(packed);
+    Short::Date(day, clock)
+}
+
+/// The day and the time of day of a packed date and time.
+#[inline(always)]
+#[tactic(auto, unfolding(crate::specs::CellText::text_of))]
+pub(crate) fn datetime_parts(packed: i64) -> (Day, Clock)
+    ensures { text_of (date_of packed) ≡ Ok (date_text result.0 result.1) }
 {
     let size = packed.unsigned_abs();
     let whole = size / 16_777_216;
     let (days, clock) = (whole / 131_072, whole % 131_072);
-    Short::Date(
-        Day {
-            year: (days / 32 / 13) as u32,
-            month: (days / 32 % 13) as u32,
-            day: (days % 32) as u32,
-        },
-        Clock {
-            hour: (clock / 4096) as u32,
-            minute: (clock / 64 % 64) as u32,
-            second: (clock % 64) as u32,
-            micros: (size % 16_777_216) as u32,
-        },
-    )
+    let day = Day {
+        year: (days / 32 / 13) as u32,
+        month: (days / 32 % 13) as u32,
+        day: (days % 32) as u32,
+    };
+    let clock = Clock {
+        hour: (clock / 4096) as u32,
+        minute: (clock / 64 % 64) as u32,
+        second: (clock % 64) as u32,
+        micros: (size % 16_777_216) as u32,
+    };
+    (day, clock)
 }
 
 /// A packed span of time.
 #[inline(always)]
-#[tactic(auto, unfolding(crate::specs::CellText::text_of, crate::specs::ShortTexts::short_text))]
+#[tactic(auto, unfolding(crate::specs::ShortTexts::short_text))]
 fn time(packed: i64) -> Short
     ensures { text_of (span_of packed) ≡ Ok (short_text result) }
+{
+    let (is_negative, days, clock) = time_parts(packed);
+    Short::Span(is_negative, days, clock)
+}
+
+/// Whether a packed span of time is below zero, its days, and what is left of them.
+#[inline(always)]
+#[tactic(auto, unfolding(crate::specs::CellText::text_of))]
+pub(crate) fn time_parts(packed: i64) -> (bool, u32, Clock)
+    ensures { text_of (span_of packed) ≡ Ok (span_text result.0 result.1 result.2) }
 {
     let size = packed.unsigned_abs();
     let whole = size / 16_777_216;
     let hours = whole / 4096 % 1024;
-    Short::Span(
-        packed < 0,
-        (hours / 24) as u32,
-        Clock {
-            hour: (hours % 24) as u32,
-            minute: (whole / 64 % 64) as u32,
-            second: (whole % 64) as u32,
-            micros: (size % 16_777_216) as u32,
-        },
-    )
+    let clock = Clock {
+        hour: (hours % 24) as u32,
+        minute: (whole / 64 % 64) as u32,
+        second: (whole % 64) as u32,
+        micros: (size % 16_777_216) as u32,
+    };
+    (packed < 0, (hours / 24) as u32, clock)
 }

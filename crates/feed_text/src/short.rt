@@ -15,6 +15,12 @@ use feed_writers::{
 /// The most bytes of a short text.
 pub(crate) const SHORT: usize = 76;
 
+/// The most bytes whose quoted text is short.
+pub(crate) const FEW: usize = 24;
+
+/// The most digits of a decimal whose quoted text is short.
+pub(crate) const FEW_DIGITS: u8 = 71;
+
 /// A value whose text is short.
 #[derive(Clone, Copy)]
 pub(crate) enum Short {
@@ -67,7 +73,7 @@ pub(crate) fn put_short(text: &mut [u8], at: usize, short: Short) -> usize
 /// Writes a day, `T` and a time of day.
 #[inline(always)]
 #[tactic(auto, unfolding(crate::specs::Times::date_text))]
-fn put_date(text: &mut [u8], at: usize, day: Day, clock: Clock) -> usize
+pub(crate) fn put_date(text: &mut [u8], at: usize, day: Day, clock: Clock) -> usize
     requires { at + 76 ≤ length text.old }
     ensures most { result ≤ at + 76 }
     ensures text { take result text.new ≡ take at text.old ++ date_text day clock }
@@ -80,7 +86,7 @@ fn put_date(text: &mut [u8], at: usize, day: Day, clock: Clock) -> usize
 /// Writes a minus where it is below zero, days, `d` and what is left of them.
 #[inline(always)]
 #[tactic(auto, unfolding(crate::specs::Times::span_text))]
-fn put_span(text: &mut [u8], at: usize, is_negative: bool, days: u32, clock: Clock) -> usize
+pub(crate) fn put_span(text: &mut [u8], at: usize, is_negative: bool, days: u32, clock: Clock) -> usize
     requires { at + 76 ≤ length text.old }
     ensures most { result ≤ at + 76 }
     ensures text { take result text.new ≡ take at text.old ++ span_text is_negative days clock }

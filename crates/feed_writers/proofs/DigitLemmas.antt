@@ -141,3 +141,44 @@ zeros_done base one new width n c d e f h is =
 -- one digit
 pub one_digit : (base new : List ℕ) (n b : ℕ) → n < 10 → b ≡ 48 + n → new ≡ base ++ b ∷ [] → new ≡ base ++ decimal n
 one_digit base new n b h e is = is ∙ ap (λ (t : List ℕ). base ++ t) {y = decimal n} (rw e (sym (decimal_digit n h)))
+
+-- ---- the last digits of a number
+
+-- a number of k digits, in k digits
+whole_padded : (k n : ℕ) → k ≡ length (decimal n) → padded k n ≡ decimal n
+whole_padded k n e = let none : k - length (decimal n) ≡ 0 = omega (arith, e) in padded_of k n ∙ rw none refl
+
+pub decimal_two : (n : ℕ) → 10 ≤ n → n < 100 → padded 2 n ≡ decimal n
+decimal_two n lo hi = whole_padded 2 n (count_two n lo hi)
+
+pub decimal_three : (n : ℕ) → 100 ≤ n → n < 1000 → (48 + n / 100) ∷ padded 2 (n % 100) ≡ decimal n
+decimal_three n lo hi =
+    sym (padded_two_more 0 n (omega (arith, hi)) ∙ ap (λ (t : List ℕ). t ++ padded 2 (n % 100)) {y = (48 + n / 100) ∷ []} (padded_one (n / 100) (omega (arith, hi)))) ∙ whole_padded 3 n (count_three n lo hi)
+
+pub decimal_four : (n : ℕ) → 1000 ≤ n → n < 10000 → padded 4 n ≡ decimal n
+decimal_four n lo hi = whole_padded 4 n (count_four n lo hi)
+
+two_more : (n : ℕ) → 100 ≤ n → n < 2 ^ 64 → decimal n ≡ decimal (n / 100) ++ padded 2 (n % 100)
+two_more n lo hi =
+    let a : n / 10 / 10 ≡ n / 100 = omega arith in
+    let b : n / 10 % 10 ≡ n % 100 / 10 = omega arith in
+    let c : n % 10 ≡ n % 100 % 10 = omega arith in
+    rw (padded_pair (n % 100) (omega arith), decimal_step n (omega (arith, lo)) hi, decimal_step (n / 10) (omega (arith, lo)) (omega (arith, hi)), append_assoc, a, b, ← c) refl
+
+pub four_more : (n : ℕ) → 10000 ≤ n → n < 2 ^ 64 → decimal (n / 10000) ++ padded 4 (n % 10000) ≡ decimal n
+four_more n lo hi =
+    let a : n / 100 / 100 ≡ n / 10000 = omega arith in
+    let b : n / 100 % 100 ≡ n % 10000 / 100 = omega arith in
+    let c : n % 100 ≡ n % 10000 % 100 = omega arith in
+    sym (rw (padded_two_more 1 (n % 10000) (omega arith), two_more n (omega (arith, lo)) hi, two_more (n / 100) (omega (arith, lo)) (omega (arith, hi)), append_assoc, a, b, ← c) refl)
+
+pub eight_more : (n : ℕ) → 100000000 ≤ n → n < 2 ^ 64 → decimal (n / 100000000) ++ (padded 4 (n % 100000000 / 10000) ++ padded 4 (n % 100000000 % 10000)) ≡ decimal n
+eight_more n lo hi =
+    let a : n / 10000 / 10000 ≡ n / 100000000 = omega arith in
+    let b : n / 10000 % 10000 ≡ n % 100000000 / 10000 = omega arith in
+    let c : n % 10000 ≡ n % 100000000 % 10000 = omega arith in
+    rw (← a, ← b, ← c, ← append_assoc (decimal (n / 10000 / 10000)) (padded 4 (n / 10000 % 10000)) (padded 4 (n % 10000)), four_more (n / 10000) (omega (arith, lo)) (omega (arith, hi))) (four_more n (omega (arith, lo)) hi)
+
+-- a byte, and a text behind it
+pub pushed_then : (base b c mid new : List ℕ) (a : ℕ) → mid ≡ base ++ a ∷ [] → new ≡ mid ++ b → a ∷ b ≡ c → new ≡ base ++ c
+pushed_then base b c mid new a first second e = joined_is base (a ∷ []) b c mid new first second e

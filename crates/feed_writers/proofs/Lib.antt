@@ -1,3 +1,4 @@
 pub mod DigitLemmas
 pub mod PlainLemmas
 pub mod EscapeLemmas
+pub mod QuotedLemmas

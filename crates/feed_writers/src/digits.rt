@@ -1,6 +1,6 @@
 //! Bytes and numbers in decimal.
 
-ghost use Rattle.std.specs.Prelude.{◌≡◌, ◌≤◌, ◌<◌, ◌^◌, ◌+◌, ◌++◌, ◌∷◌, [], length, take};
+ghost use Rattle.std.specs.Prelude.{◌≡◌, ◌≤◌, ◌<◌, ◌^◌, ◌+◌, ◌/◌, ◌%◌, ◌++◌, ◌∷◌, [], length, take};
 ghost use Rattle.std.specs.Fmt.{decimal, signed_decimal};
 ghost use Rattle.rows_values.specs.TimeTexts.{padded};
 
@@ -119,6 +119,56 @@ fn put_counted(text: &mut [u8], at: usize, count: usize, number: u64) -> usize
     end
 }
 
+/// Writes a number below 10,000 in decimal.
+#[inline(always)]
+fn put_short(text: &mut [u8], at: usize, number: u32) -> usize
+    requires small { number < 10000 }
+    requires room { at + 4 ≤ length text.old }
+    ensures end { result ≡ at + length (decimal number) }
+    ensures most { result ≤ at + 4 }
+    ensures text { take result text.new ≡ take at text.old ++ decimal number }
+{
+    if number < 10 {
+        return put_byte(text, at, b'0' + number as u8);
+    }
+    if number < 100 {
+        return put_two(text, at, number);
+    }
+    if number < 1000 {
+        let end = put_byte(text, at, b'0' + (number / 100) as u8);
+        return put_two(text, end, number % 100);
+    }
+    put_four(text, at, number)
+}
+
+/// Writes a number below 100,000,000 in decimal.
+#[inline(always)]
+fn put_middle(text: &mut [u8], at: usize, number: u32) -> usize
+    requires small { number < 100000000 }
+    requires room { at + 8 ≤ length text.old }
+    ensures end { result ≡ at + length (decimal number) }
+    ensures most { result ≤ at + 8 }
+    ensures text { take result text.new ≡ take at text.old ++ decimal number }
+{
+    if number < 10_000 {
+        return put_short(text, at, number);
+    }
+    let end = put_short(text, at, number / 10_000);
+    put_four(text, end, number % 10_000)
+}
+
+/// Writes a number below 100,000,000 in eight digits.
+#[inline(always)]
+fn put_eight(text: &mut [u8], at: usize, number: u32) -> usize
+    requires small { number < 100000000 }
+    requires room { at + 8 ≤ length text.old }
+    ensures end { result ≡ at + 8 }
+    ensures text { take result text.new ≡ take at text.old ++ (padded 4 (number / 10000) ++ padded 4 (number % 10000)) }
+{
+    let end = put_four(text, at, number / 10_000);
+    put_four(text, end, number % 10_000)
+}
+
 /// Writes a number in decimal.
 #[inline(always)]
 pub fn put_number(text: &mut [u8], at: usize, number: u64) -> usize
@@ -127,10 +177,30 @@ pub fn put_number(text: &mut [u8], at: usize, number: u64) -> usize
     ensures most { result ≤ at + 20 }
     ensures text { take result text.new ≡ take at text.old ++ decimal number }
 {
-    if number < 10 {
-        return put_byte(text, at, b'0' + number as u8);
+    if number < 100_000_000 {
+        return put_middle(text, at, number as u32);
     }
-    put_counted(text, at, digit_count(number), number)
+    put_long(text, at, number)
+}
+
+/// Writes a number of nine digits or more in decimal.
+#[inline]
+fn put_long(text: &mut [u8], at: usize, number: u64) -> usize
+    requires long { 100000000 ≤ number }
+    requires room { at + 20 ≤ length text.old }
+    ensures end { result ≡ at + length (decimal number) }
+    ensures most { result ≤ at + 20 }
+    ensures text { take result text.new ≡ take at text.old ++ decimal number }
+{
+    let front = number / 100_000_000;
+    let last = (number % 100_000_000) as u32;
+    if front < 100_000_000 {
+        let end = put_middle(text, at, front as u32);
+        return put_eight(text, end, last);
+    }
+    let end = put_short(text, at, (front / 100_000_000) as u32);
+    let end = put_eight(text, end, (front % 100_000_000) as u32);
+    put_eight(text, end, last)
 }
 
 /// Writes a signed number in decimal.

@@ -11,7 +11,7 @@ static DIGITS: [u8; 16] = *b"0123456789abcdef";
 
 /// Writes a backslash and the two hexadecimal digits of a byte.
 #[inline(always)]
-fn put_escape(text: &mut [u8], at: usize, byte: u8) -> usize
+pub(crate) fn put_escape(text: &mut [u8], at: usize, byte: u8) -> usize
     requires { at + 3 ≤ length text.old }
     ensures end { result ≡ at + 3 }
     ensures text { take result text.new ≡ take at text.old ++ escape byte }

@@ -9,10 +9,12 @@ mod digits;
 mod escapes;
 mod hexadecimal;
 mod plain;
+mod quoted;
 mod times;
 
 pub use digits::{put_byte, put_bytes, put_number, put_padded, put_signed};
 pub use escapes::put_escapes;
 pub use hexadecimal::put_hexadecimal;
 pub use plain::{is_plain, plain_len};
+pub use quoted::{put_between, put_quoted};
 pub use times::{Clock, Day, put_clock, put_day};

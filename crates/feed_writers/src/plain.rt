@@ -17,7 +17,7 @@ pub fn is_plain(byte: u8) -> bool
 
 /// Whether the first eight bytes stand for themselves.
 #[inline(always)]
-fn are_eight_plain(bytes: &[u8]) -> bool
+pub(crate) fn are_eight_plain(bytes: &[u8]) -> bool
     requires { 8 ≤ length bytes.now }
     ensures { OnTrue result (PlainTo bytes.now 8) }
 {
@@ -31,7 +31,7 @@ fn are_eight_plain(bytes: &[u8]) -> bool
 
 /// Whether the first four bytes stand for themselves.
 #[inline(always)]
-fn are_four_plain(bytes: &[u8]) -> bool
+pub(crate) fn are_four_plain(bytes: &[u8]) -> bool
     requires { 4 ≤ length bytes.now }
     ensures { OnTrue result (PlainTo bytes.now 4) }
 {

@@ -8,11 +8,8 @@ use Rattle.rows_cells.specs.declared.form.CellForm.TheVariants.{Signed}
 use Rattle.rows_cells.specs.declared.form.CellForm.{CellForm}
 use Rattle.rows_cells.specs.declared.image.ImageColumn.{ImageColumn}
 use Rattle.rows_cells.specs.CellValues.{CellValue}
+use Rattle.rows_cells.specs.ImageViews.{no_column}
 use Rattle.rows_cells.specs.Images.{bit, form_in, field_at, cells_at}
-
--- what indexing answers where there is no such column
-abbrev pub no_column : ImageColumn
-no_column = record { place = 0; form = Signed One; json_index = 0 }
 
 pub all_given : (bits nulls : List ℕ) (columns : List ImageColumn) (bytes : List ℕ) (k : ℕ) → length columns ≤ k → cells_at bits nulls k (drop k columns) bytes ≡ Ok ([], bytes)
 unfolding cells_at

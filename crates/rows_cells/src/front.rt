@@ -4,7 +4,8 @@ ghost use Rattle.std.specs.Prelude.{◌≡◌, IfOk};
 ghost use Rattle.rows_decimal.specs.Unpacked.{packed_text};
 ghost use Rattle.rows_jsonb.specs.JsonbViews.{shown};
 ghost use Rattle.rows_cells.specs.CellForms.{size_of, decimal_size};
-ghost use Rattle.rows_cells.specs.CellValues.{worth, decimal_value};
+ghost use Rattle.rows_cells.specs.declared.form.CellForm.TheVariants.{Signed, Unsigned, Counted, Datetime2, Time2};
+ghost use Rattle.rows_cells.specs.CellValues.{int, bytes as bytes_value, date_of, span_of, worth, decimal_value};
 ghost use Rattle.rows_cells.specs.Cells.{content_at, cell_at, IsSized};
 ghost use Rattle.rows_cells.specs.CellViews.{cell_value, IsReadable};
 
@@ -30,6 +31,65 @@ pub fn cell_front(form: CellForm, bytes: &[u8]) -> Result<(CellRef<'_>, &[u8]), 
     let (content, rest) = content_front(form, bytes)?;
     let cell = cell_of(form, content)?;
     Ok((cell, rest))
+}
+
+/// The signed number of so many bytes at the front, and what follows it; `EndOfBody` where fewer are there.
+#[inline(always)]
+#[tactic(auto, unfolding(crate::specs::Cells::cell_at))]
+pub fn signed_front(bytes: &[u8], width: Width) -> Result<(i64, &[u8]), RowsError>
+    ensures { shown (λ x. (int x.0, x.1.now)) result ≡ cell_at (Signed width) bytes.now }
+{
+    let (content, rest) = split_front(bytes, width.bytes())?;
+    Ok((signed(content, width), rest))
+}
+
+/// The cell of an unsigned number of so many bytes at the front, and what follows it; `EndOfBody` where fewer
+/// are there.
+#[inline(always)]
+#[tactic(auto, unfolding(crate::specs::Cells::cell_at))]
+pub fn unsigned_front(bytes: &[u8], width: Width) -> Result<(CellRef<'_>, &[u8]), RowsError>
+    ensures { shown (λ x. (cell_value x.0, x.1.now)) result ≡ cell_at (Unsigned width) bytes.now }
+{
+    let (content, rest) = split_front(bytes, width.bytes())?;
+    let number = unsigned(content, width);
+    match width {
+        Width::Eight => Ok((CellRef::UInt(number), rest)),
+        _ => Ok((CellRef::Int(number as i64), rest)),
+    }
+}
+
+/// The bytes behind a length of so many bytes at the front, and what follows them; `EndOfBody` where fewer are
+/// there.
+#[inline(always)]
+#[tactic(auto, unfolding(crate::specs::Cells::cell_at))]
+pub fn bytes_front(bytes: &[u8], width: Width) -> Result<(&[u8], &[u8]), RowsError>
+    ensures { shown (λ x. (bytes_value x.0.now, x.1.now)) result ≡ cell_at (Counted width) bytes.now }
+{
+    counted_front(bytes, width)
+}
+
+/// The packed date and time with so many decimals at the front, and what follows it; `EndOfBody` where it isn't
+/// whole.
+#[inline(always)]
+#[tactic(auto, unfolding(crate::specs::Cells::cell_at))]
+pub fn datetime_front(bytes: &[u8], decimals: u8) -> Result<(i64, &[u8]), RowsError>
+    ensures { shown (λ x. (date_of x.0, x.1.now)) result ≡ cell_at (Datetime2 decimals) bytes.now }
+{
+    let decimals = u32::from(decimals);
+    let (content, rest) = split_front(bytes, 5 + fraction_size(decimals))?;
+    Ok((datetime_of(content, decimals), rest))
+}
+
+/// The packed span of time with so many decimals at the front, and what follows it; `EndOfBody` where it isn't
+/// whole.
+#[inline(always)]
+#[tactic(auto, unfolding(crate::specs::Cells::cell_at))]
+pub fn time_front(bytes: &[u8], decimals: u8) -> Result<(i64, &[u8]), RowsError>
+    ensures { shown (λ x. (span_of x.0, x.1.now)) result ≡ cell_at (Time2 decimals) bytes.now }
+{
+    let decimals = u32::from(decimals);
+    let (content, rest) = split_front(bytes, 3 + fraction_size(decimals))?;
+    Ok((time_of(content, decimals), rest))
 }
 
 /// The content of the cell at the front, without the length before it, and what follows the cell.
@@ -58,9 +118,11 @@ fn content_front(form: CellForm, bytes: &[u8]) -> Result<(&[u8], &[u8]), RowsErr
     }
 }
 
-/// The bytes of a packed decimal and what follows them.
+/// The bytes of a packed decimal of `precision` digits, `scale` of them after the point, and what follows them;
+/// whether they pack one isn't looked at. `Decimal` where scale is past precision, `EndOfBody` where fewer bytes
+/// are there.
 #[inline(always)]
-fn decimal_front(bytes: &[u8], precision: u8, scale: u8) -> Result<(&[u8], &[u8]), RowsError>
+pub fn decimal_front(bytes: &[u8], precision: u8, scale: u8) -> Result<(&[u8], &[u8]), RowsError>
     ensures { shown (λ x. (x.0.now, x.1.now)) result ≡ content_at (decimal_size precision scale) bytes.now }
 {
     if scale > precision {

@@ -33,6 +33,19 @@ pub struct ImagePlan<'p> {
     pub json_columns: Option<u32>,
 }
 
+/// What is known of a cell before it is read.
+#[derive(Clone, Copy, Debug)]
+pub struct ImageField<'a> {
+    /// Its column's place in the table, from 0.
+    pub place: u32,
+    /// Whether it is NULL, which takes no bytes.
+    pub is_null: bool,
+    /// How it stands in bytes, where it isn't NULL.
+    pub form: CellForm,
+    /// The bytes that begin with it.
+    pub bytes: &'a [u8],
+}
+
 /// The cells of an image that are still to come, borrowed from the bytes of the rows event. It takes no
 /// memory.
 #[derive(Clone, Copy)]
@@ -47,9 +60,9 @@ pub struct ImageCells<'p, 'a> {
 }
 
 impl<'p, 'a> ImageCells<'p, 'a> {
-    ghost use Rattle.std.specs.Prelude.{IfOk, IfErr, Ok, Err, []};
+    ghost use Rattle.std.specs.Prelude.{IfOk, IfErr, IfSome, IfNone, Ok, Err, []};
     ghost use Rattle.rows_cells.specs.Images.{image_at};
-    ghost use Rattle.rows_cells.specs.ImageViews.{image_shape, cells_left, cells_count, TakesCell};
+    ghost use Rattle.rows_cells.specs.ImageViews.{image_shape, cells_left, cells_count, TakesCell, IsNextField, PassesField};
 
     /// The cells of the image at the front of the bytes, in order.
     ///
@@ -105,6 +118,34 @@ impl<'p, 'a> ImageCells<'p, 'a> {
             }
             Err(fault) => Err(fault),
         }
+    }
+
+    /// The next field; none once all cells were given.
+    #[inline(always)]
+    pub fn next_field(&self) -> Option<ImageField<'a>>
+        ensures none { IfNone result (length self.now.columns.now ≤ self.now.index) }
+        ensures some { IfSome result (IsNextField self.now) }
+    {
+        if self.index >= self.columns.len() {
+            return None;
+        }
+        let column = self.columns[self.index];
+        Some(ImageField {
+            place: column.place,
+            is_null: bit_at(self.nulls, self.index),
+            form: form_of(self.bits, column),
+            bytes: self.rest,
+        })
+    }
+
+    /// Goes behind the next field, which `rest` follows.
+    #[inline(always)]
+    pub fn pass_field(&mut self, rest: &'a [u8])
+        requires { self.now.index < length self.now.columns.now }
+        ensures { PassesField self.old rest.entry.now self.new }
+    {
+        self.index += 1;
+        self.rest = rest;
     }
 
     /// The bytes behind the cells that were given.

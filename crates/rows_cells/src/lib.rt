@@ -23,7 +23,9 @@ pub use binlog_value::BinlogValue;
 pub use cell::CellRef;
 pub use conversions::BinlogValueToValueError;
 pub use form::{CellForm, Width};
-pub use front::cell_front;
-pub use image::{ImageCells, ImageColumn, ImagePlan};
+pub use front::{
+    bytes_front, cell_front, datetime_front, decimal_front, signed_front, time_front, unsigned_front,
+};
+pub use image::{ImageCells, ImageColumn, ImageField, ImagePlan};
 pub use rows::{RowPart, RowPlan, RowsCursor};
 pub use value_field::BinlogValueCtx;

@@ -1,0 +1,215 @@
+//! The text of the cell at the front of bytes, straight into a buffer that has room for it.
+//!
+//! A cell that can't be read, and one whose text may be long, is left to others: these writers answer None then.
+
+ghost use Rattle.std.specs.Prelude.{◌≡◌, ◌≤◌, ◌+◌, ◌++◌, length, take, false};
+ghost use Rattle.rows_cells.specs.declared.form.CellForm.TheVariants.{Signed, Unsigned, Counted, Datetime2, Time2, Decimal};
+ghost use Rattle.feed_text.specs.FieldText.{WritesOrNone};
+
+use crate::decimals::write_quoted;
+use crate::parts::{datetime_parts, time_parts};
+use crate::short::{FEW, FEW_DIGITS, put_date, put_span};
+use feed_writers::{put_byte, put_bytes, put_number, put_quoted, put_signed};
+use rows_cells::{
+    CellForm, CellRef, ImageField, Width, bytes_front, datetime_front, decimal_front, signed_front,
+    time_front, unsigned_front,
+};
+
+/// Writes the text of a field.
+#[inline(always)]
+pub(crate) fn put_field<'a>(
+    text: &mut [u8],
+    at: usize,
+    field: ImageField<'a>,
+) -> Option<(usize, &'a [u8])>
+    requires { at + 76 ≤ length text.old }
+    ensures { WritesOrNone field.entry.is_null field.entry.form field.entry.bytes.now at text.old text.new result }
+{
+    if field.is_null {
+        return Some((put_bytes(text, at, b"NULL"), field.bytes));
+    }
+    match field.form {
+        CellForm::Signed(width) => put_signed_field(text, at, field.bytes, width),
+        CellForm::Unsigned(width) => put_unsigned_field(text, at, field.bytes, width),
+        CellForm::Counted(Width::One) => put_bytes_field(text, at, field.bytes, Width::One),
+        CellForm::Counted(Width::Two) => put_bytes_field(text, at, field.bytes, Width::Two),
+        CellForm::Datetime2(decimals) => put_datetime_field(text, at, field.bytes, decimals),
+        CellForm::Decimal(precision, scale) => {
+            put_decimal_field(text, at, field.bytes, precision, scale)
+        }
+        CellForm::Time2(decimals) => put_time_field(text, at, field.bytes, decimals),
+        _ => None,
+    }
+}
+
+/// Writes the text of a signed number.
+#[inline(always)]
+fn put_signed_field<'a>(
+    text: &mut [u8],
+    at: usize,
+    bytes: &'a [u8],
+    width: Width,
+) -> Option<(usize, &'a [u8])>
+    requires { at + 76 ≤ length text.old }
+    ensures { WritesOrNone false (Signed width) bytes.now at text.old text.new result }
+{
+    match width {
+        Width::One => put_signed_of(text, at, bytes, Width::One),
+        Width::Two => put_signed_of(text, at, bytes, Width::Two),
+        Width::Three => put_signed_of(text, at, bytes, Width::Three),
+        Width::Four => put_signed_of(text, at, bytes, Width::Four),
+        Width::Eight => put_signed_of(text, at, bytes, Width::Eight),
+    }
+}
+
+/// The same, for one width.
+#[inline(always)]
+#[tactic(auto, unfolding(crate::specs::CellText::text_of))]
+fn put_signed_of<'a>(
+    text: &mut [u8],
+    at: usize,
+    bytes: &'a [u8],
+    width: Width,
+) -> Option<(usize, &'a [u8])>
+    requires { at + 76 ≤ length text.old }
+    ensures { WritesOrNone false (Signed width) bytes.now at text.old text.new result }
+{
+    match signed_front(bytes, width) {
+        Ok((number, rest)) => Some((put_signed(text, at, number), rest)),
+        Err(_) => None,
+    }
+}
+
+/// Writes the text of an unsigned number.
+#[inline(always)]
+fn put_unsigned_field<'a>(
+    text: &mut [u8],
+    at: usize,
+    bytes: &'a [u8],
+    width: Width,
+) -> Option<(usize, &'a [u8])>
+    requires { at + 76 ≤ length text.old }
+    ensures { WritesOrNone false (Unsigned width) bytes.now at text.old text.new result }
+{
+    match width {
+        Width::One => put_unsigned_of(text, at, bytes, Width::One),
+        Width::Two => put_unsigned_of(text, at, bytes, Width::Two),
+        Width::Three => put_unsigned_of(text, at, bytes, Width::Three),
+        Width::Four => put_unsigned_of(text, at, bytes, Width::Four),
+        Width::Eight => put_unsigned_of(text, at, bytes, Width::Eight),
+    }
+}
+
+/// The same, for one width.
+#[inline(always)]
+#[tactic(auto, unfolding(crate::specs::CellText::text_of))]
+fn put_unsigned_of<'a>(
+    text: &mut [u8],
+    at: usize,
+    bytes: &'a [u8],
+    width: Width,
+) -> Option<(usize, &'a [u8])>
+    requires { at + 76 ≤ length text.old }
+    ensures { WritesOrNone false (Unsigned width) bytes.now at text.old text.new result }
+{
+    match unsigned_front(bytes, width) {
+        Ok((CellRef::Int(number), rest)) => Some((put_signed(text, at, number), rest)),
+        Ok((CellRef::UInt(number), rest)) => {
+            let start = put_byte(text, at, b'u');
+            Some((put_number(text, start, number), rest))
+        }
+        _ => None,
+    }
+}
+
+/// Writes the text of bytes, where they are few.
+#[inline(always)]
+#[tactic(auto, unfolding(crate::specs::CellText::text_of))]
+fn put_bytes_field<'a>(
+    text: &mut [u8],
+    at: usize,
+    bytes: &'a [u8],
+    width: Width,
+) -> Option<(usize, &'a [u8])>
+    requires { at + 76 ≤ length text.old }
+    ensures { WritesOrNone false (Counted width) bytes.now at text.old text.new result }
+{
+    match bytes_front(bytes, width) {
+        Ok((content, rest)) => {
+            if content.len() > FEW {
+                return None;
+            }
+            Some((put_quoted(text, at, content), rest))
+        }
+        Err(_) => None,
+    }
+}
+
+/// Writes the text of a date and time.
+#[inline(always)]
+#[tactic(auto, unfolding(crate::specs::CellText::text_of, crate::specs::ShortTexts::short_text))]
+fn put_datetime_field<'a>(
+    text: &mut [u8],
+    at: usize,
+    bytes: &'a [u8],
+    decimals: u8,
+) -> Option<(usize, &'a [u8])>
+    requires { at + 76 ≤ length text.old }
+    ensures { WritesOrNone false (Datetime2 decimals) bytes.now at text.old text.new result }
+{
+    match datetime_front(bytes, decimals) {
+        Ok((packed, rest)) => {
+            let (day, clock) = datetime_parts(packed);
+            Some((put_date(text, at, day, clock), rest))
+        }
+        Err(_) => None,
+    }
+}
+
+/// Writes the text of a span of time.
+#[inline(always)]
+#[tactic(auto, unfolding(crate::specs::CellText::text_of, crate::specs::ShortTexts::short_text))]
+fn put_time_field<'a>(
+    text: &mut [u8],
+    at: usize,
+    bytes: &'a [u8],
+    decimals: u8,
+) -> Option<(usize, &'a [u8])>
+    requires { at + 76 ≤ length text.old }
+    ensures { WritesOrNone false (Time2 decimals) bytes.now at text.old text.new result }
+{
+    match time_front(bytes, decimals) {
+        Ok((packed, rest)) => {
+            let (is_negative, days, clock) = time_parts(packed);
+            Some((put_span(text, at, is_negative, days, clock), rest))
+        }
+        Err(_) => None,
+    }
+}
+
+/// Writes the text of a decimal, where it has few digits.
+#[inline(always)]
+fn put_decimal_field<'a>(
+    text: &mut [u8],
+    at: usize,
+    bytes: &'a [u8],
+    precision: u8,
+    scale: u8,
+) -> Option<(usize, &'a [u8])>
+    requires { at + 76 ≤ length text.old }
+    ensures { WritesOrNone false (Decimal precision scale) bytes.now at text.old text.new result }
+{
+    if precision > FEW_DIGITS {
+        return None;
+    }
+    match decimal_front(bytes, precision, scale) {
+        Ok((content, rest)) => {
+            let (precision, scale) = (usize::from(precision), usize::from(scale));
+            match write_quoted(text, at, precision, scale, content) {
+                Some(end) => Some((end, rest)),
+                None => None,
+            }
+        }
+        Err(_) => None,
+    }
+}

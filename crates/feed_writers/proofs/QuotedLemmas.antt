@@ -1,0 +1,32 @@
+-- Bytes between quotes, some at a time.
+use Rattle.std.proofs.Common.{◌≡◌, ℕ, zero, suc, ◌+◌, ◌≤◌, ◌<◌, List, [], ◌∷◌, ◌++◌, length, take, drop, true, refl, sym, ap, ◌∙◌, append_assoc, arith}
+use Rattle.std.proofs.lemmas.List.{append-nil, take_all}
+use Rattle.std.specs.List.{flat_map}
+use Rattle.feed_writers.specs.Quoting.{is_plain_byte, quoted_byte, quoted}
+use Rattle.feed_writers.specs.PlainBytes.{PlainTo}
+
+-- plain bytes at the front stand for themselves
+pub plain_front : (n : ℕ) (d : List ℕ) → n ≤ length d → PlainTo d n → flat_map quoted_byte d ≡ take n d ++ flat_map quoted_byte (drop n d)
+plain_front zero d room h = refl
+plain_front (suc n) [] room h = absurd (omega arith)
+plain_front (suc n) (x ∷ d) room h = rw (h 0 (omega arith)) (ap (λ (t : List ℕ). x ∷ t) (plain_front n d (omega arith) (λ k q. h (suc k) (omega arith))))
+
+-- plain bytes were written as they stand
+pub plain_written : (base new d : List ℕ) → PlainTo d (length d) → new ≡ base ++ d → new ≡ base ++ flat_map quoted_byte d
+plain_written base new d h is =
+    is ∙ ap (λ (t : List ℕ). base ++ t) (sym (plain_front (length d) d (omega arith) h ∙ rw (take_all (length d) d (omega arith), drop_whole d) (append-nil d)))
+  where
+    drop_whole : (s : List ℕ) → drop (length s) s ≡ []
+    drop_whole [] = refl
+    drop_whole (x ∷ s) = drop_whole s
+
+-- the first n bytes were written as they stand, and then the others
+pub front_then : (base one new d front after : List ℕ) (n : ℕ) → front ≡ take n d → after ≡ drop n d → flat_map quoted_byte d ≡ take n d ++ flat_map quoted_byte (drop n d)
+    → one ≡ base ++ front → new ≡ one ++ flat_map quoted_byte after → new ≡ base ++ flat_map quoted_byte d
+front_then base one new d front after n f a e first is =
+    is ∙ rw (first, f, a, e) (append_assoc base (take n d) (flat_map quoted_byte (drop n d)))
+
+-- a quote, the bytes and a quote
+pub quotes_written : (base one two new d : List ℕ) → one ≡ base ++ 39 ∷ [] → two ≡ one ++ flat_map quoted_byte d → new ≡ two ++ 39 ∷ [] → new ≡ base ++ quoted d
+unfolding quoted
+quotes_written base one two new d first second is = is ∙ ap (λ (t : List ℕ). t ++ 39 ∷ []) (second ∙ ap (λ (t : List ℕ). t ++ flat_map quoted_byte d) first) ∙ simp append_assoc

@@ -1,0 +1,94 @@
+//! Bytes between quotes, eight at a time.
+
+ghost use Rattle.std.specs.Prelude.{◌≡◌, ◌≤◌, ◌+◌, ◌*◌, ◌++◌, length, take};
+ghost use Rattle.std.specs.List.{flat_map};
+ghost use Rattle.feed_writers.specs.Quoting.{quoted, quoted_byte};
+
+use crate::digits::{put_byte, put_bytes};
+use crate::escapes::put_escape;
+use crate::plain::{are_eight_plain, are_four_plain, is_plain};
+
+/// Writes bytes between single quotes.
+#[inline(always)]
+pub fn put_quoted(text: &mut [u8], at: usize, bytes: &[u8]) -> usize
+    requires { at + (3 * length bytes.now + 2) ≤ length text.old }
+    ensures most { result ≤ at + (3 * length bytes.now + 2) }
+    ensures text { take result text.new ≡ take at text.old ++ quoted bytes.now }
+{
+    let start = put_byte(text, at, b'\'');
+    let end = put_between(text, start, bytes);
+    put_byte(text, end, b'\'')
+}
+
+/// Writes bytes as they stand between quotes.
+#[inline(always)]
+pub fn put_between(text: &mut [u8], at: usize, bytes: &[u8]) -> usize
+    requires { at + 3 * length bytes.now ≤ length text.old }
+    ensures most { result ≤ at + 3 * length bytes.now }
+    ensures text { take result text.new ≡ take at text.old ++ flat_map quoted_byte bytes.now }
+{
+    let mut end = at;
+    let mut rest = bytes;
+    while rest.len() >= 8 {
+        let (eight, after) = rest.split_at(8);
+        end = put_eight(text, end, eight);
+        rest = after;
+    }
+    put_few(text, end, rest)
+}
+
+/// Writes eight bytes as they stand between quotes.
+#[inline(always)]
+fn put_eight(text: &mut [u8], at: usize, bytes: &[u8]) -> usize
+    requires eight { length bytes.now ≡ 8 }
+    requires room { at + 24 ≤ length text.old }
+    ensures most { result ≤ at + 24 }
+    ensures text { take result text.new ≡ take at text.old ++ flat_map quoted_byte bytes.now }
+{
+    if are_eight_plain(bytes) {
+        return put_bytes(text, at, bytes);
+    }
+    put_each(text, at, bytes)
+}
+
+/// Writes fewer than eight bytes as they stand between quotes.
+#[inline(always)]
+fn put_few(text: &mut [u8], at: usize, bytes: &[u8]) -> usize
+    requires { at + 3 * length bytes.now ≤ length text.old }
+    ensures most { result ≤ at + 3 * length bytes.now }
+    ensures text { take result text.new ≡ take at text.old ++ flat_map quoted_byte bytes.now }
+{
+    if bytes.len() >= 4 && are_four_plain(bytes) {
+        let (four, after) = bytes.split_at(4);
+        let end = put_bytes(text, at, four);
+        return put_each(text, end, after);
+    }
+    put_each(text, at, bytes)
+}
+
+/// Writes each byte as it stands between quotes.
+#[inline(always)]
+fn put_each(text: &mut [u8], at: usize, bytes: &[u8]) -> usize
+    requires { at + 3 * length bytes.now ≤ length text.old }
+    ensures most { result ≤ at + 3 * length bytes.now }
+    ensures text { take result text.new ≡ take at text.old ++ flat_map quoted_byte bytes.now }
+{
+    let mut end = at;
+    for byte in bytes {
+        end = put_one(text, end, *byte);
+    }
+    end
+}
+
+/// Writes a byte as it stands between quotes.
+#[inline(always)]
+fn put_one(text: &mut [u8], at: usize, byte: u8) -> usize
+    requires { at + 3 ≤ length text.old }
+    ensures most { result ≤ at + 3 }
+    ensures text { take result text.new ≡ take at text.old ++ quoted_byte byte }
+{
+    if is_plain(byte) {
+        return put_byte(text, at, byte);
+    }
+    put_escape(text, at, byte)
+}
