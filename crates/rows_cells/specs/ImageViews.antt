@@ -12,7 +12,7 @@ use Rattle.rows_cells.specs.declared.image.ImageField.{ImageField}
 use Rattle.rows_cells.specs.declared.image.ImagePlan.{ImagePlan}
 use Rattle.rows_cells.specs.declared.image.ImageCells.{ImageCells}
 use Rattle.rows_cells.specs.CellValues.{CellValue}
-use Rattle.rows_cells.specs.CellViews.{cell_value}
+use Rattle.rows_cells.specs.CellViews.{cell_value, IsReadable}
 use Rattle.rows_cells.specs.Images.{PlacedValue, ImageShape, bit, form_in, field_at, cells_at}
 
 abbrev pub image_shape : ImagePlan → ImageShape
@@ -26,9 +26,9 @@ cells_left c = cells_at c.bits.now c.nulls.now c.index (drop c.index c.columns.n
 abbrev pub cells_count : ImageCells → ℕ
 cells_count c = length c.columns.now - c.index
 
--- the next cell was given, and the others are left; or all were given before, and only the rest is left; or it can't be read, and nothing has changed
+-- the next cell was given, which can be read, and the others are left; or all were given before, and only the rest is left; or it can't be read, and nothing has changed
 abbrev pub TakesCell : ImageCells → Result (Option (ℕ × CellRef)) RowsError → ImageCells → Type 0
-TakesCell old (Ok (Some x)) new = (cells_left old ≡ (cells_left new >>= λ left. Ok (record { place = x.0; value = cell_value x.1 } ∷ left.0, left.1))) × (cells_count old ≡ suc (cells_count new))
+TakesCell old (Ok (Some x)) new = (cells_left old ≡ (cells_left new >>= λ left. Ok (record { place = x.0; value = cell_value x.1 } ∷ left.0, left.1))) × (cells_count old ≡ suc (cells_count new)) × IsReadable x.1
 TakesCell old (Ok None) new = (cells_left old ≡ Ok ([], old.rest.now)) × (cells_count old ≡ 0) × (new ≡ old)
 TakesCell old (Err e) new = (cells_left old ≡ Err e) × (new ≡ old)
 

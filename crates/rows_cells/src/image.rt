@@ -1,8 +1,8 @@
 //! The image of a row: its null bits, and the cells of the columns in it, one at a time.
 
-ghost use Rattle.std.specs.Prelude.{◌≡◌, ◌≤◌, ◌<◌, ◌*◌, ℕ, List, length};
+ghost use Rattle.std.specs.Prelude.{◌≡◌, ◌≤◌, ◌<◌, ◌*◌, ℕ, List, length, IfOk};
 ghost use Rattle.rows_jsonb.specs.JsonbViews.{shown};
-ghost use Rattle.rows_cells.specs.CellViews.{cell_value};
+ghost use Rattle.rows_cells.specs.CellViews.{cell_value, IsReadable};
 ghost use Rattle.rows_cells.specs.Images.{bit, form_in, field_at, lenenc_fault as fault_of_lenenc, lenenc_at, shared_at};
 
 use crate::cell::CellRef;
@@ -218,7 +218,8 @@ fn field_front(
     form: CellForm,
     bytes: &[u8],
 ) -> Result<(CellRef<'_>, &[u8]), RowsError>
-    ensures { shown (λ x. (cell_value x.0, x.1.now)) result ≡ field_at is_null form bytes.now }
+    ensures value { shown (λ x. (cell_value x.0, x.1.now)) result ≡ field_at is_null form bytes.now }
+    ensures readable { IfOk result (λ x. IsReadable x.0) }
 {
     if is_null {
         return Ok((CellRef::Null, bytes));
