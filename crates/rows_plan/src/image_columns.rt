@@ -46,11 +46,13 @@ impl ImageColumns {
         plan.image_columns(bits, &mut self.columns)
     }
 
-    /// The columns in order.
-    pub fn into_columns(self) -> Vec<ImageColumn>
-        ensures { result ≡ self.columns }
+    /// The columns in order; and where JSON documents may stand as their changes, how many JSON columns the table
+    /// has.
+    pub fn into_parts(self) -> (Vec<ImageColumn>, Option<u32>)
+        ensures columns { result.0 ≡ self.columns }
+        ensures json { result.1 ≡ self.json_columns }
     {
-        self.columns
+        (self.columns, self.json_columns)
     }
 
     /// The columns as a reader of images takes them.
