@@ -1,0 +1,3 @@
+pub mod ImagePlaces
+pub mod OwnedRows
+pub mod PlainRows
