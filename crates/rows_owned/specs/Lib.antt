@@ -1,0 +1,4 @@
+pub mod ImagePlaces
+pub mod OwnedRows
+pub mod PlainRows
+pub mod RowImages
