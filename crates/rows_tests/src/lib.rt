@@ -31,6 +31,8 @@ mod packed_decimals;
 #[cfg(test)]
 mod rows;
 #[cfg(test)]
+mod rows_events;
+#[cfg(test)]
 mod table_maps;
 #[cfg(test)]
 mod texts;
