@@ -4,6 +4,7 @@
 #![tactic(auto)]
 
 mod extra_data;
+pub mod laws;
 mod maybe;
 mod rows_event;
 mod rows_event_ctx;
