@@ -9,16 +9,24 @@ use wire_buf::{MyDeserialize, MySerialize, ParseBuf, WireFault};
 
 /// Events of the table 7 with the flag `STMT_END`: a row of one INT column, and others of nine columns.
 const INSERTED: &[u8] = b"\x07\0\0\0\0\0\x01\0\x02\0\x01\x01\x00\x05\0\0\0";
+
 const UPDATED: &[u8] = b"\x07\0\0\0\0\0\x01\0\x02\0\x09\xff\x01\x05\0\xab\xcd";
+
 const DELETED: &[u8] = b"\x07\0\0\0\0\0\x01\0\x02\0\x09\x05\x01\xab";
+
 const INSERTED_V1: &[u8] = b"\x07\0\0\0\0\0\x01\0\x01\x01\x00\x05\0\0\0";
+
 const UPDATED_V1: &[u8] = b"\x07\0\0\0\0\0\x01\0\x09\xff\x01\x05\0\xab\xcd";
+
 const DELETED_V1: &[u8] = b"\x07\0\0\0\0\0\x01\0\x09\x05\x01\xab";
 
 /// The first column alone; all nine columns; the first and the third of nine; these and the last.
 const ONE: Option<&[bool]> = Some(&[true]);
+
 const ALL: Option<&[bool]> = Some(&[true, true, true, true, true, true, true, true, true]);
+
 const TWO: Option<&[bool]> = Some(&[true, false, true, false, false, false, false, false, false]);
+
 const THREE: Option<&[bool]> = Some(&[true, false, true, false, false, false, false, false, true]);
 
 /// The rows event of the type that these bytes are, by these post-header lengths.
@@ -101,11 +109,56 @@ fn rows_events_of_each_type(rt: HostRuntime) {
     let (row, rows) = (b"\x00\x05\0\0\0".as_slice(), b"\xab\xcd".as_slice());
     assert!(rt; is_event(alloc, EventType::WRITE_ROWS_EVENT, INSERTED, None, ONE, row));
     assert!(rt; is_event(alloc, EventType::UPDATE_ROWS_EVENT, UPDATED, ALL, TWO, rows));
-    assert!(rt; is_event(alloc, EventType::PARTIAL_UPDATE_ROWS_EVENT, UPDATED, ALL, TWO, rows));
-    assert!(rt; is_event(alloc, EventType::DELETE_ROWS_EVENT, DELETED, THREE, None, b"\xab"));
-    assert!(rt; is_event(alloc, EventType::WRITE_ROWS_EVENT_V1, INSERTED_V1, None, ONE, row));
-    assert!(rt; is_event(alloc, EventType::UPDATE_ROWS_EVENT_V1, UPDATED_V1, ALL, TWO, rows));
-    assert!(rt; is_event(alloc, EventType::DELETE_ROWS_EVENT_V1, DELETED_V1, THREE, None, b"\xab"));
+    assert!(rt;
+        is_event(
+            alloc,
+            EventType::PARTIAL_UPDATE_ROWS_EVENT,
+            UPDATED,
+            ALL,
+            TWO,
+            rows
+        )
+    );
+    assert!(rt;
+        is_event(
+            alloc,
+            EventType::DELETE_ROWS_EVENT,
+            DELETED,
+            THREE,
+            None,
+            b"\xab"
+        )
+    );
+    assert!(rt;
+        is_event(
+            alloc,
+            EventType::WRITE_ROWS_EVENT_V1,
+            INSERTED_V1,
+            None,
+            ONE,
+            row
+        )
+    );
+    assert!(rt;
+        is_event(
+            alloc,
+            EventType::UPDATE_ROWS_EVENT_V1,
+            UPDATED_V1,
+            ALL,
+            TWO,
+            rows
+        )
+    );
+    assert!(rt;
+        is_event(
+            alloc,
+            EventType::DELETE_ROWS_EVENT_V1,
+            DELETED_V1,
+            THREE,
+            None,
+            b"\xab"
+        )
+    );
 }
 
 /// Whether the bytes are read by these post-header lengths, with this id, and written as those others.
@@ -183,8 +236,11 @@ fn rows_events_cut_short(rt: HostRuntime) {
     }
     assert!(rt; refusal(alloc, RowsEventType::UpdateRows, &UPDATED[..15]).is_none());
     assert!(rt;
-        refusal(alloc, RowsEventType::UpdateRows, b"\x07\0\0\0\0\0\x01\0\x05\0\x11\x22")
-            == Some(WireFault::Eof)
+        refusal(
+            alloc,
+            RowsEventType::UpdateRows,
+            b"\x07\0\0\0\0\0\x01\0\x05\0\x11\x22"
+        ) == Some(WireFault::Eof)
     );
 }
 
@@ -224,6 +280,23 @@ fn rows_events_at_edges(rt: HostRuntime) {
         }
         Err(_) => assert!(rt; false),
     }
+}
+
+// Events are equal where their fields are.
+#[test]
+fn equal_rows_events(rt: HostRuntime) {
+    let alloc = rt.alloc();
+    let (write, v1) = (RowsEventType::WriteRows, RowsEventType::WriteRowsV1);
+    let first = event(alloc, write, (10, 10), INSERTED);
+    let same = event(alloc, write, (10, 10), INSERTED);
+    let other = event(
+        alloc,
+        write,
+        (10, 10),
+        b"\x07\0\0\0\0\0\x01\0\x02\0\x01\0\x00\x05\0\0\0",
+    );
+    let of_v1 = event(alloc, v1, (10, 10), INSERTED);
+    assert!(rt; first.is_ok() && first == same && first != other && first != of_v1);
 }
 
 #[test]
