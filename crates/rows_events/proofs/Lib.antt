@@ -1,3 +1,4 @@
 pub mod FieldLemmas
 pub mod RowsEventLemmas
 pub mod WritingLemmas
+pub mod EqualLemmas
