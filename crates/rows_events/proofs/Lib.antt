@@ -2,3 +2,4 @@ pub mod FieldLemmas
 pub mod RowsEventLemmas
 pub mod WritingLemmas
 pub mod ShapeLemmas
+pub mod EqualLemmas

@@ -1,6 +1,6 @@
 -- Writing a rows event: what is written is read in the context of its type.
 use Rattle.std.proofs.Common.{◌≡◌, ◌⊎◌, ◌<◌, ◌≤◌, ◌^◌, inl, inr, ℕ, List, length, take, refl, ap, arith, Option, Some, None, Bool, true, false}
-use Rattle.std.specs.Prelude.{option_map, ◌==◌, if◌then◌else◌}
+use Rattle.std.specs.Prelude.{option_map, unwrap_or, [], ◌==◌, if◌then◌else◌}
 use Rattle.std.proofs.lemmas.List.{take_all}
 use Rattle.wire_buf.specs.Spelling.{◌⨾◌, Alone, Both}
 use Rattle.wire_buf.specs.Numbers.{IsLenenc}
@@ -14,7 +14,7 @@ use Rattle.rows_meta.specs.TableMaps.{number, text, id_width}
 use Rattle.rows_meta.proofs.TableMapParts.{written_into}
 use Rattle.rows_events.specs.Fields.{IsMaybe, IsOptional, IsExtra, only_if}
 use Rattle.rows_events.specs.RowsEventTypes.{images_of, has_before, has_after, writes_extra}
-use Rattle.rows_events.specs.RowsEvents.{RowsBody, bits_size, IsRowsEvent, written_ctx, rows_event_spelling}
+use Rattle.rows_events.specs.RowsEvents.{RowsBody, bits_size, IsRowsEvent, IsWrittenWhole, written_ctx, rows_event_spelling}
 use Rattle.rows_events.proofs.RowsEventLemmas.{Front, Counted, parts}
 
 -- pieces in a row, each by another name
@@ -92,3 +92,14 @@ refused_as spelling print a b q e old new named same h = record {
   unchanged = h.unchanged;
   why = elim h.why as (λ _. e ≡ Memory ⊎ ((e ≡ Form) × (print q ≡ None))) [ inl m ↦ inl m | inr n ↦ inr (n.0, rw (← same, ← named) n.1) ];
 }
+
+extra_kept : (b : Bool) (o : Option (List ℕ)) (bytes rest : List ℕ) → IsMaybe (λ u. IsExtra) (only_if ((if b then 10 else 8) == 10) (tt {0})) o bytes rest → only_if b (unwrap_or o []) ≡ o
+extra_kept true None bytes rest h = absurd h
+extra_kept true (Some v) bytes rest h = refl
+extra_kept false None bytes rest h = refl
+extra_kept false (Some v) bytes rest h = absurd h
+
+pub written_whole : IsWrittenWhole
+written_whole r bytes rest h =
+    let e = extra_kept (writes_extra r.event_type) r.extra _ _ h.1.first_is.second_is.second_is in
+    ap (λ (o : Option (List ℕ)). record r { extra = o }) e

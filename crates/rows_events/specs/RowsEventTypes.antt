@@ -7,7 +7,7 @@ use Rattle.rows_events.specs.declared.rows_event_type.RowsEventType.TheVariants 
 use Rattle.rows_events.specs.declared.rows_event_type.RowImages.{RowImages}
 use Rattle.rows_events.specs.declared.rows_event_type.RowImages.TheVariants as images
 
--- the type as one of a rows event, if it is one; those of servers before 5.1.17 aren't read
+-- the type as one of a rows event, if it is one; the three PRE_GA types aren't read
 abbrev pub rows_event_type : EventType → Option RowsEventType
 rows_event_type event.WRITE_ROWS_EVENT_V1 = Some rows.WriteRowsV1
 rows_event_type event.UPDATE_ROWS_EVENT_V1 = Some rows.UpdateRowsV1

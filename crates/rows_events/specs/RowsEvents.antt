@@ -44,7 +44,7 @@ abbrev pub IsRows : RowsEventType → ℕ → ByteForm (Option (List ℕ) × (Op
 IsRows t n (before, (after, rows_data)) =
     IsMaybe text (only_if (has_before (images_of t)) (bits_size n)) before ⨾ IsMaybe text (only_if (has_after (images_of t)) (bits_size n)) after ⨾ IsAll rows_data
 
--- the bytes of a rows event, which end where its bytes do; its type stands before its body
+-- the body of a rows event of the context's type, up to the end of the bytes
 abbrev pub IsRowsEvent : RowsEventCtx → ByteForm RowsBody
 IsRowsEvent ctx r bytes rest =
     (r.event_type ≡ ctx.event_type)
@@ -74,3 +74,7 @@ abbrev pub rows_event_spelling : RowsBody → Option (List ℕ)
 rows_event_spelling r =
     with_front (with_front (little_spelling 6 r.table_id) (with_front (little_spelling 2 r.flags) (maybe_spelling extra_spelling r.extra)))
     (with_front (Some (lenenc_spelling r.columns)) (with_front (maybe_spelling (λ b. Some b) r.before) (with_front (maybe_spelling (λ b. Some b) r.after) (Some r.rows_data))))
+
+-- what is written for an event that was read in the context of its type is all of it
+abbrev pub IsWrittenWhole : Type 0
+IsWrittenWhole = (r : RowsBody) (bytes rest : List ℕ) → IsRowsEvent (written_ctx r.event_type) r bytes rest → written_body r ≡ r

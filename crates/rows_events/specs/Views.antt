@@ -4,6 +4,7 @@ use Rattle.rows_events.specs.FieldViews.{maybe_text, maybe_extra}
 use Rattle.rows_events.specs.RowsEvents.{RowsBody}
 use Rattle.rows_events.specs.declared.rows_event.RowsEvent.{RowsEvent}
 
+-- what an event says
 abbrev pub body_of : RowsEvent → RowsBody
 body_of e = record {
   event_type = e.event_type;

@@ -12,7 +12,7 @@ use wire_forms::{BareBytes, RawBytes};
 use wire_ints::{LeU16, RawInt};
 
 /// Data behind its size in two bytes, which counts these two. A size below 2 is that of no data.
-#[derive(Drop)]
+#[derive(Debug, PartialEq, Eq, Drop)]
 pub struct ExtraData<'a>(pub RawBytes<'a, BareBytes<65533>>);
 
 /// `Eof` where bytes are missing.

@@ -5,6 +5,7 @@
 
 mod event_columns;
 mod extra_data;
+pub mod laws;
 mod maybe;
 mod rows_event;
 mod rows_event_ctx;

@@ -12,7 +12,7 @@ use wire_buf::{Inner, MyDeserialize, MySerialize, ParseBuf, WireFault, WireSize}
 use wire_forms::{BytesRepr, RawBytes};
 
 /// A field that stands there exactly where the context has a context for it.
-#[derive(Drop)]
+#[derive(Debug, PartialEq, Eq, Drop)]
 pub struct Maybe<T>(pub Option<T>);
 
 /// How many bytes such a field takes: it isn't said.

@@ -25,8 +25,8 @@ pub enum RowsEventType {
 }
 
 impl RowsEventType {
-    /// The type as one of a rows event; None where it is the type of another event, or that of rows events of
-    /// servers before 5.1.17.
+    /// The type as one of a rows event; None where it is the type of another event, or one of the three
+    /// `PRE_GA_` types, whose events aren't read.
     pub fn of(event_type: EventType) -> Option<RowsEventType>
         ensures { result ≡ rows_event_type event_type }
     {

@@ -35,6 +35,8 @@ mod packed_decimals;
 #[cfg(test)]
 mod rows;
 #[cfg(test)]
+mod rows_events;
+#[cfg(test)]
 mod table_maps;
 #[cfg(test)]
 mod texts;

@@ -79,6 +79,26 @@ fn table_map_written(rt: HostRuntime) {
     );
 }
 
+// Of a name all bytes count, up to 255; the bytes that mean nothing count too.
+#[test]
+fn table_map_length(rt: HostRuntime) {
+    match table_map(rt.alloc(), TWO_COLUMNS) {
+        Ok(map) => assert!(rt; map.len() == TWO_COLUMNS.len()),
+        Err(_) => assert!(rt; false),
+    }
+}
+
+#[test]
+fn json_columns_of_table_maps(rt: HostRuntime) {
+    let alloc = rt.alloc();
+    let mut bytes = Vec::new(alloc);
+    assert!(rt; put_map(b"\x03\xf5\x0f\xf5", b"\x04\x0a\0\x04", &mut bytes).is_ok());
+    match table_map(alloc, bytes.as_slice()) {
+        Ok(map) => assert!(rt; map.json_column_count() == 2),
+        Err(_) => assert!(rt; false),
+    }
+}
+
 /// Why the bytes are no table map, or none where they are one.
 fn refusal(alloc: Global, bytes: &[u8]) -> Option<WireFault> {
     match table_map(alloc, bytes) {

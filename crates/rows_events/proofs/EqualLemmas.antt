@@ -1,0 +1,36 @@
+-- What `==` tells of rows events.
+use Rattle.std.proofs.Common.{◌≡◌, Bool, true, true≢false, ℕ, List, Option, Some, None, refl, sym, ap, rules}
+use Rattle.std.specs.Prelude.{option_map}
+use Rattle.std.proofs.lemmas.Bool.Decides.{Decides-like, Decides-and, Decides-eqb}
+use Rattle.std.specs.Bool.{Decides}
+use Rattle.std.specs.Option.{option_eq}
+use lib.Pointwise.{bytes_decides}
+use denote.Enum.Bare.{same_true, true_same}
+use Rattle.wire_forms.specs.RawTexts.{text_of}
+use Rattle.rows_events.specs.contracts.rows_event_type.RowsEventType.{the_type as event_type}
+use Rattle.rows_events.specs.contracts.rows_event.RowsEventPartialEq.TheImpl.{ghosts as event_equality}
+use Rattle.rows_events.specs.declared.rows_event.RowsEvent.{RowsEvent}
+use Rattle.rows_events.specs.Views.{body_of}
+
+maybe_decides : {A : Type 0} (E : A → A → Bool) (f : A → List ℕ) → ((x y : A) → Decides (E x y) (f x ≡ f y)) → (o p : Option A) → Decides (option_eq E o p) (option_map f o ≡ option_map f p)
+maybe_decides E f each None None = (λ e. refl, λ e. refl)
+maybe_decides E f each None (Some y) = (λ e. absurd (true≢false (sym e)), λ e. cc)
+maybe_decides E f each (Some x) None = (λ e. absurd (true≢false (sym e)), λ e. cc)
+maybe_decides E f each (Some x) (Some y) = Decides-like _ (λ e. ap (λ v. Some v) e) (λ e. cc) (each x y)
+
+true_decides : Decides true (Unit {0})
+true_decides = (λ e. tt, λ e. refl)
+
+pub events_decide : (a b : RowsEvent) → Decides (event_equality.eq a b) (body_of a ≡ body_of b)
+events_decide a b =
+    Decides-like _
+    (λ w. λ i. record { event_type = w.0 i; table_id = w.1.0 i; flags = w.1.1.0.0 i; extra = w.1.1.1.0 i; columns = w.1.1.1.1.0.0 i; before = w.1.1.1.1.1.0 i; after = w.1.1.1.1.1.1.0 i; rows_data = w.1.1.1.1.1.1.1.0 i })
+    (λ e. (ap (λ p. p.event_type) e, (ap (λ p. p.table_id) e, ((ap (λ p. p.flags) e, tt), (ap (λ p. p.extra) e, ((ap (λ p. p.columns) e, tt), (ap (λ p. p.before) e, (ap (λ p. p.after) e, (ap (λ p. p.rows_data) e, tt)))))))))
+    (Decides-and _ _ (same_true event_type (search rules) a.event_type b.event_type, true_same event_type a.event_type b.event_type)
+    (Decides-and _ _ (Decides-eqb a.table_id.0 b.table_id.0)
+    (Decides-and _ _ (Decides-and _ _ (Decides-eqb a.flags.0 b.flags.0) true_decides)
+    (Decides-and _ _ (maybe_decides _ (λ e. text_of e.0) (λ x y. Decides-like _ (λ w. w.0) (λ e. (e, tt)) (Decides-and _ _ (bytes_decides (text_of x.0) (text_of y.0)) true_decides)) a.extra_data.0 b.extra_data.0)
+    (Decides-and _ _ (Decides-and _ _ (Decides-eqb a.num_columns.0 b.num_columns.0) true_decides)
+    (Decides-and _ _ (maybe_decides _ (λ raw. text_of raw) (λ x y. Decides-like _ (λ w. w.0) (λ e. (e, tt)) (Decides-and _ _ (bytes_decides (text_of x) (text_of y)) true_decides)) a.before.0 b.before.0)
+    (Decides-and _ _ (maybe_decides _ (λ raw. text_of raw) (λ x y. Decides-like _ (λ w. w.0) (λ e. (e, tt)) (Decides-and _ _ (bytes_decides (text_of x) (text_of y)) true_decides)) a.after.0 b.after.0)
+    (Decides-and _ _ (bytes_decides (text_of a.rows_data) (text_of b.rows_data)) true_decides))))))))
