@@ -123,6 +123,24 @@ fn table_map_refused(rt: HostRuntime) {
     );
 }
 
+// The length of the metadata begins with 251 or 255; or bytes are missing, and those numbers mean something else.
+#[test]
+fn table_map_faults(rt: HostRuntime) {
+    let alloc = rt.alloc();
+    assert!(rt;
+        refusal(
+            alloc,
+            b"\x07\0\0\0\0\0\x01\0\x01d\0\x01t\0\x02\x03\x0f\xff\x0a\x00\x02"
+        ) == Some(WireFault::BadNumber)
+            && refusal(alloc, b"\x07\0\0\0\0\0\x01\0\x01d\0\x01t\0\x02\x03\x0f\xfb")
+                == Some(WireFault::BadNumber)
+            && refusal(alloc, b"\x07\0\0\0\0\0\x01\0\x01d\0\x01t\0\x02\x03\x0f")
+                == Some(WireFault::Eof)
+            && refusal(alloc, b"\x07\0\0\0\0\0\x01\0\x01d\0\x01t\0\x02\xfb") == Some(WireFault::Eof)
+            && refusal(alloc, b"\x07\0\0\0\0\0\xff\xfb\x02\xff") == Some(WireFault::Eof)
+    );
+}
+
 /// Whether the column at the index of a table of these types has this metadata.
 fn has_metadata(
     alloc: Global,
