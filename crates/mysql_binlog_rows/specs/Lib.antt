@@ -44,6 +44,9 @@ pub use Rattle.rows_cells.specs.Images
 pub use Rattle.rows_cells.specs.ImageViews
 pub use Rattle.rows_cells.specs.EventRows
 pub use Rattle.rows_cells.specs.RowViews
+pub use Rattle.rows_owned.specs.ImagePlaces
+pub use Rattle.rows_owned.specs.OwnedRows
+pub use Rattle.rows_owned.specs.PlainRows
 pub use Rattle.rows_optional.specs.Entries
 pub use Rattle.rows_optional.specs.EntryRefusals
 pub use Rattle.rows_optional.specs.Lists

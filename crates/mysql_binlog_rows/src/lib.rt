@@ -4,8 +4,8 @@
 //! Each thing is made in a part of its own, which is re-exported whole: `rows_consts` and `rows_flags` have
 //! the constants, `rows_values` times, values, columns, bits and the faults of rows, `rows_decimal` the
 //! decimals, `rows_jsonb` JSON documents, whose values are `jsonb::Value`, `rows_cells` the cells of columns,
-//! the images of rows, and rows, and `rows_optional` the optional metadata of table maps. The parts stand on
-//! those of `mysql_wire`.
+//! the images of rows, and rows, `rows_owned` rows in memory of their own, and `rows_optional` the optional
+//! metadata of table maps. The parts stand on those of `mysql_wire`.
 #![tactic(auto)]
 
 pub mod laws;
@@ -142,6 +142,8 @@ pub use rows_optional::SimplePrimaryKey;
 pub use rows_optional::StrValue;
 pub use rows_optional::StrValues;
 pub use rows_optional::VectorDimensionalities;
+pub use rows_owned::BinlogRow;
+pub use rows_owned::BinlogRowToRowError;
 pub use rows_values::Bits;
 pub use rows_values::BitsIter;
 pub use rows_values::Column;

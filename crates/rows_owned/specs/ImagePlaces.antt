@@ -1,5 +1,5 @@
 -- The places in the table that the values of a row have.
-use Rattle.std.specs.Prelude.{ℕ, List, length, Option, Some, None, slice_get}
+use Rattle.std.specs.Prelude.{ℕ, List, length, Option, Some, None, option_map, slice_get}
 use Rattle.std.specs.Rc.{rc_slice_items}
 use Rattle.std.specs.declared.rc.RcSlice.{RcSlice}
 use Rattle.rows_cells.specs.declared.image.ImageColumn.{ImageColumn}
@@ -14,12 +14,7 @@ abbrev pub value_count : Option (List ImageColumn) → ℕ → ℕ
 value_count None n = n
 value_count (Some columns) n = length columns
 
--- the place of a column of the image, if there is one
-abbrev pub place_of : Option ImageColumn → Option ℕ
-place_of None = None
-place_of (Some column) = Some column.place
-
 -- the place of the value at an index: that of its column in the image, and without one the index
 abbrev pub place_at : Option (List ImageColumn) → ℕ → Option ℕ
 place_at None i = Some i
-place_at (Some columns) i = place_of (slice_get columns i)
+place_at (Some columns) i = option_map (λ c. c.place) (slice_get columns i)

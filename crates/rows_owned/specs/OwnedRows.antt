@@ -1,5 +1,6 @@
 -- The values, the columns and the image of a row in memory of its own.
-use Rattle.std.specs.Prelude.{ℕ, List, Option, Some, None, slice_get}
+use Rattle.std.specs.Prelude.{ℕ, List, Option, slice_get}
+use Rattle.std.specs.Option.{option_flatten}
 use Rattle.std.specs.Rc.{rc_slice_items}
 use Rattle.rows_values.specs.declared.rows.column.Column.{Column}
 use Rattle.rows_cells.specs.declared.image.ImageColumn.{ImageColumn}
@@ -19,11 +20,6 @@ columns_of row = rc_slice_items row.columns
 abbrev pub image_of : BinlogRow → Option (List ImageColumn)
 image_of row = image_items row.image
 
--- the value, if it is there and wasn't taken
-abbrev pub some_value : Option (Option BinlogValue) → Option BinlogValue
-some_value None = None
-some_value (Some v) = v
-
 -- the value at an index, if it is there and wasn't taken
 abbrev pub value_at : List (Option BinlogValue) → ℕ → Option BinlogValue
-value_at values i = some_value (slice_get values i)
+value_at values i = option_flatten (slice_get values i)

@@ -31,6 +31,8 @@ mod optional_fields;
 #[cfg(test)]
 mod optional_metadata;
 #[cfg(test)]
+mod owned_rows;
+#[cfg(test)]
 mod packed_decimals;
 #[cfg(test)]
 mod rows;
