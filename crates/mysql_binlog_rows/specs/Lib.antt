@@ -12,10 +12,13 @@ pub use Rattle.rows_values.specs.TimePlaces
 pub use Rattle.rows_values.specs.Values
 pub use Rattle.rows_values.specs.Columns
 pub use Rattle.rows_values.specs.BitLists
+pub use Rattle.rows_values.specs.BitCounts
 pub use Rattle.rows_values.specs.Rows
 pub use Rattle.rows_values.specs.TimeTexts
 pub use Rattle.rows_decimal.specs.Digits
 pub use Rattle.rows_decimal.specs.Decimals
+pub use Rattle.rows_decimal.specs.Steps
+pub use Rattle.rows_decimal.specs.GroupsLeft
 pub use Rattle.rows_decimal.specs.Texts
 pub use Rattle.rows_decimal.specs.Unpacked
 pub use Rattle.rows_decimal.specs.PackedTexts
@@ -44,9 +47,7 @@ pub use Rattle.rows_cells.specs.Images
 pub use Rattle.rows_cells.specs.ImageViews
 pub use Rattle.rows_cells.specs.EventRows
 pub use Rattle.rows_cells.specs.RowViews
-pub use Rattle.rows_owned.specs.ImagePlaces
-pub use Rattle.rows_owned.specs.OwnedRows
-pub use Rattle.rows_owned.specs.PlainRows
+pub use Rattle.rows_cells.specs.BinlogValues
 pub use Rattle.rows_optional.specs.Entries
 pub use Rattle.rows_optional.specs.EntryRefusals
 pub use Rattle.rows_optional.specs.Lists
@@ -56,3 +57,26 @@ pub use Rattle.rows_optional.specs.Members
 pub use Rattle.rows_optional.specs.Extracted
 pub use Rattle.rows_optional.specs.Served
 pub use Rattle.rows_optional.specs.MetadataViews
+pub use Rattle.rows_optional.specs.FieldSpellings
+pub use Rattle.rows_meta.specs.TableMaps
+pub use Rattle.rows_meta.specs.ColumnTypes
+pub use Rattle.rows_meta.specs.ColumnMetadata
+pub use Rattle.rows_meta.specs.ColumnViews
+pub use Rattle.rows_meta.specs.Lengths
+pub use Rattle.rows_meta.specs.MapViews
+pub use Rattle.rows_plan.specs.Plans
+pub use Rattle.rows_plan.specs.PlanViews
+pub use Rattle.rows_plan.specs.Walks
+pub use Rattle.rows_plan.specs.PickedColumns
+pub use Rattle.rows_plan.specs.ImageShapes
+pub use Rattle.rows_owned.specs.ImagePlaces
+pub use Rattle.rows_owned.specs.OwnedRows
+pub use Rattle.rows_owned.specs.PlainRows
+pub use Rattle.rows_owned.specs.RowImages
+pub use Rattle.rows_events.specs.RowsEventTypes
+pub use Rattle.rows_events.specs.Fields as RowsEventFields
+pub use Rattle.rows_events.specs.FieldViews as RowsEventFieldViews
+pub use Rattle.rows_events.specs.RowsEvents
+pub use Rattle.rows_events.specs.Views as RowsEventViews
+pub use Rattle.rows_events.specs.EventShapes
+pub use Rattle.rows_events.specs.EventColumnViews

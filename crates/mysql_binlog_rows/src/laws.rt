@@ -1,7 +1,8 @@
-//! Laws of constants, values and decimals, each proved as the contract of a function that does nothing.
+//! Laws of the parts, each proved as the contract of a function that does nothing.
 
 pub use rows_cells::laws::{
-    cells_are_read, images_are_read, no_cell_begins_another, no_image_begins_another,
+    cells_are_read, images_are_read, lists_of_rows_are_read, no_cell_begins_another,
+    no_image_begins_another, rows_are_read,
 };
 pub use rows_consts::laws::{
     numbers_are_distinct, orders_are_of_numbers, transaction_numbers, worked_numbers,
@@ -11,7 +12,11 @@ pub use rows_decimal::laws::{
     packed_forms_are_uniquely_read, packed_forms_are_unpacked, texts_are_taken_back,
     worked_decimals, worked_unpacking,
 };
-pub use rows_jsonb::laws::{worked_budget, worked_depth, worked_objects, worked_pointer};
+pub use rows_events::laws::{equal_events_say_the_same, events_are_written_whole};
+pub use rows_jsonb::laws::{
+    diffs_are_read, lists_of_diffs_are_read, worked_budget, worked_depth, worked_objects,
+    worked_pointer,
+};
 pub use rows_optional::laws::{entries_are_read, lists_are_read};
 pub use rows_values::laws::{
     equal_columns_and_times_are_the_same, equal_rows_are_the_same, equal_values_are_the_same,

@@ -1,11 +1,12 @@
 //! The rows of MySQL's binary logs: the constants that speak of them, the times, decimals and values
-//! that their cells hold, columns and bits.
+//! that their cells hold, columns and bits, table maps, rows events, and the rows in these.
 //!
 //! Each thing is made in a part of its own, which is re-exported whole: `rows_consts` and `rows_flags` have
 //! the constants, `rows_values` times, values, columns, bits and the faults of rows, `rows_decimal` the
 //! decimals, `rows_jsonb` JSON documents, whose values are `jsonb::Value`, `rows_cells` the cells of columns,
-//! the images of rows, and rows, `rows_owned` rows in memory of their own, and `rows_optional` the optional
-//! metadata of table maps. The parts stand on those of `mysql_wire`.
+//! the images of rows, and rows, `rows_optional` the optional metadata of table maps, `rows_meta` table maps,
+//! `rows_plan` the plan of a table's columns, `rows_owned` rows in memory of their own, and `rows_events` rows
+//! events. The parts stand on those of `mysql_wire`.
 #![tactic(auto)]
 
 pub mod laws;
@@ -17,12 +18,19 @@ pub use rows_cells::CellForm;
 pub use rows_cells::CellRef;
 pub use rows_cells::ImageCells;
 pub use rows_cells::ImageColumn;
+pub use rows_cells::ImageField;
 pub use rows_cells::ImagePlan;
 pub use rows_cells::RowPart;
 pub use rows_cells::RowPlan;
 pub use rows_cells::RowsCursor;
 pub use rows_cells::Width;
+pub use rows_cells::bytes_front;
 pub use rows_cells::cell_front;
+pub use rows_cells::datetime_front;
+pub use rows_cells::decimal_front;
+pub use rows_cells::signed_front;
+pub use rows_cells::time_front;
+pub use rows_cells::unsigned_front;
 pub use rows_consts::BINLOG_CHECKSUM_ALG_DESC_LEN;
 pub use rows_consts::BINLOG_CHECKSUM_LEN;
 pub use rows_consts::BinlogChecksumAlg;
@@ -69,6 +77,11 @@ pub use rows_decimal::ParseDecimalError;
 pub use rows_decimal::decimal_bin_size;
 pub use rows_decimal::packs_decimal;
 pub use rows_decimal::put_decimal_text;
+pub use rows_events::EventColumns;
+pub use rows_events::RowImages;
+pub use rows_events::RowsEvent;
+pub use rows_events::RowsEventCtx;
+pub use rows_events::RowsEventType;
 pub use rows_flags::EventFlags;
 pub use rows_flags::GtidFlags;
 pub use rows_flags::RowsEventFlags;
@@ -107,6 +120,15 @@ pub use rows_jsonb::UnknownLiteralType;
 pub use rows_jsonb::check_json_diffs;
 pub use rows_jsonb::json_diffs;
 pub use rows_jsonb::{self as jsonb};
+pub use rows_meta::BadColumnType;
+pub use rows_meta::ColumnMeta;
+pub use rows_meta::IterColumns;
+pub use rows_meta::MAX_EVENT_LEN;
+pub use rows_meta::TableId;
+pub use rows_meta::TableMapEvent;
+pub use rows_meta::event_len;
+pub use rows_meta::metadata_len;
+pub use rows_meta::real_type;
 pub use rows_optional::ColumnCharsets;
 pub use rows_optional::ColumnName;
 pub use rows_optional::ColumnNames;
@@ -144,6 +166,10 @@ pub use rows_optional::StrValues;
 pub use rows_optional::VectorDimensionalities;
 pub use rows_owned::BinlogRow;
 pub use rows_owned::BinlogRowToRowError;
+pub use rows_owned::RowImage;
+pub use rows_plan::ColumnPlan;
+pub use rows_plan::ImageColumns;
+pub use rows_plan::PlannedColumn;
 pub use rows_values::Bits;
 pub use rows_values::BitsIter;
 pub use rows_values::Column;
