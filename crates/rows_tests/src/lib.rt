@@ -17,6 +17,8 @@ mod decimals;
 #[cfg(test)]
 mod devices;
 #[cfg(test)]
+mod example;
+#[cfg(test)]
 mod faults;
 #[cfg(test)]
 mod flags;
@@ -34,6 +36,8 @@ mod optional_metadata;
 mod owned_rows;
 #[cfg(test)]
 mod packed_decimals;
+#[cfg(test)]
+mod plans;
 #[cfg(test)]
 mod rows;
 #[cfg(test)]

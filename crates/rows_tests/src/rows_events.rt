@@ -1,9 +1,9 @@
 //! Rows events: read and written, each type and each refusal.
 
-use mysql_binlog_rows::{EventType, RowsEventFlags};
-use rows_events::{RowImages, RowsEvent, RowsEventCtx, RowsEventType};
-use rows_meta::{MAX_EVENT_LEN, event_len};
-use rows_values::Bits;
+use mysql_binlog_rows::{
+    Bits, EventType, MAX_EVENT_LEN, RowImages, RowsEvent, RowsEventCtx, RowsEventFlags,
+    RowsEventType, event_len,
+};
 use std::alloc::Global;
 use wire_buf::{MyDeserialize, MySerialize, ParseBuf, WireFault};
 

@@ -1,7 +1,6 @@
 //! Table maps: read and written, and their columns.
 
-use mysql_binlog_rows::OptionalMetadataField;
-use rows_meta::{BadColumnType, TableMapEvent};
+use mysql_binlog_rows::{BadColumnType, OptionalMetadataField, TableMapEvent};
 use std::alloc::Global;
 use wire_buf::{MyDeserialize, MySerialize, ParseBuf, WireFault};
 use wire_consts::{ColumnType, UnknownColumnType};
