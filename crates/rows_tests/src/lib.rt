@@ -39,9 +39,9 @@ mod packed_decimals;
 #[cfg(test)]
 mod plans;
 #[cfg(test)]
-mod rows;
+mod row_events;
 #[cfg(test)]
-mod rows_events;
+mod rows;
 #[cfg(test)]
 mod table_maps;
 #[cfg(test)]

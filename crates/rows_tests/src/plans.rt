@@ -362,6 +362,19 @@ fn signs_and_charsets_in_order(rt: HostRuntime) -> Result<(), Fail> {
     Ok(())
 }
 
+// No sign stands for YEAR: a list that has one is too long where that makes it a byte longer.
+#[test]
+fn no_sign_for_year(rt: HostRuntime) {
+    let alloc = rt.alloc();
+    let types = &[LONG, LONG, LONG, LONG, LONG, LONG, LONG, LONG, YEAR];
+    assert!(rt;
+        reaches(alloc, types, b"", b"\x01\x01\x55", Some(9))
+            && reaches(alloc, types, b"", b"\x01\x02\x55\x80", None)
+            && reaches(alloc, &[YEAR], b"", b"\x01\x01\x80", None)
+            && reaches(alloc, &[YEAR], b"", b"\x01\0", Some(1))
+    );
+}
+
 #[test]
 fn cells_by_plan(rt: HostRuntime) {
     let alloc = rt.alloc();
