@@ -36,6 +36,30 @@ fn laws_of_decimals(_rt: HostRuntime) {
 }
 
 #[test]
+fn laws_of_documents_and_metadata(_rt: HostRuntime) {
+    rows::diffs_are_read();
+    rows::lists_of_diffs_are_read();
+    rows::worked_objects();
+    rows::worked_pointer();
+    rows::worked_budget();
+    rows::worked_depth();
+    rows::entries_are_read();
+    rows::lists_are_read();
+}
+
+#[test]
+fn laws_of_rows(_rt: HostRuntime) {
+    rows::cells_are_read();
+    rows::no_cell_begins_another();
+    rows::images_are_read();
+    rows::no_image_begins_another();
+    rows::rows_are_read();
+    rows::lists_of_rows_are_read();
+    rows::events_are_written_whole();
+    rows::equal_events_say_the_same();
+}
+
+#[test]
 fn laws_of_texts(_rt: HostRuntime) {
     feed_text::laws::equal_quotes_are_of_equal_bytes();
     feed_text::laws::values_have_the_texts_of_cells();
