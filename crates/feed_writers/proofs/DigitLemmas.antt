@@ -1,13 +1,10 @@
 -- Numbers as text, by pairs of digits, and how many digits they have.
-use Rattle.std.proofs.Common.{◌≡◌, ℕ, zero, suc, ◌+◌, ◌-◌, ◌*◌, ◌/◌, ◌%◌, ◌^◌, ◌<◌, ◌≤◌, Bool, true, false, ◌&&◌, T, eqb, List, [], ◌∷◌, ◌++◌, length, take, drop, get_or, replicate, slice_index, refl, sym, ap, ap₂, subst, ◌∙◌, inl, inr, arith, eq-zero-or-pos, eqb→eq, append_assoc, length-append, length-drop}
+use Rattle.std.proofs.Common.{◌≡◌, ℕ, zero, suc, ◌+◌, ◌-◌, ◌*◌, ◌/◌, ◌%◌, ◌^◌, ◌<◌, ◌≤◌, Bool, true, false, ◌&&◌, T, eqb, List, [], ◌∷◌, ◌++◌, length, take, drop, get_or, replicate, slice_index, refl, sym, ap, ap₂, ◌∙◌, inl, inr, arith, eq-zero-or-pos, eqb→eq, append_assoc, length-append, length-drop}
 use Rattle.std.specs.Prelude.{nat_lt}
 use Rattle.std.proofs.lemmas.Bool.{ltb-true, ltb-false, lt-ltb}
 use Rattle.std.proofs.lemmas.Fmt.{decimal_digit, decimal_step, length-decimal-le}
 use Rattle.std.proofs.lemmas.Bool.Decides.{leb_tells}
-use Rattle.std.proofs.lemmas.List.{replicate_more, take_all, take-append-drop, drop-take, take-take, length-take-le}
-use Rattle.std.specs.Int.{w64, byte_at, bytes_low_first, to_le_bytes, from_le_bytes}
-use Rattle.std.proofs.Math.Nat.{div-one, div-div-eq-div-mul}
-use Rattle.std.proofs.lemmas.Nat.{pow-add, le_bytes_8}
+use Rattle.std.proofs.lemmas.List.{replicate_more, take-append-drop, drop-take, take-take, length-take-le}
 use Rattle.std.proofs.Math.Seq.{take-add, take-append_seam, drop-append_seam}
 use Rattle.std.specs.Fmt.{decimal, digits, digit_glyph}
 use Rattle.rows_values.specs.TimeTexts.{padded}
@@ -184,6 +181,10 @@ eight_more n lo hi =
     let c : n % 10000 ≡ n % 100000000 % 10000 = omega arith in
     rw (← a, ← b, ← c, ← append_assoc (decimal (n / 10000 / 10000)) (padded 4 (n / 10000 % 10000)) (padded 4 (n % 10000)), four_more (n / 10000) (omega (arith, lo)) (omega (arith, hi))) (four_more n (omega (arith, lo)) hi)
 
+-- a byte, and a text behind it
+pub pushed_then : (base b c mid new : List ℕ) (a : ℕ) → mid ≡ base ++ a ∷ [] → new ≡ mid ++ b → a ∷ b ≡ c → new ≡ base ++ c
+pushed_then base b c mid new a first second e = joined_is base (a ∷ []) b c mid new first second e
+
 -- ---- eight digits at once
 
 count_next : (n k : ℕ) → 10 ≤ n → n < 2 ^ 64 → k ≡ length (decimal (n / 10)) → k + 1 ≡ length (decimal n)
@@ -241,113 +242,40 @@ eight_padded n h =
     sym (rw (padded_two_more 5 n h, padded_two_more 3 (n / 100) (omega (arith, h)), padded_two_more 1 (n % 10000) (omega arith), append_assoc, a, b, ← c) refl)
 
 -- all eight digits stand in a list, and those behind the zeros in front are the number's
-digits_behind : (n count : ℕ) (digits : List ℕ) → n < 2 ^ 64 → count ≡ length (decimal n) → digits ≡ padded 4 (n / 10000) ++ padded 4 (n % 10000) → drop (8 - count) digits ≡ decimal n
-digits_behind n count digits h e is =
-    ap (drop (8 - count)) (is ∙ eight_padded n h ∙ padded_of 8 n ∙ ap (λ (k : ℕ). replicate (8 - k) 48 ++ decimal n) (sym e))
+digits_behind : (n count : ℕ) (digits : List ℕ) → n < 2 ^ 64 → count ≡ length (decimal n) → count ≤ 8 → take 8 digits ≡ padded 4 (n / 10000) ++ padded 4 (n % 10000) → take count (drop (8 - count) digits) ≡ decimal n
+digits_behind n count digits h e le is =
+    let whole : 8 - count + count ≡ 8 = omega (arith, le) in
+    sym (drop-take (8 - count) count digits)
+    ∙ ap (λ (k : ℕ). drop (8 - count) (take k digits)) whole
+    ∙ ap (drop (8 - count)) (is ∙ eight_padded n h ∙ padded_of 8 n ∙ ap (λ (k : ℕ). replicate (8 - k) 48 ++ decimal n) (sym e))
     ∙ drop_zeros (8 - count) (decimal n)
   where
     drop_zeros : (k : ℕ) (s : List ℕ) → drop k (replicate k 48 ++ s) ≡ s
     drop_zeros zero s = refl
     drop_zeros (suc k) s = drop_zeros k s
 
--- a byte of a number, and of a number without its last k bytes
-byte_is : (i n : ℕ) → byte_at i n ≡ n / 256 ^ i % 256
-byte_is zero n = sym (ap (λ (m : ℕ). m % 256) (div-one n))
-byte_is (suc i) n = refl
-
-shifted_byte : (k i n : ℕ) → byte_at i (n / 256 ^ k) ≡ byte_at (k + i) n
-shifted_byte k i n = byte_is i (n / 256 ^ k) ∙ ap (λ (m : ℕ). m % 256) (div-div-eq-div-mul n (256 ^ k) (256 ^ i) ∙ ap (λ (m : ℕ). n / m) (sym (pow-add 256 k i))) ∙ sym (byte_is (k + i) n)
-
-shifted_bytes : (m k i n : ℕ) → bytes_low_first i m (n / 256 ^ k) ≡ bytes_low_first (k + i) m n
-shifted_bytes zero k i n = refl
-shifted_bytes (suc m) k i n =
-    let e : k + suc i ≡ suc (k + i) = omega arith in
-    ap₂ (λ (b : ℕ) (bs : List ℕ). b ∷ bs) (shifted_byte k i n) (shifted_bytes m k (suc i) n ∙ ap (λ (j : ℕ). bytes_low_first j m n) e)
-
-front_bytes : (m l i n : ℕ) → take m (bytes_low_first i (m + l) n) ≡ bytes_low_first i m n
-front_bytes zero l i n = refl
-front_bytes (suc m) l i n =
-    let e : suc m + l ≡ suc (m + l) = omega arith in
-    rw e (ap (λ (bs : List ℕ). byte_at i n ∷ bs) (front_bytes m l (suc i) n))
-
-last_bytes : (k m i n : ℕ) → drop k (bytes_low_first i (k + m) n) ≡ bytes_low_first (k + i) m n
-last_bytes zero m i n = let a : 0 + m ≡ m = omega arith in let b : 0 + i ≡ i = omega arith in rw (a, b) refl
-last_bytes (suc k) m i n =
-    let a : suc k + m ≡ suc (k + m) = omega arith in
-    let b : k + suc i ≡ suc k + i = omega arith in
-    rw a (last_bytes k m (suc i) n ∙ ap (λ (j : ℕ). bytes_low_first j m n) b)
-
-bits_of_bytes : (k : ℕ) → 2 ^ (8 * k) ≡ 256 ^ k
-bits_of_bytes zero = refl
-bits_of_bytes (suc k) =
-    let a : 8 * suc k ≡ 8 * k + 8 = omega arith in
-    let b : suc k ≡ k + 1 = omega arith in
-    rw (a, pow-add 2 (8 * k) 8, bits_of_bytes k) (sym (ap (λ (j : ℕ). 256 ^ j) b ∙ pow-add 256 k 1))
-
--- without its last bytes a number begins with the others
-pub bytes_shifted : (count x y : ℕ) → count ≤ 8 → y ≡ x / 2 ^ (64 - 8 * count) → take count (to_le_bytes w64 y) ≡ drop (8 - count) (to_le_bytes w64 x)
-bytes_shifted count x y le e =
-    let k : ℕ = 8 - count in
-    let bits : 64 - 8 * count ≡ 8 * k = omega (arith, le) in
-    let one : 8 ≡ count + k = omega (arith, le) in
-    let two : 8 ≡ k + count = omega (arith, le) in
-    let none : k + 0 ≡ k = omega arith in
-    ap (λ (n : ℕ). take count (bytes_low_first 0 8 n)) (e ∙ ap (λ (j : ℕ). x / 2 ^ j) bits ∙ ap (λ (j : ℕ). x / j) (bits_of_bytes k))
-    ∙ ap (λ (j : ℕ). take count (bytes_low_first 0 j (x / 256 ^ k))) one
-    ∙ front_bytes count k 0 (x / 256 ^ k)
-    ∙ shifted_bytes count k 0 x
-    ∙ sym (last_bytes k count 0 x)
-    ∙ ap (λ (j : ℕ). drop k (bytes_low_first 0 j x)) (sym two)
-
 -- so many of eight bytes that were written count
-pub digits_count : (at count n x y r : ℕ) (old new digits : List ℕ) → at ≤ length old → n < 2 ^ 64 → count ≡ length (decimal n) → count ≤ 8 → length digits ≡ 8 → ((i : ℕ) → get_or digits i 0 < 256) → digits ≡ padded 4 (n / 10000) ++ padded 4 (n % 10000)
-    → x ≡ from_le_bytes w64 digits → y ≡ x / 2 ^ (64 - 8 * count) → r ≡ at + length (to_le_bytes w64 y) → take r new ≡ take at old ++ to_le_bytes w64 y → take (at + count) new ≡ take at old ++ decimal n
-digits_count at count n x y r old new digits room h e le size fits all xs ys end written =
+pub front_counts : (at count n : ℕ) (old new piece digits : List ℕ) → at ≤ length old → n < 2 ^ 64 → count ≡ length (decimal n) → count ≤ 8 → take (at + 8) new ≡ take at old ++ piece → piece ≡ take 8 (drop (8 - count) digits) → take 8 digits ≡ padded 4 (n / 10000) ++ padded 4 (n % 10000)
+    → take (at + count) new ≡ take at old ++ decimal n
+front_counts at count n old new piece digits room h e le written is all =
     let front = take at old in
     let len : length front ≡ at = length-take-le at old room in
-    let eight : length (to_le_bytes w64 y) ≡ 8 = refl in
-    let within : at + count ≤ r = omega (arith, le, end, eight) in
-    sym (take-take (at + count) r new within)
+    sym (take-take (at + count) (at + 8) new (omega (arith, le)))
     ∙ ap (take (at + count)) written
-    ∙ ap (λ (k : ℕ). take (k + count) (front ++ to_le_bytes w64 y)) (sym len)
-    ∙ take-add (length front) count (front ++ to_le_bytes w64 y)
-    ∙ ap₂ (λ (a b : List ℕ). a ++ take count b) (take-append_seam front (to_le_bytes w64 y)) (drop-append_seam front (to_le_bytes w64 y))
-    ∙ ap (λ (t : List ℕ). front ++ t) (bytes_shifted count x y le ys ∙ ap (drop (8 - count)) (le_bytes_8 digits x size fits xs) ∙ digits_behind n count digits h e all)
+    ∙ ap (λ (k : ℕ). take (k + count) (front ++ piece)) (sym len)
+    ∙ take-add (length front) count (front ++ piece)
+    ∙ ap₂ (λ (a b : List ℕ). a ++ take count b) (take-append_seam front piece) (drop-append_seam front piece)
+    ∙ ap (λ (t : List ℕ). front ++ t) (ap (take count) is ∙ take-take count 8 (drop (8 - count) digits) le ∙ digits_behind n count digits h e le all)
 
--- a byte, and a text behind it
-pub pushed_then : (base b c mid new : List ℕ) (a : ℕ) → mid ≡ base ++ a ∷ [] → new ≡ mid ++ b → a ∷ b ≡ c → new ≡ base ++ c
-pushed_then base b c mid new a first second e = joined_is base (a ∷ []) b c mid new first second e
-
--- the same, of the digits as they were written and the bytes as they were made
-pub digits_shown : (at count n x y r p : ℕ) (old new digits made : List ℕ) → at ≤ length old → n < 2 ^ 64 → count ≡ length (decimal n) → count ≤ 8 → length digits ≡ 8 → ((i : ℕ) → get_or digits i 0 < 256) → p ≡ 8 → take p digits ≡ padded 4 (n / 10000) ++ padded 4 (n % 10000)
-    → x ≡ from_le_bytes w64 digits → y ≡ x / 2 ^ (64 - 8 * count) → made ≡ to_le_bytes w64 y → r ≡ at + length made → take r new ≡ take at old ++ made → take (at + count) new ≡ take at old ++ decimal n
-digits_shown at count n x y r p old new digits made room h e le size fits p8 all xs ys is end written =
-    let whole : take p digits ≡ digits = take_all p digits (omega (arith, p8, size)) in
-    digits_count at count n x y r old new digits room h e le size fits (sym whole ∙ all) xs ys (end ∙ ap (λ (b : List ℕ). at + length b) is) (written ∙ ap (λ (b : List ℕ). take at old ++ b) is)
-
--- digits are bytes
-four_fit : (a i : ℕ) → a < 10000 → get_or (padded 4 a) i 0 < 256
-four_fit a i h =
-    let e : padded 4 a ≡ pair (a / 100) ++ pair (a % 100) =
-        padded_two_more 1 a (omega (arith, h)) ∙ ap₂ (λ (s t : List ℕ). s ++ t) (padded_pair (a / 100) (omega (arith, h))) (padded_pair (a % 100) (omega arith)) in
-    subst (λ (s : List ℕ). get_or s i 0 < 256) (sym e) (each (48 + a / 100 / 10) (48 + a / 100 % 10) (48 + a % 100 / 10) (48 + a % 100 % 10) i (omega (arith, h)) (omega arith) (omega arith) (omega arith))
-  where
-    each : (w x y z i : ℕ) → w < 256 → x < 256 → y < 256 → z < 256 → get_or (w ∷ x ∷ y ∷ z ∷ []) i 0 < 256
-    each w x y z zero a b c d = a
-    each w x y z (suc zero) a b c d = b
-    each w x y z (suc (suc zero)) a b c d = c
-    each w x y z (suc (suc (suc zero))) a b c d = d
-    each w x y z (suc (suc (suc (suc i)))) a b c d = omega arith
-
-both_fit : (s t : List ℕ) → ((i : ℕ) → get_or s i 0 < 256) → ((i : ℕ) → get_or t i 0 < 256) → (i : ℕ) → get_or (s ++ t) i 0 < 256
-both_fit [] t a b i = b i
-both_fit (x ∷ s) t a b zero = a zero
-both_fit (x ∷ s) t a b (suc i) = both_fit s t (λ j. a (suc j)) b i
-
-pub eight_fit : (n p : ℕ) (digits : List ℕ) → n < 100000000 → p ≡ 8 → length digits ≡ 8 → take p digits ≡ padded 4 (n / 10000) ++ padded 4 (n % 10000) → (i : ℕ) → get_or digits i 0 < 256
-eight_fit n p digits h p8 size all i =
-    let whole : take p digits ≡ digits = take_all p digits (omega (arith, p8, size)) in
-    subst (λ (s : List ℕ). get_or s i 0 < 256) (sym (sym whole ∙ all)) (both_fit (padded 4 (n / 10000)) (padded 4 (n % 10000)) (λ j. four_fit (n / 10000) j (omega (arith, h))) (λ j. four_fit (n % 10000) j (omega arith)) i)
+-- the same, of the eight bytes as they were cut out
+pub cut_counts : (at count n r p : ℕ) (old new digits : List ℕ) → at ≤ length old → n < 2 ^ 64 → count ≡ length (decimal n) → count ≤ 8 → length digits ≡ 16 → p ≡ 8 → take p digits ≡ padded 4 (n / 10000) ++ padded 4 (n % 10000)
+    → r ≡ at + length (take (16 - count - (8 - count)) (drop (8 - count) digits)) → take r new ≡ take at old ++ take (16 - count - (8 - count)) (drop (8 - count) digits) → take (at + count) new ≡ take at old ++ decimal n
+cut_counts at count n r p old new digits room h e le size p8 all end written =
+    let k : 16 - count - (8 - count) ≡ 8 = omega (arith, le) in
+    let long : 8 ≤ length (drop (8 - count) digits) = omega (arith, length-drop (8 - count) digits, size) in
+    let eight : length (take (16 - count - (8 - count)) (drop (8 - count) digits)) ≡ 8 = ap (λ (m : ℕ). length (take m (drop (8 - count) digits))) k ∙ length-take-le 8 (drop (8 - count) digits) long in
+    let r8 : at + 8 ≡ r = omega (arith, end, eight) in
+    front_counts at count n old new (take 8 (drop (8 - count) digits)) digits room h e le (ap (λ (m : ℕ). take m new) r8 ∙ written ∙ ap (λ (m : ℕ). take at old ++ take m (drop (8 - count) digits)) k) refl (ap (λ (m : ℕ). take m digits) (sym p8) ∙ all)
 
 pub padded_zeros : padded 6 0 ≡ 48 ∷ 48 ∷ 48 ∷ 48 ∷ 48 ∷ 48 ∷ []
 unfolding padded digits

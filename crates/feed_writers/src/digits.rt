@@ -152,10 +152,9 @@ fn put_middle(text: &mut [u8], at: usize, number: u32) -> usize
     ensures text { take result text.new ≡ take at text.old ++ decimal number }
 {
     let count = middle_count(number);
-    let mut digits = [b'0'; 8];
+    let mut digits = [b'0'; 16];
     put_eight(&mut digits, 0, number);
-    let shown = u64::from_le_bytes(digits) >> (64 - 8 * count);
-    put_bytes(text, at, &shown.to_le_bytes());
+    put_bytes(text, at, &digits[8 - count..16 - count]);
     at + count
 }
 
