@@ -1,12 +1,12 @@
 -- Numbers as text, by pairs of digits, and how many digits they have.
-use Rattle.std.proofs.Common.{◌≡◌, ℕ, zero, suc, ◌+◌, ◌-◌, ◌*◌, ◌/◌, ◌%◌, ◌^◌, ◌<◌, ◌≤◌, Bool, true, false, ◌&&◌, T, eqb, List, [], ◌∷◌, ◌++◌, length, take, drop, get_or, replicate, slice_index, refl, sym, ap, ap₂, ◌∙◌, inl, inr, arith, eq-zero-or-pos, eqb→eq, append_assoc, length-append, length-drop}
+use Rattle.std.proofs.Common.{◌≡◌, ℕ, zero, suc, ◌+◌, ◌-◌, ◌*◌, ◌/◌, ◌%◌, ◌^◌, ◌<◌, ◌≤◌, Bool, true, false, ◌&&◌, T, eqb, List, [], ◌∷◌, ◌++◌, length, take, drop, get_or, replicate, refl, sym, ap, ap₂, ◌∙◌, inl, inr, arith, eq-zero-or-pos, eqb→eq, append_assoc, length-append, length-drop}
 use Rattle.std.specs.Prelude.{nat_lt}
-use Rattle.std.proofs.lemmas.Bool.{ltb-true, ltb-false, lt-ltb}
+use Rattle.std.proofs.lemmas.Bool.{ltb-true, ltb-false}
 use Rattle.std.proofs.lemmas.Fmt.{decimal_digit, decimal_step, length-decimal-le}
 use Rattle.std.proofs.lemmas.Bool.Decides.{leb_tells}
-use Rattle.std.proofs.lemmas.List.{replicate_more, take-append-drop, drop-take, take-take, length-take-le}
+use Rattle.std.proofs.lemmas.List.{replicate_more, drop-take, take-take, length-take-le}
 use Rattle.std.proofs.Math.Seq.{take-add, take-append_seam, drop-append_seam}
-use Rattle.std.specs.Fmt.{decimal, digits, digit_glyph}
+use Rattle.std.specs.Fmt.{decimal, digits}
 use Rattle.rows_values.specs.TimeTexts.{padded}
 use Rattle.feed_writers.specs.declared.digits.TheConstants.{PAIRS}
 use lib.Ieee.Fits.{and_l, and_r}
@@ -214,24 +214,24 @@ count_sum n a b c d e f g h ia ib ic id ie if ig =
     elim (leb_tells 10 n) [
       | inr t ↦ omega (arith, count_one n t.1, ia.below t.1, ib.below (omega arith), ic.below (omega arith), id.below (omega arith), ie.below (omega arith), if.below (omega arith), ig.below (omega arith))
       | inl s ↦ elim (leb_tells 100 n) [
-          | inr t ↦ omega (arith, count_two n s.1 t.1, ia.from s.1, ib.below t.1, ic.below (omega arith), id.below (omega arith), ie.below (omega arith), if.below (omega arith), ig.below (omega arith))
-          | inl s2 ↦ elim (leb_tells 1000 n) [
-              | inr t ↦ omega (arith, count_three n s2.1 t.1, ia.from s.1, ib.from s2.1, ic.below t.1, id.below (omega arith), ie.below (omega arith), if.below (omega arith), ig.below (omega arith))
-              | inl s3 ↦ elim (leb_tells 10000 n) [
-                  | inr t ↦ omega (arith, count_four n s3.1 t.1, ia.from s.1, ib.from s2.1, ic.from s3.1, id.below t.1, ie.below (omega arith), if.below (omega arith), ig.below (omega arith))
-                  | inl s4 ↦ elim (leb_tells 100000 n) [
-                      | inr t ↦ omega (arith, count_five n s4.1 t.1, ia.from s.1, ib.from s2.1, ic.from s3.1, id.from s4.1, ie.below t.1, if.below (omega arith), ig.below (omega arith))
-                      | inl s5 ↦ elim (leb_tells 1000000 n) [
-                          | inr t ↦ omega (arith, count_six n s5.1 t.1, ia.from s.1, ib.from s2.1, ic.from s3.1, id.from s4.1, ie.from s5.1, if.below t.1, ig.below (omega arith))
-                          | inl s6 ↦ elim (leb_tells 10000000 n) [
-                              | inr t ↦ omega (arith, count_seven n s6.1 t.1, ia.from s.1, ib.from s2.1, ic.from s3.1, id.from s4.1, ie.from s5.1, if.from s6.1, ig.below t.1)
-                              | inl s7 ↦ omega (arith, count_eight n s7.1 h, ia.from s.1, ib.from s2.1, ic.from s3.1, id.from s4.1, ie.from s5.1, if.from s6.1, ig.from s7.1)
-                            ]
-                        ]
-                    ]
+        | inr t ↦ omega (arith, count_two n s.1 t.1, ia.from s.1, ib.below t.1, ic.below (omega arith), id.below (omega arith), ie.below (omega arith), if.below (omega arith), ig.below (omega arith))
+        | inl s2 ↦ elim (leb_tells 1000 n) [
+          | inr t ↦ omega (arith, count_three n s2.1 t.1, ia.from s.1, ib.from s2.1, ic.below t.1, id.below (omega arith), ie.below (omega arith), if.below (omega arith), ig.below (omega arith))
+          | inl s3 ↦ elim (leb_tells 10000 n) [
+            | inr t ↦ omega (arith, count_four n s3.1 t.1, ia.from s.1, ib.from s2.1, ic.from s3.1, id.below t.1, ie.below (omega arith), if.below (omega arith), ig.below (omega arith))
+            | inl s4 ↦ elim (leb_tells 100000 n) [
+              | inr t ↦ omega (arith, count_five n s4.1 t.1, ia.from s.1, ib.from s2.1, ic.from s3.1, id.from s4.1, ie.below t.1, if.below (omega arith), ig.below (omega arith))
+              | inl s5 ↦ elim (leb_tells 1000000 n) [
+                | inr t ↦ omega (arith, count_six n s5.1 t.1, ia.from s.1, ib.from s2.1, ic.from s3.1, id.from s4.1, ie.from s5.1, if.below t.1, ig.below (omega arith))
+                | inl s6 ↦ elim (leb_tells 10000000 n) [
+                  | inr t ↦ omega (arith, count_seven n s6.1 t.1, ia.from s.1, ib.from s2.1, ic.from s3.1, id.from s4.1, ie.from s5.1, if.from s6.1, ig.below t.1)
+                  | inl s7 ↦ omega (arith, count_eight n s7.1 h, ia.from s.1, ib.from s2.1, ic.from s3.1, id.from s4.1, ie.from s5.1, if.from s6.1, ig.from s7.1)
                 ]
+              ]
             ]
+          ]
         ]
+      ]
     ]
 
 eight_padded : (n : ℕ) → n < 2 ^ 64 → padded 4 (n / 10000) ++ padded 4 (n % 10000) ≡ padded 8 n

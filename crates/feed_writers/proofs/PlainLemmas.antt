@@ -1,7 +1,7 @@
 -- From a vector's mask to bytes that stand for themselves. A mask that is computed lane by lane is held to a test of each of the 256 bytes.
-use Rattle.std.proofs.Common.{◌≡◌, ℕ, zero, suc, ◌+◌, ◌-◌, ◌*◌, ◌%◌, ◌^◌, ◌<◌, ◌≤◌, ltb, eqb, Bool, true, false, not, ◌&&◌, ◌||◌, ◌==◌, ◌⊎◌, inl, inr, cond, T, List, [], ◌∷◌, ◌++◌, length, take, drop, get_or, map, replicate, Fits, w8, refl, sym, ap, ap₂, ◌∙◌, subst, arith, add-one, get_or-take, get_or-drop, append_assoc, length-drop, not-suc-le-zero}
+use Rattle.std.proofs.Common.{◌≡◌, ℕ, zero, suc, ◌+◌, ◌-◌, ◌%◌, ◌^◌, ◌<◌, ◌≤◌, ltb, eqb, Bool, true, false, not, ◌&&◌, ◌==◌, ◌⊎◌, inl, inr, cond, T, List, [], ◌∷◌, length, drop, get_or, map, replicate, Fits, w8, refl, sym, ap, ap₂, ◌∙◌, subst, arith, add-one, get_or-take, not-suc-le-zero}
 use Rattle.std.proofs.lemmas.Bool.{eqb-true, cases_order}
-use Rattle.std.proofs.lemmas.Simd.{length-chunk, leading_from_mask_l, chunk-fits, zip2_splat, map-map, mask_l-mod, trailing_mask_l}
+use Rattle.std.proofs.lemmas.Simd.{length-chunk, leading_from_mask_l, chunk-fits, zip2_splat, mask_l-mod, trailing_mask_l}
 use Rattle.std.proofs.lemmas.List.{length-map}
 use Rattle.std.proofs.lemmas.List.Sums.{prefix_len-le-length, prefix_len_passes}
 use Rattle.std.specs.Bool.{OnTrue}

@@ -1,9 +1,9 @@
 -- Bytes between quotes, some at a time.
-use Rattle.std.proofs.Common.{◌≡◌, ℕ, zero, suc, ◌+◌, ◌≤◌, ◌<◌, List, [], ◌∷◌, ◌++◌, length, take, drop, true, refl, sym, ap, ap₂, ◌∙◌, append_assoc, arith}
+use Rattle.std.proofs.Common.{◌≡◌, ℕ, zero, suc, ◌+◌, ◌≤◌, List, [], ◌∷◌, ◌++◌, length, take, drop, refl, sym, ap, ap₂, ◌∙◌, append_assoc, arith}
 use Rattle.std.proofs.lemmas.List.{append-nil, take_all, take-take, length-take-le}
 use Rattle.std.proofs.Math.Seq.{take-add, take-append_seam, drop-append_seam}
 use Rattle.std.specs.List.{flat_map}
-use Rattle.feed_writers.specs.Quoting.{is_plain_byte, quoted_byte, quoted}
+use Rattle.feed_writers.specs.Quoting.{quoted_byte, quoted}
 use Rattle.feed_writers.specs.PlainBytes.{PlainTo}
 
 -- plain bytes at the front stand for themselves
@@ -40,12 +40,12 @@ plain_quoted s r len base one two new d few plain long first end second fits thi
     let sixteen : s + len ≤ r = omega (arith, few, end, length-take-le 16 d long) in
     third
     ∙ ap (λ (t : List ℕ). t ++ 39 ∷ []) (
-      sym (take-take (s + len) r two sixteen)
-      ∙ ap (take (s + len)) second
-      ∙ ap (λ (k : ℕ). take (k + len) (take s one ++ take 16 d)) (sym (length-take-le s one fits))
-      ∙ take-add (length (take s one)) len (take s one ++ take 16 d)
-      ∙ ap₂ (λ (a b : List ℕ). a ++ take len b) (take-append_seam (take s one) (take 16 d)) (drop-append_seam (take s one) (take 16 d))
-      ∙ ap₂ (λ (a b : List ℕ). a ++ b) first (take-take len 16 d few ∙ sym (stand d len plain (omega arith)))
+    sym (take-take (s + len) r two sixteen)
+    ∙ ap (take (s + len)) second
+    ∙ ap (λ (k : ℕ). take (k + len) (take s one ++ take 16 d)) (sym (length-take-le s one fits))
+    ∙ take-add (length (take s one)) len (take s one ++ take 16 d)
+    ∙ ap₂ (λ (a b : List ℕ). a ++ take len b) (take-append_seam (take s one) (take 16 d)) (drop-append_seam (take s one) (take 16 d))
+    ∙ ap₂ (λ (a b : List ℕ). a ++ b) first (take-take len 16 d few ∙ sym (stand d len plain (omega arith)))
     )
     ∙ simp append_assoc
   where
