@@ -41,6 +41,8 @@ mod rows_events;
 #[cfg(test)]
 mod table_maps;
 #[cfg(test)]
+mod text_buffers;
+#[cfg(test)]
 mod texts;
 #[cfg(test)]
 mod times;
