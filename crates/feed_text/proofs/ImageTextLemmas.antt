@@ -8,11 +8,10 @@ use Rattle.rows_cells.specs.declared.cell.CellRef.{CellRef}
 use Rattle.rows_cells.specs.CellViews.{cell_value}
 use Rattle.rows_cells.specs.declared.image.ImageCells.{ImageCells}
 use Rattle.rows_cells.specs.declared.image.ImageField.{ImageField}
-use Rattle.rows_cells.specs.CellValues.{CellValue}
 use Rattle.rows_cells.specs.Images.{PlacedValue}
 use Rattle.rows_cells.proofs.FieldLemmas.{bind-ok}
 use Rattle.rows_cells.specs.ImageViews.{cells_left, cells_count, TakesCell, IsNextField, PassesField}
-use Rattle.feed_text.specs.CellText.{label, text_of, cell_text, Appends, IsCellRefused}
+use Rattle.feed_text.specs.CellText.{label, cell_text, Appends, IsCellRefused}
 use Rattle.feed_text.specs.FieldText.{WritesField}
 use Rattle.feed_text.specs.ImageText.{Cells, behind, cells_text, Gives, WritesFields, AppendsFields, PutsCells, StopsWithin, IsCellsRefused}
 

@@ -22,7 +22,7 @@ use crate::parts::CellParts;
 use crate::quoting::quote;
 use crate::short::{SHORT, Short, put_short};
 use crate::values::put_value;
-use feed_writers::{put_byte, put_number};
+use feed_writers::{put_byte, put_place};
 use rows_cells::{BinlogValue, CellRef};
 use rows_jsonb::{JsonDiff, JsonDom, Value as JsonbValue, json_diffs};
 use rows_values::{RowsError, Value};
@@ -97,7 +97,7 @@ pub(crate) fn put_label(text: &mut [u8], at: usize, place: u32) -> usize
     ensures text { take result text.new ≡ take at text.old ++ label place }
 {
     let end = put_byte(text, at, b' ');
-    let end = put_number(text, end, u64::from(place));
+    let end = put_place(text, end, place);
     put_byte(text, end, b'=')
 }
 

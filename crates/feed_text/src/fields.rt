@@ -3,16 +3,17 @@
 //! A cell that can't be read, and one whose text may be long, is left to others: these writers answer None then.
 
 ghost use Rattle.std.specs.Prelude.{◌≡◌, ◌≤◌, ◌+◌, ◌++◌, length, take, false};
+ghost use Rattle.rows_cells.specs.declared.form.Width.TheVariants.{One};
 ghost use Rattle.rows_cells.specs.declared.form.CellForm.TheVariants.{Signed, Unsigned, Counted, Datetime2, Time2, Decimal};
 ghost use Rattle.feed_text.specs.FieldText.{WritesOrNone};
 
 use crate::decimals::write_quoted;
 use crate::parts::{datetime_parts, time_parts};
 use crate::short::{FEW, FEW_DIGITS, put_date, put_span};
-use feed_writers::{put_byte, put_bytes, put_number, put_quoted, put_signed};
+use feed_writers::{put_byte, put_bytes, put_number, put_plain_quoted, put_quoted, put_signed};
 use rows_cells::{
-    CellForm, CellRef, ImageField, Width, bytes_front, datetime_front, decimal_front, signed_front,
-    time_front, unsigned_front,
+    CellForm, CellRef, ImageField, Width, bytes_front, datetime_front, decimal_front,
+    few_bytes_front, signed_front, time_front, unsigned_front,
 };
 
 /// Writes the text of a field.
@@ -31,7 +32,7 @@ pub(crate) fn put_field<'a>(
     match field.form {
         CellForm::Signed(width) => put_signed_field(text, at, field.bytes, width),
         CellForm::Unsigned(width) => put_unsigned_field(text, at, field.bytes, width),
-        CellForm::Counted(Width::One) => put_bytes_field(text, at, field.bytes, Width::One),
+        CellForm::Counted(Width::One) => put_few_field(text, at, field.bytes),
         CellForm::Counted(Width::Two) => put_bytes_field(text, at, field.bytes, Width::Two),
         CellForm::Datetime2(decimals) => put_datetime_field(text, at, field.bytes, decimals),
         CellForm::Decimal(precision, scale) => {
@@ -120,6 +121,21 @@ fn put_unsigned_of<'a>(
         }
         _ => None,
     }
+}
+
+/// Writes the text of bytes behind a length of one byte, where they are few.
+#[inline(always)]
+#[tactic(auto, unfolding(crate::specs::CellText::text_of))]
+fn put_few_field<'a>(text: &mut [u8], at: usize, bytes: &'a [u8]) -> Option<(usize, &'a [u8])>
+    requires { at + 76 ≤ length text.old }
+    ensures { WritesOrNone false (Counted One) bytes.now at text.old text.new result }
+{
+    if let Some((window, len, rest)) = few_bytes_front(bytes) {
+        if let Some(end) = put_plain_quoted(text, at, window, len) {
+            return Some((end, rest));
+        }
+    }
+    put_bytes_field(text, at, bytes, Width::One)
 }
 
 /// Writes the text of bytes, where they are few.

@@ -86,7 +86,13 @@ pub(crate) fn put_date(text: &mut [u8], at: usize, day: Day, clock: Clock) -> us
 /// Writes a minus where it is below zero, days, `d` and what is left of them.
 #[inline(always)]
 #[tactic(auto, unfolding(crate::specs::Times::span_text))]
-pub(crate) fn put_span(text: &mut [u8], at: usize, is_negative: bool, days: u32, clock: Clock) -> usize
+pub(crate) fn put_span(
+    text: &mut [u8],
+    at: usize,
+    is_negative: bool,
+    days: u32,
+    clock: Clock,
+) -> usize
     requires { at + 76 ≤ length text.old }
     ensures most { result ≤ at + 76 }
     ensures text { take result text.new ≡ take at text.old ++ span_text is_negative days clock }

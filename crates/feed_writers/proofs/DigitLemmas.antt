@@ -1,10 +1,12 @@
 -- Numbers as text, by pairs of digits, and how many digits they have.
-use Rattle.std.proofs.Common.{◌≡◌, ℕ, zero, suc, ◌+◌, ◌-◌, ◌*◌, ◌/◌, ◌%◌, ◌^◌, ◌<◌, ◌≤◌, Bool, true, false, ◌&&◌, T, eqb, List, [], ◌∷◌, ◌++◌, length, take, drop, get_or, replicate, slice_index, refl, sym, ap, ◌∙◌, inl, inr, arith, eq-zero-or-pos, eqb→eq, append_assoc, length-append}
+use Rattle.std.proofs.Common.{◌≡◌, ℕ, zero, suc, ◌+◌, ◌-◌, ◌*◌, ◌/◌, ◌%◌, ◌^◌, ◌<◌, ◌≤◌, Bool, true, false, ◌&&◌, T, eqb, List, [], ◌∷◌, ◌++◌, length, take, drop, get_or, replicate, refl, sym, ap, ap₂, ◌∙◌, inl, inr, arith, eq-zero-or-pos, eqb→eq, append_assoc, length-append, length-drop}
 use Rattle.std.specs.Prelude.{nat_lt}
-use Rattle.std.proofs.lemmas.Bool.{ltb-true, ltb-false, lt-ltb}
+use Rattle.std.proofs.lemmas.Bool.{ltb-true, ltb-false}
 use Rattle.std.proofs.lemmas.Fmt.{decimal_digit, decimal_step, length-decimal-le}
-use Rattle.std.proofs.lemmas.List.{replicate_more, take-append-drop}
-use Rattle.std.specs.Fmt.{decimal, digit_glyph}
+use Rattle.std.proofs.lemmas.Bool.Decides.{leb_tells}
+use Rattle.std.proofs.lemmas.List.{replicate_more, drop-take, take-take, length-take-le}
+use Rattle.std.proofs.Math.Seq.{take-add, take-append_seam, drop-append_seam}
+use Rattle.std.specs.Fmt.{decimal, digits}
 use Rattle.rows_values.specs.TimeTexts.{padded}
 use Rattle.feed_writers.specs.declared.digits.TheConstants.{PAIRS}
 use lib.Ieee.Fits.{and_l, and_r}
@@ -182,3 +184,99 @@ eight_more n lo hi =
 -- a byte, and a text behind it
 pub pushed_then : (base b c mid new : List ℕ) (a : ℕ) → mid ≡ base ++ a ∷ [] → new ≡ mid ++ b → a ∷ b ≡ c → new ≡ base ++ c
 pushed_then base b c mid new a first second e = joined_is base (a ∷ []) b c mid new first second e
+
+-- ---- eight digits at once
+
+count_next : (n k : ℕ) → 10 ≤ n → n < 2 ^ 64 → k ≡ length (decimal (n / 10)) → k + 1 ≡ length (decimal n)
+count_next n k lo hi e = omega (arith, longer n lo hi, e)
+
+count_five : (n : ℕ) → 10000 ≤ n → n < 100000 → 5 ≡ length (decimal n)
+count_five n lo hi = count_next n 4 (omega (arith, lo)) (omega (arith, hi)) (count_four (n / 10) (omega (arith, lo)) (omega (arith, hi)))
+
+count_six : (n : ℕ) → 100000 ≤ n → n < 1000000 → 6 ≡ length (decimal n)
+count_six n lo hi = count_next n 5 (omega (arith, lo)) (omega (arith, hi)) (count_five (n / 10) (omega (arith, lo)) (omega (arith, hi)))
+
+count_seven : (n : ℕ) → 1000000 ≤ n → n < 10000000 → 7 ≡ length (decimal n)
+count_seven n lo hi = count_next n 6 (omega (arith, lo)) (omega (arith, hi)) (count_six (n / 10) (omega (arith, lo)) (omega (arith, hi)))
+
+count_eight : (n : ℕ) → 10000000 ≤ n → n < 100000000 → 8 ≡ length (decimal n)
+count_eight n lo hi = count_next n 7 (omega (arith, lo)) (omega (arith, hi)) (count_seven (n / 10) (omega (arith, lo)) (omega (arith, hi)))
+
+-- 1 where n is at least k, else 0
+pub record IsFrom (n k r : ℕ) : Type 0 where
+  pub from : k ≤ n → r ≡ 1
+  pub below : n < k → r ≡ 0
+
+-- one digit, and one more for each power of ten that is passed
+pub count_sum : (n a b c d e f g : ℕ) → n < 100000000 → IsFrom n 10 a → IsFrom n 100 b → IsFrom n 1000 c → IsFrom n 10000 d → IsFrom n 100000 e → IsFrom n 1000000 f → IsFrom n 10000000 g
+    → 1 + a + b + c + d + e + f + g ≡ length (decimal n)
+count_sum n a b c d e f g h ia ib ic id ie if ig =
+    elim (leb_tells 10 n) [
+      | inr t ↦ omega (arith, count_one n t.1, ia.below t.1, ib.below (omega arith), ic.below (omega arith), id.below (omega arith), ie.below (omega arith), if.below (omega arith), ig.below (omega arith))
+      | inl s ↦ elim (leb_tells 100 n) [
+        | inr t ↦ omega (arith, count_two n s.1 t.1, ia.from s.1, ib.below t.1, ic.below (omega arith), id.below (omega arith), ie.below (omega arith), if.below (omega arith), ig.below (omega arith))
+        | inl s2 ↦ elim (leb_tells 1000 n) [
+          | inr t ↦ omega (arith, count_three n s2.1 t.1, ia.from s.1, ib.from s2.1, ic.below t.1, id.below (omega arith), ie.below (omega arith), if.below (omega arith), ig.below (omega arith))
+          | inl s3 ↦ elim (leb_tells 10000 n) [
+            | inr t ↦ omega (arith, count_four n s3.1 t.1, ia.from s.1, ib.from s2.1, ic.from s3.1, id.below t.1, ie.below (omega arith), if.below (omega arith), ig.below (omega arith))
+            | inl s4 ↦ elim (leb_tells 100000 n) [
+              | inr t ↦ omega (arith, count_five n s4.1 t.1, ia.from s.1, ib.from s2.1, ic.from s3.1, id.from s4.1, ie.below t.1, if.below (omega arith), ig.below (omega arith))
+              | inl s5 ↦ elim (leb_tells 1000000 n) [
+                | inr t ↦ omega (arith, count_six n s5.1 t.1, ia.from s.1, ib.from s2.1, ic.from s3.1, id.from s4.1, ie.from s5.1, if.below t.1, ig.below (omega arith))
+                | inl s6 ↦ elim (leb_tells 10000000 n) [
+                  | inr t ↦ omega (arith, count_seven n s6.1 t.1, ia.from s.1, ib.from s2.1, ic.from s3.1, id.from s4.1, ie.from s5.1, if.from s6.1, ig.below t.1)
+                  | inl s7 ↦ omega (arith, count_eight n s7.1 h, ia.from s.1, ib.from s2.1, ic.from s3.1, id.from s4.1, ie.from s5.1, if.from s6.1, ig.from s7.1)
+                ]
+              ]
+            ]
+          ]
+        ]
+      ]
+    ]
+
+eight_padded : (n : ℕ) → n < 2 ^ 64 → padded 4 (n / 10000) ++ padded 4 (n % 10000) ≡ padded 8 n
+eight_padded n h =
+    let a : n / 100 / 100 ≡ n / 10000 = omega arith in
+    let b : n / 100 % 100 ≡ n % 10000 / 100 = omega arith in
+    let c : n % 100 ≡ n % 10000 % 100 = omega arith in
+    sym (rw (padded_two_more 5 n h, padded_two_more 3 (n / 100) (omega (arith, h)), padded_two_more 1 (n % 10000) (omega arith), append_assoc, a, b, ← c) refl)
+
+-- all eight digits stand in a list, and those behind the zeros in front are the number's
+digits_behind : (n count : ℕ) (digits : List ℕ) → n < 2 ^ 64 → count ≡ length (decimal n) → count ≤ 8 → take 8 digits ≡ padded 4 (n / 10000) ++ padded 4 (n % 10000) → take count (drop (8 - count) digits) ≡ decimal n
+digits_behind n count digits h e le is =
+    let whole : 8 - count + count ≡ 8 = omega (arith, le) in
+    sym (drop-take (8 - count) count digits)
+    ∙ ap (λ (k : ℕ). drop (8 - count) (take k digits)) whole
+    ∙ ap (drop (8 - count)) (is ∙ eight_padded n h ∙ padded_of 8 n ∙ ap (λ (k : ℕ). replicate (8 - k) 48 ++ decimal n) (sym e))
+    ∙ drop_zeros (8 - count) (decimal n)
+  where
+    drop_zeros : (k : ℕ) (s : List ℕ) → drop k (replicate k 48 ++ s) ≡ s
+    drop_zeros zero s = refl
+    drop_zeros (suc k) s = drop_zeros k s
+
+-- so many of eight bytes that were written count
+pub front_counts : (at count n : ℕ) (old new piece digits : List ℕ) → at ≤ length old → n < 2 ^ 64 → count ≡ length (decimal n) → count ≤ 8 → take (at + 8) new ≡ take at old ++ piece → piece ≡ take 8 (drop (8 - count) digits) → take 8 digits ≡ padded 4 (n / 10000) ++ padded 4 (n % 10000)
+    → take (at + count) new ≡ take at old ++ decimal n
+front_counts at count n old new piece digits room h e le written is all =
+    let front = take at old in
+    let len : length front ≡ at = length-take-le at old room in
+    sym (take-take (at + count) (at + 8) new (omega (arith, le)))
+    ∙ ap (take (at + count)) written
+    ∙ ap (λ (k : ℕ). take (k + count) (front ++ piece)) (sym len)
+    ∙ take-add (length front) count (front ++ piece)
+    ∙ ap₂ (λ (a b : List ℕ). a ++ take count b) (take-append_seam front piece) (drop-append_seam front piece)
+    ∙ ap (λ (t : List ℕ). front ++ t) (ap (take count) is ∙ take-take count 8 (drop (8 - count) digits) le ∙ digits_behind n count digits h e le all)
+
+-- the same, of the eight bytes as they were cut out
+pub cut_counts : (at count n r p : ℕ) (old new digits : List ℕ) → at ≤ length old → n < 2 ^ 64 → count ≡ length (decimal n) → count ≤ 8 → length digits ≡ 16 → p ≡ 8 → take p digits ≡ padded 4 (n / 10000) ++ padded 4 (n % 10000)
+    → r ≡ at + length (take (16 - count - (8 - count)) (drop (8 - count) digits)) → take r new ≡ take at old ++ take (16 - count - (8 - count)) (drop (8 - count) digits) → take (at + count) new ≡ take at old ++ decimal n
+cut_counts at count n r p old new digits room h e le size p8 all end written =
+    let k : 16 - count - (8 - count) ≡ 8 = omega (arith, le) in
+    let long : 8 ≤ length (drop (8 - count) digits) = omega (arith, length-drop (8 - count) digits, size) in
+    let eight : length (take (16 - count - (8 - count)) (drop (8 - count) digits)) ≡ 8 = ap (λ (m : ℕ). length (take m (drop (8 - count) digits))) k ∙ length-take-le 8 (drop (8 - count) digits) long in
+    let r8 : at + 8 ≡ r = omega (arith, end, eight) in
+    front_counts at count n old new (take 8 (drop (8 - count) digits)) digits room h e le (ap (λ (m : ℕ). take m new) r8 ∙ written ∙ ap (λ (m : ℕ). take at old ++ take m (drop (8 - count) digits)) k) refl (ap (λ (m : ℕ). take m digits) (sym p8) ∙ all)
+
+pub padded_zeros : padded 6 0 ≡ 48 ∷ 48 ∷ 48 ∷ 48 ∷ 48 ∷ 48 ∷ []
+unfolding padded digits
+padded_zeros = refl

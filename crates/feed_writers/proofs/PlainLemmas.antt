@@ -1,13 +1,14 @@
 -- From a vector's mask to bytes that stand for themselves. A mask that is computed lane by lane is held to a test of each of the 256 bytes.
-use Rattle.std.proofs.Common.{◌≡◌, ℕ, zero, suc, ◌+◌, ◌-◌, ◌*◌, ◌%◌, ◌^◌, ◌<◌, ◌≤◌, ltb, eqb, Bool, true, false, not, ◌&&◌, ◌||◌, ◌==◌, ◌⊎◌, inl, inr, cond, T, List, [], ◌∷◌, ◌++◌, length, take, drop, get_or, map, replicate, Fits, w8, refl, sym, ap, ap₂, ◌∙◌, subst, arith, add-one, get_or-take, get_or-drop, append_assoc, length-drop, not-suc-le-zero}
+use Rattle.std.proofs.Common.{◌≡◌, ℕ, zero, suc, ◌+◌, ◌-◌, ◌%◌, ◌^◌, ◌<◌, ◌≤◌, ltb, eqb, Bool, true, false, not, ◌&&◌, ◌==◌, ◌⊎◌, inl, inr, cond, T, List, [], ◌∷◌, length, drop, get_or, map, replicate, Fits, w8, refl, sym, ap, ap₂, ◌∙◌, subst, arith, add-one, get_or-take, not-suc-le-zero}
 use Rattle.std.proofs.lemmas.Bool.{eqb-true, cases_order}
-use Rattle.std.proofs.lemmas.Simd.{length-chunk, leading_from_mask_l, chunk-fits, zip2_splat, map-map, mask_l-mod}
+use Rattle.std.proofs.lemmas.Simd.{length-chunk, leading_from_mask_l, chunk-fits, zip2_splat, mask_l-mod, trailing_mask_l}
 use Rattle.std.proofs.lemmas.List.{length-map}
-use Rattle.std.proofs.lemmas.List.Sums.{prefix_len-le-length}
+use Rattle.std.proofs.lemmas.List.Sums.{prefix_len-le-length, prefix_len_passes}
 use Rattle.std.specs.Bool.{OnTrue}
 use Rattle.std.specs.List.{prefix_len}
 use Rattle.std.specs.Prelude.{take_while}
 use lib.Bits.{bit_or}
+use lib.Count.{count_trailing_zeros}
 use lib.Lanes.{chunk, mask_l, zip2, top, Each1}
 use Rattle.feed_writers.specs.Quoting.{is_plain_byte}
 use Rattle.feed_writers.specs.PlainBytes.{PlainTo}
@@ -94,15 +95,32 @@ plain_from_mask d n room none k q =
     ap is_plain_byte (sym (get_or-take n d k 0 q)) ∙ all_plain (chunk 0 n d) (leading_from_mask_l is_stop (chunk 0 n d) none) k (omega arith)
 
 -- the four tests of a vector of n lanes, as the code makes them
-pub plain_from_lanes : (d : List ℕ) (n : ℕ) → n ≤ length d → n ≤ 64 → ((k : ℕ) → Fits w8 (get_or d k 0))
-    → OnTrue (mask_l (map (top 7) (zip2 bit_or (zip2 bit_or (zip2 bit_or (zip2 hit (chunk 0 n d) (replicate n 39)) (zip2 hit (chunk 0 n d) (replicate n 92))) (zip2 below (chunk 0 n d) (replicate n 32))) (zip2 below (replicate n 126) (chunk 0 n d)))) % 2 ^ 64 == 0)
-    (PlainTo d n)
-plain_from_lanes d n room few fits =
+pub stops_from_lanes : (d : List ℕ) (n : ℕ) → n ≤ length d → n ≤ 64 → ((k : ℕ) → Fits w8 (get_or d k 0))
+    → mask_l (map (top 7) (zip2 bit_or (zip2 bit_or (zip2 bit_or (zip2 hit (chunk 0 n d) (replicate n 39)) (zip2 hit (chunk 0 n d) (replicate n 92))) (zip2 below (chunk 0 n d) (replicate n 32))) (zip2 below (replicate n 126) (chunk 0 n d)))) % 2 ^ 64
+    ≡ mask_l (map is_stop (chunk 0 n d))
+stops_from_lanes d n room few fits =
     let v = chunk 0 n d in
     let long = length-chunk 0 n d (omega (arith, room)) in
     let above : zip2 below (replicate n 126) v ≡ map (below 126) v = ap (λ k. zip2 below (replicate k 126) v) (sym long) ∙ splat_left below 126 v in
-    let mask = masked _ is_stop v _ (omega arith) (chunk-fits w8 0 n d fits) (either _ _ v (either _ _ v (either _ _ v (zip2_splat hit v n 39 long) (zip2_splat hit v n 92 long)) (zip2_splat below v n 32 long)) above) tt in
-    on_true _ _ (λ e. plain_from_mask d n room (sym mask ∙ eqb-true _ 0 e))
+    masked _ is_stop v _ (omega arith) (chunk-fits w8 0 n d fits) (either _ _ v (either _ _ v (either _ _ v (zip2_splat hit v n 39 long) (zip2_splat hit v n 92 long)) (zip2_splat below v n 32 long)) above) tt
+
+pub plain_from_lanes : (d : List ℕ) (n : ℕ) → n ≤ length d → n ≤ 64 → ((k : ℕ) → Fits w8 (get_or d k 0))
+    → OnTrue (mask_l (map (top 7) (zip2 bit_or (zip2 bit_or (zip2 bit_or (zip2 hit (chunk 0 n d) (replicate n 39)) (zip2 hit (chunk 0 n d) (replicate n 92))) (zip2 below (chunk 0 n d) (replicate n 32))) (zip2 below (replicate n 126) (chunk 0 n d)))) % 2 ^ 64 == 0)
+    (PlainTo d n)
+plain_from_lanes d n room few fits = on_true _ _ (λ e. plain_from_mask d n room (sym (stops_from_lanes d n room few fits) ∙ eqb-true _ 0 e))
+
+-- the bytes before the first that stops
+plain_before : (d : List ℕ) (n r : ℕ) → n ≤ length d → r ≡ prefix_len (λ x. not (is_stop x)) (chunk 0 n d) → PlainTo d r
+plain_before d n r room e k q =
+    let long = length-chunk 0 n d (omega (arith, room)) in
+    let all = prefix_len-le-length (λ x. not (is_stop x)) (chunk 0 n d) in
+    ap is_plain_byte (sym (get_or-take n d k 0 (omega (arith, long, all, e, q)))) ∙ no_stop _ (prefix_len_passes (λ x. not (is_stop x)) (chunk 0 n d) k 0 (omega (arith, e, q)))
+
+-- as many as lanes come before the lowest bit of their mask
+pub plain_before_stop : (d : List ℕ) (n m : ℕ) → n ≤ length d → n ≤ 64 → m ≡ mask_l (map is_stop (chunk 0 n d)) → 0 < m → PlainTo d (count_trailing_zeros 64 m)
+plain_before_stop d n m room few e some =
+    let long = length-chunk 0 n d (omega (arith, room)) in
+    plain_before d n (count_trailing_zeros 64 m) room (ap (count_trailing_zeros 64) e ∙ trailing_mask_l is_stop 64 (chunk 0 n d) (omega arith) (omega (arith, e, some)))
 
 one_up : (n : ℕ) → 1 + n ≡ suc n
 one_up n = omega arith
@@ -125,3 +143,14 @@ pub passed_more : (n : ℕ) (all rest after : List ℕ) → length rest ≤ leng
 passed_more n all rest after le e room plain is len =
     let more : length (take_while is_plain_byte rest) ≡ n + length (take_while is_plain_byte after) = plain_more n rest room plain ∙ ap (λ (t : List ℕ). n + length (take_while is_plain_byte t)) (sym is) in
     omega (arith, le, e, more, len)
+
+-- no lane stops
+pub plain_where_none : (d : List ℕ) (n m : ℕ) → n ≤ length d → m ≡ mask_l (map is_stop (chunk 0 n d)) → m ≡ 0 → PlainTo d n
+plain_where_none d n m room e none = plain_from_mask d n room (sym e ∙ none)
+
+pub plain_where_some : (d : List ℕ) (n m : ℕ) → n ≤ length d → n ≤ 64 → m ≡ mask_l (map is_stop (chunk 0 n d)) → (m ≡ 0 → ⊥) → PlainTo d (count_trailing_zeros 64 m)
+plain_where_some d n m room few e some = plain_before_stop d n m room few e (positive m some)
+  where
+    positive : (k : ℕ) → (k ≡ 0 → ⊥) → 0 < k
+    positive zero h = absurd (h refl)
+    positive (suc k) h = omega arith

@@ -1,8 +1,9 @@
 -- Bytes between quotes, some at a time.
-use Rattle.std.proofs.Common.{◌≡◌, ℕ, zero, suc, ◌+◌, ◌≤◌, ◌<◌, List, [], ◌∷◌, ◌++◌, length, take, drop, true, refl, sym, ap, ◌∙◌, append_assoc, arith}
-use Rattle.std.proofs.lemmas.List.{append-nil, take_all}
+use Rattle.std.proofs.Common.{◌≡◌, ℕ, zero, suc, ◌+◌, ◌≤◌, List, [], ◌∷◌, ◌++◌, length, take, drop, refl, sym, ap, ap₂, ◌∙◌, append_assoc, arith}
+use Rattle.std.proofs.lemmas.List.{append-nil, take_all, take-take, length-take-le}
+use Rattle.std.proofs.Math.Seq.{take-add, take-append_seam, drop-append_seam}
 use Rattle.std.specs.List.{flat_map}
-use Rattle.feed_writers.specs.Quoting.{is_plain_byte, quoted_byte, quoted}
+use Rattle.feed_writers.specs.Quoting.{quoted_byte, quoted}
 use Rattle.feed_writers.specs.PlainBytes.{PlainTo}
 
 -- plain bytes at the front stand for themselves
@@ -30,3 +31,25 @@ front_then base one new d front after n f a e first is =
 pub quotes_written : (base one two new d : List ℕ) → one ≡ base ++ 39 ∷ [] → two ≡ one ++ flat_map quoted_byte d → new ≡ two ++ 39 ∷ [] → new ≡ base ++ quoted d
 unfolding quoted
 quotes_written base one two new d first second is = is ∙ ap (λ (t : List ℕ). t ++ 39 ∷ []) (second ∙ ap (λ (t : List ℕ). t ++ flat_map quoted_byte d) first) ∙ simp append_assoc
+
+-- plain bytes were written with more behind them, and a quote behind them
+pub plain_quoted : (s r len : ℕ) (base one two new d : List ℕ) → len ≤ 16 → PlainTo d len → 16 ≤ length d → take s one ≡ base ++ 39 ∷ [] → r ≡ s + length (take 16 d) → take r two ≡ take s one ++ take 16 d → s ≤ length one
+    → new ≡ take (s + len) two ++ 39 ∷ [] → new ≡ base ++ quoted (take len d)
+unfolding quoted
+plain_quoted s r len base one two new d few plain long first end second fits third =
+    let sixteen : s + len ≤ r = omega (arith, few, end, length-take-le 16 d long) in
+    third
+    ∙ ap (λ (t : List ℕ). t ++ 39 ∷ []) (
+    sym (take-take (s + len) r two sixteen)
+    ∙ ap (take (s + len)) second
+    ∙ ap (λ (k : ℕ). take (k + len) (take s one ++ take 16 d)) (sym (length-take-le s one fits))
+    ∙ take-add (length (take s one)) len (take s one ++ take 16 d)
+    ∙ ap₂ (λ (a b : List ℕ). a ++ take len b) (take-append_seam (take s one) (take 16 d)) (drop-append_seam (take s one) (take 16 d))
+    ∙ ap₂ (λ (a b : List ℕ). a ++ b) first (take-take len 16 d few ∙ sym (stand d len plain (omega arith)))
+    )
+    ∙ simp append_assoc
+  where
+    stand : (s : List ℕ) (n : ℕ) → PlainTo s n → n ≤ length s → flat_map quoted_byte (take n s) ≡ take n s
+    stand s zero h le = refl
+    stand [] (suc n) h le = refl
+    stand (x ∷ s) (suc n) h le = rw (h 0 (omega arith)) (ap (λ (t : List ℕ). x ∷ t) (stand s n (λ k q. h (suc k) (omega arith)) (omega arith)))

@@ -141,7 +141,8 @@ fn put_short(text: &mut [u8], at: usize, number: u32) -> usize
     put_four(text, at, number)
 }
 
-/// Writes a number below 100,000,000 in decimal.
+/// Writes a number below 100,000,000 in decimal. It takes all of its eight digits and leaves out the zeros in
+/// front, so that nothing hangs on how many these are but where the text ends.
 #[inline(always)]
 fn put_middle(text: &mut [u8], at: usize, number: u32) -> usize
     requires small { number < 100000000 }
@@ -150,11 +151,38 @@ fn put_middle(text: &mut [u8], at: usize, number: u32) -> usize
     ensures most { result ≤ at + 8 }
     ensures text { take result text.new ≡ take at text.old ++ decimal number }
 {
-    if number < 10_000 {
-        return put_short(text, at, number);
-    }
-    let end = put_short(text, at, number / 10_000);
-    put_four(text, end, number % 10_000)
+    let count = middle_count(number);
+    let mut digits = [b'0'; 16];
+    put_eight(&mut digits, 0, number);
+    put_bytes(text, at, &digits[8 - count..16 - count]);
+    at + count
+}
+
+/// How many digits a number below 100,000,000 has.
+#[inline(always)]
+fn middle_count(number: u32) -> usize
+    requires { number < 100000000 }
+    ensures value { result ≡ length (decimal number) }
+    ensures low { 1 ≤ result }
+    ensures high { result ≤ 8 }
+{
+    1 + is_from(number, 10)
+        + is_from(number, 100)
+        + is_from(number, 1000)
+        + is_from(number, 10_000)
+        + is_from(number, 100_000)
+        + is_from(number, 1_000_000)
+        + is_from(number, 10_000_000)
+}
+
+/// 1 where a number is at least another, else 0.
+#[inline(always)]
+fn is_from(number: u32, least: u32) -> usize
+    ensures most { result ≤ 1 }
+    ensures from { least ≤ number → result ≡ 1 }
+    ensures below { number < least → result ≡ 0 }
+{
+    usize::from(number >= least)
 }
 
 /// Writes a number below 100,000,000 in eight digits.
@@ -181,6 +209,32 @@ pub fn put_number(text: &mut [u8], at: usize, number: u64) -> usize
         return put_middle(text, at, number as u32);
     }
     put_long(text, at, number)
+}
+
+/// Writes a number in decimal, as [`put_number`] does; this is for numbers that are mostly alike, as places of
+/// columns are.
+#[inline(always)]
+pub fn put_place(text: &mut [u8], at: usize, number: u32) -> usize
+    requires { at + 20 ≤ length text.old }
+    ensures end { result ≡ at + length (decimal number) }
+    ensures most { result ≤ at + 20 }
+    ensures text { take result text.new ≡ take at text.old ++ decimal number }
+{
+    if number < 10_000 {
+        return put_short(text, at, number);
+    }
+    put_long_place(text, at, number)
+}
+
+/// The same of a number of five digits or more.
+#[inline(never)]
+fn put_long_place(text: &mut [u8], at: usize, number: u32) -> usize
+    requires { at + 20 ≤ length text.old }
+    ensures end { result ≡ at + length (decimal number) }
+    ensures most { result ≤ at + 20 }
+    ensures text { take result text.new ≡ take at text.old ++ decimal number }
+{
+    put_number(text, at, u64::from(number))
 }
 
 /// Writes a number of nine digits or more in decimal.

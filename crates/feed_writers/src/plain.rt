@@ -43,6 +43,23 @@ pub(crate) fn are_four_plain(bytes: &[u8]) -> bool
         == 0
 }
 
+/// How many of the first sixteen bytes stand for themselves, up to the first that doesn't.
+#[inline(always)]
+pub(crate) fn sixteen_plain_len(bytes: &[u8]) -> usize
+    requires { 16 ≤ length bytes.now }
+    ensures { PlainTo bytes.now result }
+{
+    let v = u8x16::from_slice(bytes);
+    let stops = (v.simd_eq(u8x16::splat(b'\''))
+        | v.simd_eq(u8x16::splat(b'\\'))
+        | v.simd_lt(u8x16::splat(0x20))
+        | v.simd_gt(u8x16::splat(0x7e))).to_bitmask();
+    if stops == 0 {
+        return 16;
+    }
+    stops.trailing_zeros() as usize
+}
+
 /// How many bytes at the front stand for themselves.
 #[inline(always)]
 pub fn plain_len(bytes: &[u8]) -> usize

@@ -1,12 +1,12 @@
 //! Bytes between quotes, eight at a time.
 
-ghost use Rattle.std.specs.Prelude.{◌≡◌, ◌≤◌, ◌+◌, ◌*◌, ◌++◌, length, take};
+ghost use Rattle.std.specs.Prelude.{◌≡◌, ◌≤◌, ◌+◌, ◌*◌, ◌++◌, IfNone, IfSome, length, take};
 ghost use Rattle.std.specs.List.{flat_map};
 ghost use Rattle.feed_writers.specs.Quoting.{quoted, quoted_byte};
 
 use crate::digits::{put_byte, put_bytes};
 use crate::escapes::put_escape;
-use crate::plain::{are_eight_plain, are_four_plain, is_plain};
+use crate::plain::{are_eight_plain, are_four_plain, is_plain, sixteen_plain_len};
 
 /// Writes bytes between single quotes.
 #[inline(always)]
@@ -18,6 +18,25 @@ pub fn put_quoted(text: &mut [u8], at: usize, bytes: &[u8]) -> usize
     let start = put_byte(text, at, b'\'');
     let end = put_between(text, start, bytes);
     put_byte(text, end, b'\'')
+}
+
+/// Writes the first `len` of sixteen bytes between single quotes, where each of them stands for itself; else
+/// leaves the text as it was.
+#[inline(always)]
+pub fn put_plain_quoted(text: &mut [u8], at: usize, bytes: &[u8], len: usize) -> Option<usize>
+    requires few { len ≤ 16 }
+    requires sixteen { 16 ≤ length bytes.now }
+    requires room { at + 18 ≤ length text.old }
+    ensures none { IfNone result (text.new ≡ text.old) }
+    ensures end { IfSome result (λ end. end ≡ at + len + 2) }
+    ensures text { IfSome result (λ end. take end text.new ≡ take at text.old ++ quoted (take len bytes.now)) }
+{
+    if sixteen_plain_len(bytes) < len {
+        return None;
+    }
+    let start = put_byte(text, at, b'\'');
+    put_bytes(text, start, &bytes[..16]);
+    Some(put_byte(text, start + len, b'\''))
 }
 
 /// Writes bytes as they stand between quotes.

@@ -4,7 +4,7 @@ ghost use Rattle.std.specs.Prelude.{◌≡◌, ◌≤◌, ◌<◌, ◌+◌, ◌+
 ghost use Rattle.rows_values.specs.TimeTexts.{padded};
 ghost use Rattle.feed_writers.specs.TimesOfDay.{clock_text, day_text};
 
-use crate::digits::{put_byte, put_four, put_padded, put_six, put_two};
+use crate::digits::{put_byte, put_bytes, put_four, put_padded, put_six, put_two};
 
 /// A time of day, or what is left of a span of time.
 #[derive(Clone, Copy, Debug, PartialEq, Eq)]
@@ -56,6 +56,9 @@ fn put_micros(text: &mut [u8], at: usize, number: u32) -> usize
     ensures most { result ≤ at + 10 }
     ensures text { take result text.new ≡ take at text.old ++ padded 6 number }
 {
+    if number == 0 {
+        return put_bytes(text, at, b"000000");
+    }
     if number >= 1_000_000 {
         return put_padded(text, at, 6, number);
     }

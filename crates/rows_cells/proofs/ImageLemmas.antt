@@ -3,8 +3,6 @@ use Rattle.std.proofs.Common.{◌≡◌, ◌≤◌, ◌<◌, ◌+◌, ℕ, Bool,
 use Rattle.std.proofs.lemmas.List.{drop_more, drop_all}
 use Rattle.rows_values.specs.declared.fault.RowsError.{RowsError}
 use Rattle.rows_jsonb.specs.JsonbValues.{◌>>=◌}
-use Rattle.rows_cells.specs.declared.form.Width.TheVariants.{One}
-use Rattle.rows_cells.specs.declared.form.CellForm.TheVariants.{Signed}
 use Rattle.rows_cells.specs.declared.form.CellForm.{CellForm}
 use Rattle.rows_cells.specs.declared.image.ImageColumn.{ImageColumn}
 use Rattle.rows_cells.specs.CellValues.{CellValue}

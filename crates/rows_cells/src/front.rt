@@ -1,9 +1,10 @@
 //! The cell at the front of bytes.
 
-ghost use Rattle.std.specs.Prelude.{◌≡◌, IfOk};
+ghost use Rattle.std.specs.Prelude.{◌≡◌, ◌≤◌, IfOk, IfSome, Ok, length, take};
 ghost use Rattle.rows_decimal.specs.Unpacked.{packed_text};
 ghost use Rattle.rows_jsonb.specs.JsonbViews.{shown};
 ghost use Rattle.rows_cells.specs.CellForms.{size_of, decimal_size};
+ghost use Rattle.rows_cells.specs.declared.form.Width.TheVariants.{One};
 ghost use Rattle.rows_cells.specs.declared.form.CellForm.TheVariants.{Signed, Unsigned, Counted, Datetime2, Time2};
 ghost use Rattle.rows_cells.specs.CellValues.{int, bytes as bytes_value, date_of, span_of, worth, decimal_value};
 ghost use Rattle.rows_cells.specs.Cells.{content_at, cell_at, IsSized};
@@ -66,6 +67,29 @@ pub fn bytes_front(bytes: &[u8], width: Width) -> Result<(&[u8], &[u8]), RowsErr
     ensures { shown (λ x. (bytes_value x.0.now, x.1.now)) result ≡ cell_at (Counted width) bytes.now }
 {
     counted_front(bytes, width)
+}
+
+/// Of bytes behind a length of one byte: all that stands behind the length, how many bytes are the cell's, and
+/// what follows the cell. None where the cell has more than 16 bytes or isn't whole, and where fewer than 16 bytes
+/// stand behind the length.
+#[inline(always)]
+#[tactic(auto, unfolding(crate::specs::Cells::cell_at))]
+pub fn few_bytes_front(bytes: &[u8]) -> Option<(&[u8], usize, &[u8])>
+    ensures few { IfSome result (λ x. x.1 ≤ 16) }
+    ensures sixteen { IfSome result (λ x. 16 ≤ length x.0.now) }
+    ensures cell { IfSome result (λ x. cell_at (Counted One) bytes.now ≡ Ok (bytes_value (take x.1 x.0.now), x.2.now)) }
+{
+    let Ok((size, after)) = split_front(bytes, 1) else {
+        return None;
+    };
+    let len = unsigned(size, Width::One);
+    if len > 16 || after.len() < 16 {
+        return None;
+    }
+    let Ok((_, rest)) = split_front(after, len as usize) else {
+        return None;
+    };
+    Some((after, len as usize, rest))
 }
 
 /// The packed date and time with so many decimals at the front, and what follows it; `EndOfBody` where it isn't

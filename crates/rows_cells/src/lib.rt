@@ -24,7 +24,8 @@ pub use cell::CellRef;
 pub use conversions::BinlogValueToValueError;
 pub use form::{CellForm, Width};
 pub use front::{
-    bytes_front, cell_front, datetime_front, decimal_front, signed_front, time_front, unsigned_front,
+    bytes_front, cell_front, datetime_front, decimal_front, few_bytes_front, signed_front,
+    time_front, unsigned_front,
 };
 pub use image::{ImageCells, ImageColumn, ImageField, ImagePlan};
 pub use rows::{RowPart, RowPlan, RowsCursor};

@@ -3,3 +3,4 @@ pub mod RowsEventLemmas
 pub mod WritingLemmas
 pub mod ShapeLemmas
 pub mod EqualLemmas
+pub mod PairLemmas

@@ -8,8 +8,16 @@ use Rattle.rows_jsonb.specs.JsonbValues.{Reading, ◌>>=◌}
 use Rattle.rows_cells.specs.Images.{ImageShape}
 use Rattle.rows_cells.specs.declared.image.ImageColumn.{ImageColumn}
 use Rattle.rows_plan.specs.Plans.{PlannedColumn}
-use Rattle.rows_plan.specs.PickedColumns.{is_picked, picked_as, is_set, in_image}
-use Rattle.rows_plan.specs.ImageShapes.{TablePlan, shape_picked}
+use Rattle.rows_plan.specs.PickedColumns.{is_picked, picked_as, is_set, in_image, definition}
+use Rattle.std.specs.Rc.{rc_slice_items}
+use Rattle.rows_values.specs.Columns.{parts_of}
+use Rattle.rows_plan.specs.PlanViews.{planned}
+use Rattle.rows_plan.specs.ImageShapes.{TablePlan, table_plan, shape_picked}
+use Rattle.rows_plan.specs.declared.plan.ColumnPlan.{ColumnPlan}
+use Rattle.rows_owned.specs.RowImages.{image_read}
+use Rattle.rows_owned.specs.declared.row_image.RowImage.{RowImage}
+use Rattle.rows_events.specs.RowPairs.{planned_table}
+use Rattle.rows_events.specs.EventImages.{Reads}
 use Rattle.rows_events.specs.FieldViews.{ShowsBits}
 use Rattle.rows_events.specs.EventShapes.{column_bit, shape_by, shapes_by}
 
@@ -41,15 +49,15 @@ no_bits n (Some bytes) (Some b) h e = absurd cc
 same_bit : (n : ℕ) (all : Option (List ℕ)) (bits : Bits) (s : Shown n all bits) (i : ℕ) → bit_at bits i ≡ column_bit n s.bytes i
 same_bit n all bits s i = ap (λ (k : ℕ). if nat_lt i k then Some (bit_of bits i) else None) s.len ∙ ap (λ (b : Bool). if nat_lt i n then Some b else None) (s.each i)
 
-same_picked : (n : ℕ) (all : Option (List ℕ)) (bits : Bits) (s : Shown n all bits) (columns : Reading (List PlannedColumn)) → picked_as in_image (bit_at bits) columns ≡ picked_as in_image (column_bit n s.bytes) columns
-same_picked n all bits s (Err e) = refl
-same_picked n all bits s (Ok cs) = ap (λ l. Ok (map in_image l)) (same_filter (is_picked (bit_at bits)) (is_picked (column_bit n s.bytes)) (λ c. ap is_set (same_bit n all bits s c.image.place)) cs)
+same_picked : {A : Type 0} (f : PlannedColumn → A) (n : ℕ) (all : Option (List ℕ)) (bits : Bits) (s : Shown n all bits) (columns : Reading (List PlannedColumn)) → picked_as f (bit_at bits) columns ≡ picked_as f (column_bit n s.bytes) columns
+same_picked f n all bits s (Err e) = refl
+same_picked f n all bits s (Ok cs) = ap (λ l. Ok (map f l)) (same_filter (is_picked (bit_at bits)) (is_picked (column_bit n s.bytes)) (λ c. ap is_set (same_bit n all bits s c.image.place)) cs)
 
 -- the image that the bits pick is the one that the event says
 pub same_shape : (p : TablePlan) (n : ℕ) (part : Bool) (all : Option (List ℕ)) (bits : Bits) (s : Shown n all bits) → shape_picked p (len_of bits) part (bit_at bits) ≡ shape_by p n part s.bytes
 same_shape p n part all bits s =
     ap (λ (k : ℕ). shape_picked p k part (bit_at bits)) s.len
-    ∙ ap (λ (r : Reading (List ImageColumn)). r >>= λ columns. Ok (record { columns = columns; json_columns = if part then Some p.json_columns else None })) (same_picked n all bits s (p.first n))
+    ∙ ap (λ (r : Reading (List ImageColumn)). r >>= λ columns. Ok (record { columns = columns; json_columns = if part then Some p.json_columns else None })) (same_picked in_image n all bits s (p.first n))
 
 pub one_image : (p : TablePlan) (n : ℕ) (part : Bool) (before after : Option (List ℕ)) (bytes : List ℕ) (s : ImageShape) → before ≡ Some bytes → after ≡ None → shape_by p n false bytes ≡ Ok s → shapes_by p n part before after ≡ Ok (s ∷ [])
 one_image p n part before after bytes s b a h = rw (b, a, h) refl
@@ -69,3 +77,14 @@ ok_still (Err e) P Q f h = h
 -- the image that was picked is the one that the event says
 pub picked_shape : (p : TablePlan) (n : ℕ) (said part : Bool) (all : Option (List ℕ)) (bits : Bits) (s : Shown n all bits) (o : Reading ImageShape) → said ≡ part → shape_picked p (len_of bits) said (bit_at bits) ≡ o → shape_by p n part s.bytes ≡ o
 picked_shape p n said part all bits s o e h = sym (same_shape p n part all bits s) ∙ ap (λ (b : Bool). shape_picked p (len_of bits) b (bit_at bits)) (sym e) ∙ h
+
+-- the reader that was made of the bits that an event shows reads the image that the event says
+pub reads_image : (plan : ColumnPlan) (n : ℕ) (said part : Bool) (all : Option (List ℕ)) (bits : Bits) (s : Shown n all bits) (image : RowImage) → said ≡ part
+    → shape_picked (table_plan plan) (len_of bits) said (bit_at bits) ≡ Ok (image_read image)
+    → picked_as (definition plan.database.items plan.table.items) (bit_at bits) (planned plan.run (len_of bits)) ≡ Ok (map parts_of (rc_slice_items image.definitions))
+    → Reads (planned_table plan) n part s.bytes image
+reads_image plan n said part all bits s image e shape defined = record {
+  shape = picked_shape (table_plan plan) n said part all bits s (Ok (image_read image)) e shape;
+  definitions = sym (same_picked (definition plan.database.items plan.table.items) n all bits s (planned plan.run n))
+      ∙ ap (λ (k : ℕ). picked_as (definition plan.database.items plan.table.items) (bit_at bits) (planned plan.run k)) (sym s.len) ∙ defined;
+}

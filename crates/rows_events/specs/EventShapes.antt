@@ -4,7 +4,7 @@ use Rattle.std.specs.declared.result.Result.TheVariants.{Ok, Err}
 use Rattle.rows_values.specs.BitLists.{lowest_bit}
 use Rattle.rows_values.specs.declared.fault.RowsError.TheVariants.{EmptyPair}
 use Rattle.rows_jsonb.specs.JsonbValues.{Reading, ◌>>=◌}
-use Rattle.rows_jsonb.specs.Items.{Walked, items_at, all_found}
+use Rattle.rows_jsonb.specs.Items.{Walked, items_at}
 use Rattle.rows_cells.specs.Images.{PlacedValue, ImageShape}
 use Rattle.rows_cells.specs.EventRows.{row_at}
 use Rattle.rows_plan.specs.ImageShapes.{TablePlan, shape_picked}
@@ -32,12 +32,10 @@ shapes_by p n is_partial (Some before) (Some after) = do
 abbrev pub event_shapes : RowsBody → TablePlan → Reading (List ImageShape)
 event_shapes r p = shapes_by p r.columns (has_partial_after (images_of r.event_type)) r.before r.after
 
--- the rows that are found in rows data: all, or those before the first that can't be read; where no bytes stand there, the images don't matter
-abbrev pub rows_in : Reading (List ImageShape) → List ℕ → Walked (List (List PlacedValue))
-rows_in shapes [] = all_found []
-rows_in (Ok shapes) (b ∷ bytes) = items_at (row_at shapes) (b ∷ bytes)
-rows_in (Err e) (b ∷ bytes) = record { items = []; fault = Some e }
+-- a row at the front of rows data, and what follows it
+abbrev pub row_read : RowsBody → TablePlan → List ℕ → Reading (List (List PlacedValue) × List ℕ)
+row_read r p bytes = event_shapes r p >>= λ shapes. row_at shapes bytes
 
--- the rows of an event
+-- the rows of an event: all, or those before the first that can't be read, and why
 abbrev pub event_rows : RowsBody → TablePlan → Walked (List (List PlacedValue))
-event_rows r p = rows_in (event_shapes r p) r.rows_data
+event_rows r p = items_at (row_read r p) r.rows_data

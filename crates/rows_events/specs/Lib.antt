@@ -5,3 +5,6 @@ pub mod RowsEvents
 pub mod Views
 pub mod EventShapes
 pub mod EventColumnViews
+pub mod RowPairs
+pub mod EventImages
+pub mod EventRowSteps

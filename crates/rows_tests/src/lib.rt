@@ -45,6 +45,8 @@ mod rows;
 #[cfg(test)]
 mod table_maps;
 #[cfg(test)]
+mod text_buffers;
+#[cfg(test)]
 mod texts;
 #[cfg(test)]
 mod times;

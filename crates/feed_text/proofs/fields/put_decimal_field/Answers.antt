@@ -1,4 +1,4 @@
-use Rattle.std.proofs.Common.{arith, sym, ◌∙◌, ap}
+use Rattle.std.proofs.Common.{arith, sym}
 use Rattle.feed_text.proofs.FieldTextLemmas.{decimal_at}
 use Rattle.feed_text.proofs.fields.put_decimal_field.Goals as goal
 

@@ -1,5 +1,4 @@
-use Rattle.std.proofs.Common.{arith, ℕ, ◌<◌, ◌≤◌, ◌^◌, ◌/◌, ◌≡◌, length}
-use Rattle.std.specs.Fmt.{decimal}
+use Rattle.std.proofs.Common.{arith, ℕ, ◌<◌, ◌≤◌, ◌^◌, ◌/◌}
 use Rattle.feed_writers.proofs.DigitLemmas.{count_8, joined_is, eight_more}
 use Rattle.feed_writers.proofs.digits.put_long.Goals as goal
 

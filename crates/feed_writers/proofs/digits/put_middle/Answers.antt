@@ -1,9 +1,8 @@
-use Rattle.std.proofs.Common.{arith}
-use Rattle.feed_writers.proofs.DigitLemmas.{count_more, joined_is, four_more}
+use Rattle.std.proofs.Common.{arith, rules, length, ◌≡◌}
+use Rattle.feed_writers.proofs.DigitLemmas.{cut_counts}
 use Rattle.feed_writers.proofs.digits.put_middle.Goals as goal
 
-pub returns-clause-end : goal.returns-clause-end
-returns-clause-end c = omega (arith, count_more c.args.number c.if-number-lt10000.false (omega (arith, c.requires.small)), c.put_short-end.ensures.end, c.put_four.ensures.end)
-
 pub returns-clause-text : goal.returns-clause-text
-returns-clause-text c = joined_is _ _ _ _ _ _ c.put_short-end.ensures.text c.put_four.ensures.text (four_more c.args.number c.if-number-lt10000.false (omega (arith, c.requires.small)))
+returns-clause-text c =
+    let size : length c.put_eight.new.text ≡ 16 = search rules in
+    cut_counts c.args.at c.middle_count-count.result c.args.number c.put_bytes.result c.put_eight.result c.args.text.now c.put_bytes.new.text c.put_eight.new.text (omega (arith, c.requires.room)) (omega (arith, c.requires.small)) c.middle_count-count.ensures.value c.middle_count-count.ensures.high size c.put_eight.ensures.end c.put_eight.ensures.text c.put_bytes.ensures.end c.put_bytes.ensures.text

@@ -1,4 +1,4 @@
-use Rattle.std.proofs.Common.{arith, sym}
+use Rattle.std.proofs.Common.{arith}
 use Rattle.feed_writers.proofs.PlainLemmas.{passed_more}
 use Rattle.feed_writers.proofs.plain.plain_len.Goals as goal
 

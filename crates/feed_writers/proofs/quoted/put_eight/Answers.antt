@@ -1,4 +1,4 @@
-use Rattle.std.proofs.Common.{◌≡◌, length, subst, sym}
+use Rattle.std.proofs.Common.{subst, sym}
 use Rattle.feed_writers.specs.PlainBytes.{PlainTo}
 use Rattle.feed_writers.proofs.QuotedLemmas.{plain_written}
 use Rattle.feed_writers.proofs.quoted.put_eight.Goals as goal

@@ -1,4 +1,3 @@
-use Rattle.std.proofs.Common.{sym, ap, ◌∙◌}
 use Rattle.feed_writers.proofs.QuotedLemmas.{plain_front, front_then}
 use Rattle.feed_writers.proofs.quoted.put_few.Goals as goal
 

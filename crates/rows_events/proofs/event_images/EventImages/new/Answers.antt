@@ -1,0 +1,31 @@
+use Rattle.std.proofs.Common.{false, refl, ap, ◌∙◌}
+use Rattle.rows_events.specs.RowsEventTypes.{images_of, has_partial_after}
+use Rattle.rows_events.specs.Views.{body_of}
+use Rattle.rows_events.proofs.ShapeLemmas.{shown_bits, no_bits, reads_image}
+use Rattle.rows_events.proofs.event_images.EventImages.new.Goals as goal
+
+pub returns-in-Ok-new-clause-ok : goal.returns-in-Ok-new-clause-ok
+returns-in-Ok-new-clause-ok c =
+    let r = body_of c.args.event.now in
+    let partial = c.has_partial_after-is_partial.ensures ∙ ap has_partial_after c.images.ensures in
+    let b = shown_bits r.columns r.before c.columns_before_image.result c.in-Some-Some.before c.columns_before_image.ensures c.in-Some-Some.is-0 in
+    let a = shown_bits r.columns r.after c.columns_after_image.result c.in-Some-Some.after c.columns_after_image.ensures c.in-Some-Some.is-1 in
+    rw (b.all_are, a.all_are) (
+      reads_image c.args.plan.now r.columns false false r.before c.in-Some-Some.before b c.in-Ok.before refl c.in-Ok.ensures.shape c.in-Ok.ensures.definitions,
+      reads_image c.args.plan.now r.columns c.has_partial_after-is_partial.result (has_partial_after (images_of r.event_type)) r.after c.in-Some-Some.after a c.in-Ok-new.after partial c.in-Ok-new.ensures.shape c.in-Ok-new.ensures.definitions,
+    )
+
+pub returns-in-Ok-new-2-clause-ok : goal.returns-in-Ok-new-2-clause-ok
+returns-in-Ok-new-2-clause-ok c =
+    let r = body_of c.args.event.now in
+    let b = shown_bits r.columns r.before c.columns_before_image.result c.in-Some-None.before c.columns_before_image.ensures c.in-Some-None.is-0 in
+    let a = no_bits r.columns r.after c.columns_after_image.result c.columns_after_image.ensures c.in-Some-None.is-1 in
+    rw (b.all_are, a) (reads_image c.args.plan.now r.columns false false r.before c.in-Some-None.before b c.in-Ok-new-2.before refl c.in-Ok-new-2.ensures.shape c.in-Ok-new-2.ensures.definitions)
+
+pub returns-in-Ok-new-3-clause-ok : goal.returns-in-Ok-new-3-clause-ok
+returns-in-Ok-new-3-clause-ok c =
+    let r = body_of c.args.event.now in
+    let partial = c.has_partial_after-is_partial.ensures ∙ ap has_partial_after c.images.ensures in
+    let b = no_bits r.columns r.before c.columns_before_image.result c.columns_before_image.ensures c.in-None-Some.is-0 in
+    let a = shown_bits r.columns r.after c.columns_after_image.result c.in-None-Some.after c.columns_after_image.ensures c.in-None-Some.is-1 in
+    rw (b, a.all_are) (reads_image c.args.plan.now r.columns c.has_partial_after-is_partial.result (has_partial_after (images_of r.event_type)) r.after c.in-None-Some.after a c.in-Ok-new-3.after partial c.in-Ok-new-3.ensures.shape c.in-Ok-new-3.ensures.definitions)

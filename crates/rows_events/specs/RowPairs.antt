@@ -1,0 +1,53 @@
+-- The rows of an event in memory of their own: for each row the one before the change, the one after it, or both.
+use Rattle.std.specs.Prelude.{◌≡◌, ℕ, List, [], ◌∷◌, map, Option, Some, None}
+use Rattle.std.specs.List.{AllZip}
+use Rattle.std.specs.declared.result.Result.TheVariants.{Ok}
+use Rattle.wire_forms.specs.RawTexts.{text_of}
+use Rattle.rows_values.specs.Columns.{parts_of}
+use Rattle.rows_jsonb.specs.JsonbValues.{Reading}
+use Rattle.rows_cells.specs.Images.{PlacedValue}
+use Rattle.rows_cells.specs.declared.image.ImageColumn.{ImageColumn}
+use Rattle.rows_meta.specs.declared.table_map.TableMapEvent.{TableMapEvent}
+use Rattle.rows_plan.specs.PlanViews.{plan_of, json_count}
+use Rattle.rows_plan.specs.PickedColumns.{in_image, definition, picked_as}
+use Rattle.rows_plan.specs.ImageShapes.{TablePlan, table_plan}
+use Rattle.rows_plan.specs.declared.plan.ColumnPlan.{ColumnPlan}
+use Rattle.rows_owned.specs.OwnedRows.{values_of, columns_of, image_of}
+use Rattle.rows_owned.specs.RowImages.{IsHeld}
+use Rattle.rows_owned.specs.declared.binlog_row.BinlogRow.{BinlogRow}
+use Rattle.rows_events.specs.EventShapes.{column_bit}
+use Rattle.rows_events.specs.RowsEvents.{RowsBody}
+
+-- a table as its rows show it: its plan and its names
+pub record TableView : Type 0 where
+  pub plan : TablePlan
+  pub database : List ℕ
+  pub table : List ℕ
+
+abbrev pub planned_table : ColumnPlan → TableView
+planned_table p = record { plan = table_plan p; database = p.database.items; table = p.table.items }
+
+abbrev pub mapped_table : TableMapEvent → TableView
+mapped_table m = record { plan = record { first = plan_of m; json_columns = json_count (text_of m.column_types) }; database = text_of m.database; table = text_of m.table }
+
+-- the columns of an image, by the bits that say which of n columns it has
+abbrev pub columns_by : TableView → ℕ → List ℕ → Reading (List ImageColumn)
+columns_by t n bits = picked_as in_image (column_bit n bits) (t.plan.first n)
+
+-- the row of an image: a value for each cell, at its place, and the definitions of its columns
+pub record IsImageRow (t : TableView) (n : ℕ) (bits : List ℕ) (image : List PlacedValue) (row : BinlogRow) : Type 0 where
+  pub values : AllZip IsHeld image (values_of row)
+  pub columns : List ImageColumn
+  pub columns_are : columns_by t n bits ≡ Ok columns
+  pub places : image_of row ≡ Some columns
+  pub definitions : picked_as (definition t.database t.table) (column_bit n bits) (t.plan.first n) ≡ Ok (map parts_of (columns_of row))
+
+-- the rows of a pair are those of its images
+abbrev pub IsPairOf : TableView → ℕ → Option (List ℕ) → Option (List ℕ) → List (List PlacedValue) → Option BinlogRow × Option BinlogRow → Type 0
+IsPairOf t n (Some before) (Some after) (first ∷ second ∷ []) (Some x, Some y) = IsImageRow t n before first x × IsImageRow t n after second y
+IsPairOf t n (Some before) None (first ∷ []) (Some x, None) = IsImageRow t n before first x
+IsPairOf t n None (Some after) (first ∷ []) (None, Some y) = IsImageRow t n after first y
+IsPairOf t n before after images pair = ⊥
+
+abbrev pub IsPair : TableView → RowsBody → List (List PlacedValue) → Option BinlogRow × Option BinlogRow → Type 0
+IsPair t r images pair = IsPairOf t r.columns r.before r.after images pair

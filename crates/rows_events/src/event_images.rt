@@ -1,0 +1,122 @@
+//! The readers of an event's images into rows in memory of their own.
+
+ghost use Rattle.std.specs.Prelude.{◌≡◌, ◌⊎◌, ◌<◌, length, IfOk, IfErr, Err};
+ghost use Rattle.rows_values.specs.declared.fault.RowsError.TheVariants.{Memory};
+ghost use Rattle.rows_cells.specs.EventRows.{images_at, row_at};
+ghost use Rattle.rows_plan.specs.ImageShapes.{table_plan};
+ghost use Rattle.rows_events.specs.EventShapes.{event_shapes};
+ghost use Rattle.rows_events.specs.EventImages.{shapes_read, ReadsEvent, ReadsImages, ReadsPair};
+ghost use Rattle.rows_events.specs.RowPairs.{planned_table};
+ghost use Rattle.rows_events.specs.Views.{body_of};
+
+use crate::rows_event::RowsEvent;
+use rows_owned::{BinlogRow, RowImage};
+use rows_plan::ColumnPlan;
+use rows_values::RowsError;
+use std::alloc::Global;
+
+/// A row of an event before the change and after it, as far as the event has them.
+pub(crate) type RowPair = (Option<BinlogRow>, Option<BinlogRow>);
+
+/// The readers of the images that each row of an event has.
+#[derive(Drop)]
+pub(crate) enum EventImages {
+    /// Of rows before they were deleted.
+    Before(RowImage),
+    /// Of rows that were inserted.
+    After(RowImage),
+    /// Of rows before they were updated, and after.
+    Both(RowImage, RowImage),
+}
+
+impl EventImages {
+    /// The readers of an event's images, by the plan of its table.
+    ///
+    /// The refusals of [`RowImage::new`].
+    pub(crate) fn new(
+        alloc: Global,
+        event: &RowsEvent<'_>,
+        plan: &ColumnPlan,
+    ) -> Result<EventImages, RowsError>
+        ensures ok { IfOk result (ReadsEvent (planned_table plan.now) (body_of event.now)) }
+        ensures err { IfErr result (λ e. e ≡ Memory ⊎ event_shapes (body_of event.now) (table_plan plan.now) ≡ Err e) }
+    {
+        let is_partial = event.images().has_partial_after();
+        match (event.columns_before_image(), event.columns_after_image()) {
+            (Some(before), Some(after)) => {
+                let before = match RowImage::new(alloc, plan, before, false) {
+                    Ok(before) => before,
+                    Err(fault) => return Err(fault),
+                };
+                match RowImage::new(alloc, plan, after, is_partial) {
+                    Ok(after) => Ok(EventImages::Both(before, after)),
+                    Err(fault) => Err(fault),
+                }
+            }
+            (Some(before), None) => match RowImage::new(alloc, plan, before, false) {
+                Ok(before) => Ok(EventImages::Before(before)),
+                Err(fault) => Err(fault),
+            },
+            (None, Some(after)) => match RowImage::new(alloc, plan, after, is_partial) {
+                Ok(after) => Ok(EventImages::After(after)),
+                Err(fault) => Err(fault),
+            },
+            (None, None) => Err(RowsError::EmptyPair),
+        }
+    }
+
+    /// The row at the front of the bytes, and what follows it.
+    ///
+    /// The refusals of [`RowImage::read`]; `EmptyPair` where the row takes no bytes.
+    #[tactic(auto, unfolding(rows_cells::specs::EventRows::row_at))]
+    pub(crate) fn read<'a>(
+        &self,
+        alloc: Global,
+        bytes: &'a [u8],
+    ) -> Result<(RowPair, &'a [u8]), RowsError>
+        ensures ok { IfOk result (λ x. ReadsPair self.now bytes.entry.now x.0 x.1.now) }
+        ensures fewer { IfOk result (λ x. length x.1.now < length bytes.entry.now) }
+        ensures err { IfErr result (λ e. e ≡ Memory ⊎ row_at (shapes_read self.now) bytes.entry.now ≡ Err e) }
+    {
+        let (pair, rest) = match self.read_images(alloc, bytes) {
+            Ok(read) => read,
+            Err(fault) => return Err(fault),
+        };
+        if rest.len() >= bytes.len() {
+            return Err(RowsError::EmptyPair);
+        }
+        Ok((pair, rest))
+    }
+
+    /// The images at the front of the bytes, and what follows them.
+    #[tactic(auto, unfolding(rows_cells::specs::EventRows::images_at))]
+    fn read_images<'a>(
+        &self,
+        alloc: Global,
+        bytes: &'a [u8],
+    ) -> Result<(RowPair, &'a [u8]), RowsError>
+        ensures ok { IfOk result (λ x. ReadsImages self.now bytes.entry.now x.0 x.1.now) }
+        ensures err { IfErr result (λ e. e ≡ Memory ⊎ images_at (shapes_read self.now) bytes.entry.now ≡ Err e) }
+    {
+        match self {
+            EventImages::Before(image) => match image.read(alloc, bytes) {
+                Ok((row, rest)) => Ok(((Some(row), None), rest)),
+                Err(fault) => Err(fault),
+            },
+            EventImages::After(image) => match image.read(alloc, bytes) {
+                Ok((row, rest)) => Ok(((None, Some(row)), rest)),
+                Err(fault) => Err(fault),
+            },
+            EventImages::Both(before, after) => {
+                let (first, rest) = match before.read(alloc, bytes) {
+                    Ok(read) => read,
+                    Err(fault) => return Err(fault),
+                };
+                match after.read(alloc, rest) {
+                    Ok((second, rest)) => Ok(((Some(first), Some(second)), rest)),
+                    Err(fault) => Err(fault),
+                }
+            }
+        }
+    }
+}
