@@ -19,6 +19,8 @@ mod devices;
 #[cfg(test)]
 mod example;
 #[cfg(test)]
+mod event_rows;
+#[cfg(test)]
 mod faults;
 #[cfg(test)]
 mod flags;
