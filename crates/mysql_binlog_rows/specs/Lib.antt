@@ -80,3 +80,6 @@ pub use Rattle.rows_events.specs.RowsEvents
 pub use Rattle.rows_events.specs.Views as RowsEventViews
 pub use Rattle.rows_events.specs.EventShapes
 pub use Rattle.rows_events.specs.EventColumnViews
+pub use Rattle.rows_events.specs.RowPairs
+pub use Rattle.rows_events.specs.EventImages
+pub use Rattle.rows_events.specs.EventRowSteps

@@ -2,8 +2,8 @@
 
 use feed_text::put_cell_ref;
 use mysql_binlog_rows::{
-    Bits, Column, ColumnPlan, EventColumns, RowPart, RowsError, RowsEvent, RowsEventCtx,
-    RowsEventType, TableMapEvent,
+    BinlogRow, BinlogValue, Bits, Column, ColumnPlan, EventColumns, RowPart, RowsError, RowsEvent,
+    RowsEventCtx, RowsEventRows, RowsEventType, TableMapEvent, Value,
 };
 use std::alloc::{AllocError, Global};
 use std::test::Fail;
@@ -472,6 +472,48 @@ fn partial_update_by_plan(rt: HostRuntime) -> Result<(), Fail> {
         b"\x07\0\0\0\0\0\x01\0\x02\0\x03\x04\x04\x01\x03\x02\0\x09\0\0\0\0\x03$.a\x03\x05\x01\0",
     )?;
     assert!(rt; text.as_slice() == b" 2=NULL to 2=diff[replace '$.a' 1]\n".as_slice());
+    Ok(())
+}
+
+/// Whether the row has one value, this number.
+fn is_number(row: Option<BinlogRow>, wanted: i64) -> bool {
+    match row {
+        Some(row) => match row.as_ref(0) {
+            Some(BinlogValue::Value(Value::Int(number))) => *number == wanted && row.len() == 1,
+            _ => false,
+        },
+        None => false,
+    }
+}
+
+/// Whether these are an update of 5 to 6, and then a row that isn't whole.
+fn are_one_update(rows: RowsEventRows<'_>) -> bool {
+    let mut rows = rows;
+    let updated = match rows.next() {
+        Some(Ok((before, after))) => is_number(before, 5) && is_number(after, 6),
+        _ => false,
+    };
+    updated && matches!(rows.next(), Some(Err(RowsError::EndOfBody))) && rows.next().is_none()
+}
+
+// By a table map as by its plan.
+#[test]
+fn rows_in_memory(rt: HostRuntime) -> Result<(), Fail> {
+    let alloc = rt.alloc();
+    let map = b"\x07\0\0\0\0\0\x01\0\x01d\0\x01t\0\x01\x03\0\x01".as_slice();
+    let map = ParseBuf(map).parse::<TableMapEvent<'_>>(alloc, 8)?;
+    let plan = ColumnPlan::new(alloc, &map)?;
+    let ctx = RowsEventCtx {
+        event_type: RowsEventType::UpdateRows,
+        post_header_len: 10,
+        write_post_header_len: 10,
+    };
+    let event =
+        b"\x07\0\0\0\0\0\x01\0\x02\0\x01\x01\x01\0\x05\0\0\0\0\x06\0\0\0\0\x07\0".as_slice();
+    let event = ParseBuf(event).parse::<RowsEvent<'_>>(alloc, ctx)?;
+    assert!(rt;
+        are_one_update(event.rows(alloc, &map)) && are_one_update(event.rows_by(alloc, &plan))
+    );
     Ok(())
 }
 
