@@ -1,8 +1,10 @@
 /* Preloaded before a program: refuses its request for memory of the number REFUSE_REQUEST, counted from 1, and makes
-   the file REFUSE_MARK where it did. */
+   the file REFUSE_MARK where it did. At the program's end it writes the number of all its requests into the file
+   REQUEST_COUNT. */
 #define _GNU_SOURCE
 #include <dlfcn.h>
 #include <fcntl.h>
+#include <stdio.h>
 #include <stdlib.h>
 #include <unistd.h>
 
@@ -36,4 +38,14 @@ void *realloc(void *old, size_t size) {
         next = (void *(*)(void *, size_t))dlsym(RTLD_NEXT, "realloc");
     }
     return is_refused() ? NULL : next(old, size);
+}
+
+__attribute__((destructor)) static void write_count(void) {
+    unsigned long count = requests;
+    const char *path = getenv("REQUEST_COUNT");
+    FILE *file = path ? fopen(path, "w") : NULL;
+    if (file) {
+        fprintf(file, "%lu\n", count);
+        fclose(file);
+    }
 }
