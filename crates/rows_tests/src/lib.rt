@@ -17,9 +17,9 @@ mod decimals;
 #[cfg(test)]
 mod devices;
 #[cfg(test)]
-mod example;
-#[cfg(test)]
 mod event_rows;
+#[cfg(test)]
+mod example;
 #[cfg(test)]
 mod faults;
 #[cfg(test)]
