@@ -17,6 +17,7 @@ pub use rows_jsonb::laws::{
     diffs_are_read, lists_of_diffs_are_read, worked_budget, worked_depth, worked_objects,
     worked_pointer,
 };
+pub use rows_meta::laws::{equal_maps_say_the_same, maps_are_written_whole};
 pub use rows_optional::laws::{entries_are_read, lists_are_read};
 pub use rows_values::laws::{
     equal_columns_and_times_are_the_same, equal_rows_are_the_same, equal_values_are_the_same,

@@ -1,9 +1,9 @@
 //! The columns of the images of an event's rows.
 
-ghost use Rattle.std.specs.Prelude.{◌≡◌, ◌⊎◌, IfOk, IfErr, Ok, Err};
+ghost use Rattle.std.specs.Prelude.{◌≡◌, ◌⊎◌, ◌∷◌, [], IfOk, IfErr, Ok, Err};
 ghost use Rattle.rows_values.specs.declared.fault.RowsError.TheVariants.{Memory};
 ghost use Rattle.rows_cells.specs.RowViews.{row_shape, IsBetween};
-ghost use Rattle.rows_plan.specs.ImageShapes.{table_plan};
+ghost use Rattle.rows_plan.specs.ImageShapes.{table_plan, no_columns};
 ghost use Rattle.rows_events.specs.EventShapes.{event_shapes};
 ghost use Rattle.rows_events.specs.EventColumnViews.{shapes_of};
 ghost use Rattle.rows_events.specs.Views.{body_of};
@@ -24,7 +24,9 @@ pub struct EventColumns {
 
 impl EventColumns {
     /// The columns of no event.
-    pub fn new(alloc: Global) -> EventColumns {
+    pub fn new(alloc: Global) -> EventColumns
+        ensures { shapes_of result ≡ no_columns ∷ [] }
+    {
         EventColumns {
             first: ImageColumns::new(alloc),
             second: ImageColumns::new(alloc),
@@ -35,7 +37,8 @@ impl EventColumns {
     /// Takes the columns of an event's images, by the plan of its table, in place of those before.
     ///
     /// The fault of the first column of the event that has no plan, or of the optional metadata; `Memory` where
-    /// memory is refused, and for a table of 2^32 JSON columns or more.
+    /// memory is refused, and for a table of 2^32 JSON columns or more. After a refusal they are the columns of no
+    /// event, until the next call.
     pub fn fill(&mut self, event: &RowsEvent<'_>, plan: &ColumnPlan) -> Result<(), RowsError>
         ensures ok { IfOk result (λ _. event_shapes (body_of event.now) (table_plan plan.now) ≡ Ok (shapes_of self.new)) }
         ensures err { IfErr result (λ e. e ≡ Memory ⊎ event_shapes (body_of event.now) (table_plan plan.now) ≡ Err e) }

@@ -4,3 +4,4 @@ pub mod ArrayLemmas
 pub mod ColumnLemmas
 pub mod LengthLemmas
 pub mod MapFaultLemmas
+pub mod MapLawLemmas

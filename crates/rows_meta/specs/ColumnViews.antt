@@ -8,7 +8,7 @@ use Rattle.rows_meta.specs.declared.bad_column_type.BadColumnType.{BadColumnType
 use Rattle.rows_meta.specs.declared.bad_column_type.BadColumnType.TheVariants.{Unknown}
 use Rattle.rows_meta.specs.ColumnMetadata.{ColumnMeta, column_type, columns_of}
 use Rattle.rows_meta.specs.ColumnTypes.{real_type}
-use Rattle.wire_forms.specs.RawTexts.{text_of}
+use Rattle.rows_meta.specs.MapViews.{map_of}
 use Rattle.wire_consts.specs.declared.column_type.ColumnType.{ColumnType}
 use Rattle.std.specs.declared.result.Result.{Result}
 use Rattle.std.specs.declared.result.Result.TheVariants.{Ok, Err}
@@ -23,7 +23,7 @@ column_view c = record { number = c.number; metadata = c.metadata.now }
 
 -- the columns of a table map
 abbrev pub map_columns : TableMapEvent → List ColumnMeta
-map_columns t = columns_of (text_of t.column_types) (Some (text_of t.metadata))
+map_columns t = columns_of (map_of t).column_types (Some (map_of t).metadata)
 
 abbrev pub metadata_in : Option ColumnMeta → Option (List ℕ)
 metadata_in None = None

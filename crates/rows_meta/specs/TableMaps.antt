@@ -1,6 +1,6 @@
 -- TABLE_MAP_EVENT: what it says of a table, and its bytes.
-use Rattle.std.specs.Prelude.{ℕ, List, [], ◌∷◌, length, Option, Some, None, ◌≡◌, ◌⊎◌, ◌+◌, ◌/◌, ◌==◌, ◌&&◌, nat_le, if◌then◌else◌}
-use Rattle.wire_buf.specs.Spelling.{ByteForm, ◌⨾◌, Both, Alone, IsBytes}
+use Rattle.std.specs.Prelude.{ℕ, List, [], ◌∷◌, length, take, Option, Some, None, ◌≡◌, ◌⊎◌, ◌+◌, ◌/◌, ◌==◌, ◌&&◌, nat_le, if◌then◌else◌}
+use Rattle.wire_buf.specs.Spelling.{ByteForm, ◌⨾◌, Both, Alone, IsBytes, AreBytes}
 use Rattle.wire_buf.specs.Refusals.{Behind}
 use Rattle.wire_buf.specs.Writing.{with_front}
 use Rattle.wire_buf.specs.Numbers.{IsLittle, IsLenenc, IsShortString, IsLenencString, lenenc_spelling}
@@ -75,3 +75,11 @@ table_map_spelling t =
     (with_front (Some (counted_bytes 1 t.table)) (with_front (Some (0 ∷ [])) (Some (lenenc_spelling (length t.column_types)))))))))
     (with_front (Some t.column_types) (with_front (Some (lenenc_string_spelling t.metadata)) (with_front (Some t.null_bitmask) (Some t.optional_metadata))))
     else None
+
+-- what of a table map is written: all of it, save that names are cut after 255 bytes
+abbrev pub written_map : TableMap → TableMap
+written_map t = record t { database = take 255 t.database; table = take 255 t.table }
+
+-- what is written for a table map that was read by the post-header length of servers today is all of it
+abbrev pub IsMapWrittenWhole : Type 0
+IsMapWrittenWhole = (t : TableMap) (bytes rest : List ℕ) → AreBytes bytes → IsTableMap 8 t bytes rest → written_map t ≡ t

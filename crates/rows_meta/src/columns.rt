@@ -86,10 +86,10 @@ impl<'a> IterColumns<'a> {
 
 impl TableMapEvent<'_> {
     ghost use Rattle.std.specs.Prelude.{slice_get};
-    ghost use Rattle.wire_forms.specs.RawTexts.{text_of};
     ghost use Rattle.wire_consts.specs.ColumnTypes.{column_type_number};
     ghost use Rattle.wire_consts.specs.declared.column_type.ColumnType.TheVariants as column;
     ghost use Rattle.rows_meta.specs.ColumnViews.{columns_left, map_columns, column_view, metadata_in, type_in};
+    ghost use Rattle.rows_meta.specs.MapViews.{map_of};
 
     /// The columns, in order.
     pub fn columns(&self) -> IterColumns<'_>
@@ -100,7 +100,7 @@ impl TableMapEvent<'_> {
 
     /// How many columns have the type JSON.
     pub fn json_column_count(&self) -> usize
-        ensures { result ≡ count_by (λ n. n == column_type_number column.MYSQL_TYPE_JSON) (text_of self.now.column_types) }
+        ensures { result ≡ count_by (λ n. n == column_type_number column.MYSQL_TYPE_JSON) (map_of self.now).column_types }
     {
         self.column_types_raw()
             .iter()

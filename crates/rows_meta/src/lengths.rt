@@ -21,13 +21,13 @@ pub fn event_len(parts: &[usize]) -> usize
 }
 
 impl TableMapEvent<'_> {
-    ghost use Rattle.rows_meta.specs.TableMaps.{table_map_spelling};
+    ghost use Rattle.rows_meta.specs.TableMaps.{table_map_spelling, written_map};
     ghost use Rattle.rows_meta.specs.Lengths.{IsEventLen};
-    ghost use Rattle.rows_meta.specs.MapViews.{written_map};
+    ghost use Rattle.rows_meta.specs.MapViews.{map_of};
 
     /// How many bytes `serialize` appends, at most [`MAX_EVENT_LEN`].
     pub fn len(&self) -> usize
-        ensures { IsEventLen (table_map_spelling (written_map self.now)) result }
+        ensures { IsEventLen (table_map_spelling (written_map (map_of self.now))) result }
     {
         let columns = self.column_types_raw().len();
         let metadata = self.metadata_raw().len();

@@ -6,6 +6,7 @@
 mod bad_column_type;
 mod column_types;
 mod columns;
+pub mod laws;
 mod lengths;
 mod optional_metadata;
 mod table_id;

@@ -1,5 +1,5 @@
 -- The images of rows by the plan of their table: which columns each has, and how their cells stand.
-use Rattle.std.specs.Prelude.{ℕ, Bool, List, Option, Some, None, if◌then◌else◌}
+use Rattle.std.specs.Prelude.{ℕ, Bool, List, [], Option, Some, None, if◌then◌else◌}
 use Rattle.std.specs.declared.result.Result.TheVariants.{Ok}
 use Rattle.rows_jsonb.specs.JsonbValues.{Reading, ◌>>=◌}
 use Rattle.rows_cells.specs.Images.{ImageShape}
@@ -24,3 +24,7 @@ shape_picked p n is_partial bit =
 
 abbrev pub shape_of : ImageColumns → ImageShape
 shape_of c = record { columns = c.columns.items; json_columns = c.json_columns }
+
+-- an image without columns
+abbrev pub no_columns : ImageShape
+no_columns = record { columns = []; json_columns = None }

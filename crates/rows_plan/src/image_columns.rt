@@ -4,7 +4,7 @@ ghost use Rattle.std.specs.Prelude.{◌≡◌, ◌⊎◌, IfOk, IfErr, Ok, Err, 
 ghost use Rattle.rows_values.specs.declared.fault.RowsError.TheVariants.{Memory};
 ghost use Rattle.rows_values.specs.BitLists.{len_of, bit_at};
 ghost use Rattle.rows_cells.specs.ImageViews.{image_shape};
-ghost use Rattle.rows_plan.specs.ImageShapes.{table_plan, shape_of, shape_picked};
+ghost use Rattle.rows_plan.specs.ImageShapes.{table_plan, shape_of, shape_picked, no_columns};
 
 use crate::plan::ColumnPlan;
 use rows_cells::{ImageColumn, ImagePlan};
@@ -21,7 +21,9 @@ pub struct ImageColumns {
 
 impl ImageColumns {
     /// No columns.
-    pub fn new(alloc: Global) -> ImageColumns {
+    pub fn new(alloc: Global) -> ImageColumns
+        ensures { shape_of result ≡ no_columns }
+    {
         ImageColumns {
             columns: Vec::new(alloc),
             json_columns: None,
@@ -31,7 +33,8 @@ impl ImageColumns {
     /// Takes the columns whose bits are set, in place of those before. `is_partial` says that JSON documents may
     /// stand as their changes.
     ///
-    /// The refusals of [`ColumnPlan::image_columns`]; `Memory` also for a table of 2^32 JSON columns or more.
+    /// The refusals of [`ColumnPlan::image_columns`]; `Memory` also for a table of 2^32 JSON columns or more. After a
+    /// refusal they are the columns of no image, until the next call.
     pub fn fill(
         &mut self,
         plan: &ColumnPlan,
@@ -49,8 +52,7 @@ impl ImageColumns {
     /// The columns in order; and where JSON documents may stand as their changes, how many JSON columns the table
     /// has.
     pub fn into_parts(self) -> (Vec<ImageColumn>, Option<u32>)
-        ensures columns { result.0 ≡ self.columns }
-        ensures json { result.1 ≡ self.json_columns }
+        ensures { record { columns = result.0.items; json_columns = result.1 } ≡ shape_of self }
     {
         (self.columns, self.json_columns)
     }

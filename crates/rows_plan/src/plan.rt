@@ -16,6 +16,7 @@ pub struct ColumnPlan {
 }
 
 impl ColumnPlan {
+    ghost use Rattle.rows_plan.specs.ImageShapes.{table_plan};
     ghost use Rattle.rows_plan.specs.PlanViews.{IsPlanOf, planned, within};
 
     /// The plan of a table's columns. `AllocError` where memory is refused, and for a table of 2^32 columns or
@@ -41,7 +42,7 @@ impl ColumnPlan {
 
     /// How many columns of the table have the type JSON.
     pub fn json_columns(&self) -> usize
-        ensures { result ≡ self.now.json_columns }
+        ensures { result ≡ (table_plan self.now).json_columns }
     {
         self.json_columns
     }

@@ -1,7 +1,8 @@
 use Rattle.std.proofs.Common.{arith}
 use Rattle.std.proofs.lemmas.List.{length-take}
 use Rattle.wire_forms.specs.RawTexts.{text_of}
-use Rattle.rows_meta.specs.MapViews.{written_map}
+use Rattle.rows_meta.specs.TableMaps.{written_map}
+use Rattle.rows_meta.specs.MapViews.{map_of}
 use Rattle.rows_meta.proofs.LengthLemmas.{map_length, len_from_length}
 use Rattle.rows_meta.proofs.table_map.TableMapEvent.len.Goals as goal
 
@@ -15,4 +16,4 @@ returns c =
     let metadata = rw c.metadata_raw-metadata.ensures at c.lenenc_int_len-2.ensures in
     let names = rw c.database_name_raw.ensures at c.min.ensures in
     let tables = rw c.table_name_raw.ensures at c.min-2.ensures in
-    len_from_length _ _ _ (map_length (written_map t)) (omega (arith, said, columns, metadata, names, tables, database, table))
+    len_from_length _ _ _ (map_length (written_map (map_of t))) (omega (arith, said, columns, metadata, names, tables, database, table))
