@@ -136,81 +136,77 @@ fn is_change(row: &BinlogRow, index: usize) -> bool {
     }
 }
 
-/// The fault of the row that can't be read in this context.
-fn fault_of(alloc: Global, ctx: BinlogRowCtx<'_>, bytes: &[u8]) -> Option<RowsError> {
-    ParseBuf(bytes).parse::<BinlogRow>(alloc, ctx).err()
+/// The context of images with a bit for each column of the table.
+fn ctx_of<'a>(
+    map: &'a TableMapEvent<'a>,
+    columns: Bits<'a>,
+    has_shared_image: bool,
+) -> BinlogRowCtx<'a> {
+    BinlogRowCtx {
+        num_columns: columns.len() as u64,
+        columns,
+        has_shared_image,
+        table_map: map,
+    }
 }
 
-// The images of a rows event one by one, each as a field: the next one follows it.
+/// Whether no row is read in this context, for this fault.
+fn is_refused(alloc: Global, ctx: BinlogRowCtx<'_>, bytes: &[u8], fault: RowsError) -> bool {
+    ParseBuf(bytes).parse::<BinlogRow>(alloc, ctx).err() == Some(fault)
+}
+
+// The images of an update one by one, each as a field: the next one follows it.
 #[test]
 fn row_as_a_field(rt: HostRuntime) -> Result<(), Fail> {
     let alloc = rt.alloc();
     let map = map_of(alloc, MAP)?;
-    let event = event_of(alloc, RowsEventType::UpdateRows, UPDATE)?;
-    let ctx = BinlogRowCtx {
-        num_columns: event.num_columns(),
-        columns: event.columns_before_image().expect(&rt, "an image"),
-        has_shared_image: false,
-        table_map: &map,
-    };
-    let mut buf = ParseBuf(event.rows_data());
+    let ctx = ctx_of(&map, Bits::lowest(b"\x03", 2), false);
+    let mut buf = ParseBuf(b"\x00\x05\0\0\0\x02ab\x02\x06\0\0\0\x00\x07");
     let before = buf.parse::<BinlogRow>(alloc, ctx)?;
-    let after = buf.parse::<BinlogRow>(alloc, ctx)?;
     assert!(rt; is_int(&before, 0, 5) && is_bytes(&before, 1, b"ab") && before.len() == 2);
+    let after = buf.parse::<BinlogRow>(alloc, ctx)?;
     assert!(rt; is_int(&after, 0, 6) && is_null(&after, 1) && after.len() == 2);
-    assert!(rt; buf.0 == b"\x00\x07\0\0\0\x01c\x00\x08".as_slice());
-    assert!(rt; fault_of(alloc, ctx, b"\x00\x08") == Some(RowsError::EndOfBody));
+    assert!(rt; buf.len() == 2 && is_refused(alloc, ctx, buf.0, RowsError::EndOfBody));
     Ok(())
 }
 
-// The null bits are over the columns in the image alone, and behind the part that its cells share.
+// The null bits are over the columns in the image alone, and stand behind the part that its cells share.
 #[test]
 fn partial_row_as_a_field(rt: HostRuntime) -> Result<(), Fail> {
     let alloc = rt.alloc();
     let map = map_of(alloc, JSON_MAP)?;
-    let ctx = BinlogRowCtx {
-        num_columns: 3,
-        columns: Bits::lowest(b"\x04", 3),
-        has_shared_image: true,
-        table_map: &map,
-    };
+    let ctx = ctx_of(&map, Bits::lowest(b"\x04", 3), true);
     let mut buf = ParseBuf(PARTIAL_IMAGE);
     let row = buf.parse::<BinlogRow>(alloc, ctx)?;
-    assert!(rt; is_change(&row, 0) && row.len() == 1 && row.place(0) == 2);
-    assert!(rt; row.columns_ref().len() == 1 && row.columns_ref()[0].name_ref() == b"@2".as_slice());
-    assert!(rt; buf.0 == b"\x08".as_slice());
+    assert!(rt; is_change(&row, 0) && row.len() == 1 && row.place(0) == 2 && buf.len() == 1);
+    let columns = row.columns_ref();
+    assert!(rt; columns.len() == 1);
+    assert!(rt; columns[0].name_ref() == b"@2".as_slice());
     Ok(())
 }
 
-// There is a bit for each column, the map has all of them, and its optional metadata can be read.
+// The context must have a bit for each column, the map these columns, and its optional metadata must be whole.
 #[test]
-fn row_of_no_image(rt: HostRuntime) -> Result<(), Fail> {
+fn rows_of_no_image(rt: HostRuntime) -> Result<(), Fail> {
     let alloc = rt.alloc();
     let map = map_of(alloc, MAP)?;
     let broken = map_of(alloc, BROKEN_MAP)?;
-    let ctx = BinlogRowCtx {
-        num_columns: 2,
-        columns: Bits::lowest(b"\x02", 2),
-        has_shared_image: false,
-        table_map: &map,
-    };
-    let bytes = b"\x00\x03xyz";
-    assert!(rt; fault_of(alloc, ctx, bytes).is_none());
-    let other = BinlogRowCtx {
-        num_columns: 3,
-        ..ctx
-    };
-    assert!(rt; fault_of(alloc, other, bytes) == Some(RowsError::Metadata));
-    let wide = BinlogRowCtx {
-        num_columns: 3,
-        columns: Bits::lowest(b"\x02", 3),
-        ..ctx
-    };
-    assert!(rt; fault_of(alloc, wide, bytes) == Some(RowsError::Metadata));
-    let unread = BinlogRowCtx {
-        table_map: &broken,
-        ..ctx
-    };
-    assert!(rt; fault_of(alloc, unread, bytes) == Some(RowsError::UnknownNumber));
+    let mut ctx = ctx_of(&map, Bits::lowest(b"\x02", 2), false);
+    ctx.num_columns = 1;
+    assert!(rt;
+        is_refused(alloc, ctx, b"\x00\x03xyz", RowsError::Metadata)
+            && is_refused(
+                alloc,
+                ctx_of(&map, Bits::lowest(b"\x02", 3), false),
+                b"\x00\x03xyz",
+                RowsError::Metadata
+            )
+            && is_refused(
+                alloc,
+                ctx_of(&broken, Bits::lowest(b"\x02", 2), false),
+                b"\x00\x03xyz",
+                RowsError::UnknownNumber
+            )
+    );
     Ok(())
 }
