@@ -73,6 +73,7 @@ pub use Rattle.rows_owned.specs.ImagePlaces
 pub use Rattle.rows_owned.specs.OwnedRows
 pub use Rattle.rows_owned.specs.PlainRows
 pub use Rattle.rows_owned.specs.RowImages
+pub use Rattle.rows_owned.specs.RowFields
 pub use Rattle.rows_events.specs.RowsEventTypes
 pub use Rattle.rows_events.specs.Fields as RowsEventFields
 pub use Rattle.rows_events.specs.FieldViews as RowsEventFieldViews

@@ -1,8 +1,8 @@
 //! Laws of the parts, each proved as the contract of a function that does nothing.
 
 pub use rows_cells::laws::{
-    cells_are_read, images_are_read, lists_of_rows_are_read, no_cell_begins_another,
-    no_image_begins_another, rows_are_read,
+    cells_are_read, images_are_read, kept_values_are_those_of_cells, lists_of_rows_are_read,
+    no_cell_begins_another, no_image_begins_another, rows_are_read,
 };
 pub use rows_consts::laws::{
     numbers_are_distinct, orders_are_of_numbers, transaction_numbers, worked_numbers,

@@ -167,6 +167,7 @@ pub use rows_optional::StrValue;
 pub use rows_optional::StrValues;
 pub use rows_optional::VectorDimensionalities;
 pub use rows_owned::BinlogRow;
+pub use rows_owned::BinlogRowCtx;
 pub use rows_owned::BinlogRowToRowError;
 pub use rows_owned::RowImage;
 pub use rows_plan::ColumnPlan;

@@ -36,7 +36,8 @@ kept_of (json_diffs b) (made.JsonDiff ds) h = (b, refl, h)
 kept_of v (made.Jsonb d) h = absurd h
 kept_of v (made.JsonDiff ds) h = absurd h
 
-one_kept : (v : CellValue) (k m : Kept) → IsKept v k → IsKept v m → k ≡ m
+-- one thing is kept of a cell
+pub one_kept : (v : CellValue) (k m : Kept) → IsKept v k → IsKept v m → k ≡ m
 one_kept v (kept.value a) (kept.value b) h i = ap (λ (w : CellValue). kept.value w) (sym h.0 ∙ i.0)
 one_kept v (kept.value a) (kept.json d) h i = absurd (subst IsPlain (sym h.0 ∙ i.1) h.1)
 one_kept v (kept.value a) (kept.json_diffs ds) h i = absurd (subst IsPlain (sym h.0 ∙ i.1) h.1)

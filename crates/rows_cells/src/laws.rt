@@ -2,7 +2,10 @@
 
 ghost use Rattle.std.specs.Prelude.{◌≡◌, ◌↔◌, ◌++◌, ℕ, List, Ok};
 ghost use Rattle.rows_cells.specs.declared.form.CellForm.{CellForm};
+ghost use Rattle.rows_cells.specs.declared.binlog_value.BinlogValue.{BinlogValue};
 ghost use Rattle.rows_cells.specs.CellValues.{CellValue};
+ghost use Rattle.rows_cells.specs.CellViews.{Holds};
+ghost use Rattle.rows_cells.specs.BinlogValues.{Kept, IsKept, kept_view};
 ghost use Rattle.wire_buf.specs.Spelling.{Alone};
 ghost use Rattle.rows_jsonb.specs.Items.{Walked, Finds, items_at};
 ghost use Rattle.rows_cells.specs.Cells.{IsCell, cell_at};
@@ -19,6 +22,12 @@ pub fn cells_are_read()
 pub fn no_cell_begins_another()
     ensures { (form : CellForm) (v w : CellValue) (a b x y : List ℕ) → IsCell form v a → IsCell form w b
         → a ++ x ≡ b ++ y → (v ≡ w) × (x ≡ y) }
+{}
+
+/// The value that was made of a cell is what is kept of it, and nothing else is kept of the cell.
+pub fn kept_values_are_those_of_cells()
+    ensures kept { (v : CellValue) (value : BinlogValue) → Holds v value → IsKept v (kept_view value) }
+    ensures only { (v : CellValue) (a b : Kept) → IsKept v a → IsKept v b → a ≡ b }
 {}
 
 /// The image that is read at the front of bytes is the one that they spell there, whatever follows it.

@@ -2,15 +2,14 @@
 use Rattle.std.specs.Prelude.{◌≡◌, ℕ, List, [], ◌∷◌, map, Option, Some, None}
 use Rattle.std.specs.List.{AllZip}
 use Rattle.std.specs.declared.result.Result.TheVariants.{Ok}
-use Rattle.wire_forms.specs.RawTexts.{text_of}
 use Rattle.rows_values.specs.Columns.{parts_of}
 use Rattle.rows_jsonb.specs.JsonbValues.{Reading}
 use Rattle.rows_cells.specs.Images.{PlacedValue}
 use Rattle.rows_cells.specs.declared.image.ImageColumn.{ImageColumn}
+use Rattle.rows_meta.specs.MapViews.{map_of}
 use Rattle.rows_meta.specs.declared.table_map.TableMapEvent.{TableMapEvent}
-use Rattle.rows_plan.specs.PlanViews.{plan_of, json_count}
 use Rattle.rows_plan.specs.PickedColumns.{in_image, definition, picked_as}
-use Rattle.rows_plan.specs.ImageShapes.{TablePlan, table_plan}
+use Rattle.rows_plan.specs.ImageShapes.{TablePlan, table_plan, map_plan}
 use Rattle.rows_plan.specs.declared.plan.ColumnPlan.{ColumnPlan}
 use Rattle.rows_owned.specs.OwnedRows.{values_of, columns_of, image_of}
 use Rattle.rows_owned.specs.RowImages.{IsHeld}
@@ -28,7 +27,7 @@ abbrev pub planned_table : ColumnPlan → TableView
 planned_table p = record { plan = table_plan p; database = p.database.items; table = p.table.items }
 
 abbrev pub mapped_table : TableMapEvent → TableView
-mapped_table m = record { plan = record { first = plan_of m; json_columns = json_count (text_of m.column_types) }; database = text_of m.database; table = text_of m.table }
+mapped_table m = record { plan = map_plan m; database = (map_of m).database; table = (map_of m).table }
 
 -- the columns of an image, by the bits that say which of n columns it has
 abbrev pub columns_by : TableView → ℕ → List ℕ → Reading (List ImageColumn)

@@ -1,2 +1,3 @@
+pub mod FieldLemmas
 pub mod HeldLemmas
 pub mod ReadLemmas

@@ -3,10 +3,12 @@ use Rattle.std.specs.Prelude.{ℕ, Bool, List, [], Option, Some, None, if◌then
 use Rattle.std.specs.declared.result.Result.TheVariants.{Ok}
 use Rattle.rows_jsonb.specs.JsonbValues.{Reading, ◌>>=◌}
 use Rattle.rows_cells.specs.Images.{ImageShape}
+use Rattle.rows_meta.specs.MapViews.{map_of}
+use Rattle.rows_meta.specs.declared.table_map.TableMapEvent.{TableMapEvent}
 use Rattle.rows_plan.specs.declared.plan.ColumnPlan.{ColumnPlan}
 use Rattle.rows_plan.specs.declared.image_columns.ImageColumns.{ImageColumns}
 use Rattle.rows_plan.specs.Plans.{PlannedColumn}
-use Rattle.rows_plan.specs.PlanViews.{planned}
+use Rattle.rows_plan.specs.PlanViews.{planned, plan_of, json_count}
 use Rattle.rows_plan.specs.PickedColumns.{in_image, picked_as}
 
 -- the plan of a table for its first columns, so many; and how many JSON columns it has
@@ -16,6 +18,10 @@ pub record TablePlan : Type 0 where
 
 abbrev pub table_plan : ColumnPlan → TablePlan
 table_plan p = record { first = planned p.run; json_columns = p.json_columns }
+
+-- the plan that a table map says
+abbrev pub map_plan : TableMapEvent → TablePlan
+map_plan m = record { first = plan_of m; json_columns = json_count (map_of m).column_types }
 
 -- the image of those of n columns whose bits are set; where JSON documents may stand as their changes, with the number of the table's JSON columns
 abbrev pub shape_picked : TablePlan → ℕ → Bool → (ℕ → Option Bool) → Reading ImageShape

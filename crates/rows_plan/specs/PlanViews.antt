@@ -4,9 +4,9 @@ use Rattle.std.specs.Borrow.{Bor}
 use Rattle.std.specs.declared.result.Result.TheVariants.{Ok, Err}
 use Rattle.wire_consts.specs.ColumnTypes.{column_type_number}
 use Rattle.wire_consts.specs.declared.column_type.ColumnType.TheVariants.{MYSQL_TYPE_JSON}
-use Rattle.wire_forms.specs.RawTexts.{text_of}
 use Rattle.rows_jsonb.specs.JsonbValues.{Reading, ◌>>=◌}
 use Rattle.rows_meta.specs.ColumnViews.{map_columns}
+use Rattle.rows_meta.specs.MapViews.{map_of}
 use Rattle.rows_meta.specs.declared.table_map.TableMapEvent.{TableMapEvent}
 use Rattle.rows_optional.specs.Lists.{strings}
 use Rattle.rows_optional.specs.MetadataFields.{fields}
@@ -45,7 +45,7 @@ columns_seen names columns = columns_from names 0 columns.now
 
 -- The plan for the first n columns of a table, which there is only where the fields of its optional metadata can be read and none of these columns meets a fault.
 abbrev pub plan_of : TableMapEvent → ℕ → Reading (List PlannedColumn)
-plan_of t n = extracted (fields (text_of t.column_types) (text_of t.optional_metadata)) >>= λ e. first_columns (table_of (map_columns t) e) n
+plan_of t n = extracted (fields (map_of t).column_types (map_of t).optional_metadata) >>= λ e. first_columns (table_of (map_columns t) e) n
 
 -- the first n columns of a run, or the fault of the first that has none
 abbrev pub planned : ColumnRun → ℕ → Reading (List PlannedColumn)
@@ -65,6 +65,6 @@ json_count types = count_by (λ n. n == column_type_number MYSQL_TYPE_JSON) type
 -- all that a plan has of a table
 pub record IsPlanOf (p : ColumnPlan) (t : TableMapEvent) : Type 0 where
   pub columns : (n : ℕ) → planned p.run n ≡ plan_of t n
-  pub database : p.database.items ≡ text_of t.database
-  pub table : p.table.items ≡ text_of t.table
-  pub json_columns : p.json_columns ≡ json_count (text_of t.column_types)
+  pub database : p.database.items ≡ (map_of t).database
+  pub table : p.table.items ≡ (map_of t).table
+  pub json_columns : p.json_columns ≡ json_count (map_of t).column_types

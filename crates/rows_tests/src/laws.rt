@@ -51,6 +51,7 @@ fn laws_of_documents_and_metadata(_rt: HostRuntime) {
 fn laws_of_rows(_rt: HostRuntime) {
     rows::cells_are_read();
     rows::no_cell_begins_another();
+    rows::kept_values_are_those_of_cells();
     rows::images_are_read();
     rows::no_image_begins_another();
     rows::rows_are_read();
