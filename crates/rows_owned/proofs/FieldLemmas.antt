@@ -25,7 +25,7 @@ use Rattle.rows_plan.specs.ImageShapes.{table_plan, map_plan, shape_picked}
 use Rattle.rows_plan.specs.declared.plan.ColumnPlan.{ColumnPlan}
 use Rattle.rows_owned.specs.OwnedRows.{values_of}
 use Rattle.rows_owned.specs.RowImages.{image_read, IsHeld, IsReadRow}
-use Rattle.rows_owned.specs.RowFields.{RowView, row_view, image_in, definitions_in, IsKeptValue, IsRowField}
+use Rattle.rows_owned.specs.RowFields.{RowView, row_view, image_of_ctx, definitions_of_ctx, IsKeptValue, IsRowField}
 use Rattle.rows_owned.specs.declared.binlog_row.BinlogRow.{BinlogRow}
 use Rattle.rows_owned.specs.declared.row_field.BinlogRowCtx.{BinlogRowCtx}
 use Rattle.rows_owned.specs.declared.row_image.RowImage.{RowImage}
@@ -65,19 +65,19 @@ same_row a b v d i =
     seen values definitions image = record { values = values; definitions = definitions; image = image }
 
 -- a row that the bytes spell is of the image that is read at their front
-spelled : (c : BinlogRowCtx) (image : RowImage) (bytes rest : List ℕ) (w : RowView) → image_in c ≡ Ok (image_read image) → (t : Begins (Alone (IsRowField c) w) bytes rest)
+spelled : (c : BinlogRowCtx) (image : RowImage) (bytes rest : List ℕ) (w : RowView) → image_of_ctx c ≡ Ok (image_read image) → (t : Begins (Alone (IsRowField c) w) bytes rest)
     → (t.is.shape ≡ image_read image) × (image_at (image_read image) bytes ≡ Ok (t.is.cells, rest))
 spelled c image bytes rest w shape t =
     let same : t.is.shape ≡ image_read image = ok_same t.is.shape (image_read image) (sym t.is.shape_is ∙ shape) in
     let here = image-here (image_read image) t.is.cells t.bytes rest (subst (λ (z : ImageShape). IsImage z t.is.cells t.bytes) same t.is.image_is) in
     (same, ap (image_at (image_read image)) t.joined ∙ here)
 
-pub row_read : (c : BinlogRowCtx) (image : RowImage) (bytes rest : List ℕ) (row : BinlogRow) → image_in c ≡ Ok (image_read image) → definitions_in c ≡ Ok (map parts_of (rc_slice_items image.definitions))
+pub row_read : (c : BinlogRowCtx) (image : RowImage) (bytes rest : List ℕ) (row : BinlogRow) → image_of_ctx c ≡ Ok (image_read image) → definitions_of_ctx c ≡ Ok (map parts_of (rc_slice_items image.definitions))
     → IsReadRow image bytes row rest → Reads (Alone (IsRowField c)) (row_view row) bytes rest
 row_read c image bytes rest row shape defined h =
     let own = image-is (image_read image) bytes (h.image, rest) h.read in
     let kept = kept_cells h.image (values_of row) h.row_is.values in
-    let definitions : definitions_in c ≡ Ok (row_view row).definitions = defined ∙ ap (λ (l : List Column). Ok (map parts_of l)) (sym h.row_is.columns) in
+    let definitions : definitions_of_ctx c ≡ Ok (row_view row).definitions = defined ∙ ap (λ (l : List Column). Ok (map parts_of l)) (sym h.row_is.columns) in
     record {
       begins = record {
         bytes = own.0;
@@ -95,12 +95,12 @@ row_read c image bytes rest row shape defined h =
 
 -- ---- why none is read
 
-lacks_row : (c : BinlogRowCtx) (image : RowImage) (bytes : List ℕ) (e : RowsError) → image_in c ≡ Ok (image_read image) → image_at (image_read image) bytes ≡ Err e → Lacks (Alone (IsRowField c)) bytes
+lacks_row : (c : BinlogRowCtx) (image : RowImage) (bytes : List ℕ) (e : RowsError) → image_of_ctx c ≡ Ok (image_read image) → image_at (image_read image) bytes ≡ Err e → Lacks (Alone (IsRowField c)) bytes
 lacks_row c image bytes e shape h v rest t =
     let both : ◌≡◌ {A = Reading (List PlacedValue × List ℕ)} (Err e) (Ok (t.is.cells, rest)) = sym h ∙ (spelled c image bytes rest v shape t).1 in
     absurd (cc both)
 
-pub no_row : (c : BinlogRowCtx) (image : RowImage) (bytes : List ℕ) (e : RowsError) → image_in c ≡ Ok (image_read image) → e ≡ Memory ⊎ image_at (image_read image) bytes ≡ Err e → e ≡ Memory ⊎ Lacks (Alone (IsRowField c)) bytes
+pub no_row : (c : BinlogRowCtx) (image : RowImage) (bytes : List ℕ) (e : RowsError) → image_of_ctx c ≡ Ok (image_read image) → e ≡ Memory ⊎ image_at (image_read image) bytes ≡ Err e → e ≡ Memory ⊎ Lacks (Alone (IsRowField c)) bytes
 no_row c image bytes e shape h = elim h as (λ _. e ≡ Memory ⊎ Lacks (Alone (IsRowField c)) bytes) [ inl m ↦ inl m | inr f ↦ inr (lacks_row c image bytes e shape f) ]
 
 -- ---- the image by a plan of the map
@@ -109,10 +109,10 @@ image_by : (c : BinlogRowCtx) (n : ℕ) → n ≡ c.num_columns → (if n == c.n
 image_by c n e = elim (eqb_tells n c.num_columns) [ inl t ↦ rw t.0 (ap (λ (k : ℕ). shape_picked (map_plan c.table_map.now) k c.has_shared_image (bit_at c.columns)) (sym e)) | inr t ↦ absurd (t.1 e) ]
 
 -- the plan of a map picks the image that the map says
-pub planned_image : (c : BinlogRowCtx) (plan : ColumnPlan) → IsPlanOf plan c.table_map.now → len_of c.columns ≡ c.num_columns → image_in c ≡ shape_picked (table_plan plan) (len_of c.columns) c.has_shared_image (bit_at c.columns)
+pub planned_image : (c : BinlogRowCtx) (plan : ColumnPlan) → IsPlanOf plan c.table_map.now → len_of c.columns ≡ c.num_columns → image_of_ctx c ≡ shape_picked (table_plan plan) (len_of c.columns) c.has_shared_image (bit_at c.columns)
 planned_image c plan is len = image_by c (len_of c.columns) len ∙ rw (← is.columns (len_of c.columns), ← is.json_columns) refl
 
 -- and defines its columns
 pub planned_definitions : (c : BinlogRowCtx) (plan : ColumnPlan) → IsPlanOf plan c.table_map.now → len_of c.columns ≡ c.num_columns
-    → definitions_in c ≡ picked_as (definition plan.database.items plan.table.items) (bit_at c.columns) (planned plan.run (len_of c.columns))
+    → definitions_of_ctx c ≡ picked_as (definition plan.database.items plan.table.items) (bit_at c.columns) (planned plan.run (len_of c.columns))
 planned_definitions c plan is len = rw (← len, ← is.columns (len_of c.columns), ← is.database, ← is.table) refl

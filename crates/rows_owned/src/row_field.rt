@@ -6,7 +6,7 @@ ghost use Rattle.wire_buf.specs.Spelling.{Alone};
 ghost use Rattle.rows_values.specs.Columns.{parts_of};
 ghost use Rattle.rows_values.specs.declared.fault.RowsError.TheVariants.{Memory};
 ghost use Rattle.rows_owned.specs.RowImages.{image_read};
-ghost use Rattle.rows_owned.specs.RowFields.{RowView, row_view, image_in, definitions_in, IsRowField, RowRefusal};
+ghost use Rattle.rows_owned.specs.RowFields.{RowView, row_view, image_of_ctx, definitions_of_ctx, IsRowField, RowRefusal};
 
 use crate::binlog_row::BinlogRow;
 use crate::row_image::RowImage;
@@ -35,9 +35,9 @@ impl BinlogRowCtx<'_> {
     /// `Metadata` where there isn't a bit for each column, else the refusals of `ColumnPlan::new` and of
     /// [`RowImage::new`].
     fn image(&self, alloc: Global) -> Result<RowImage, RowsError>
-        ensures shape { IfOk result (λ image. image_in self.now ≡ Ok (image_read image)) }
-        ensures definitions { IfOk result (λ image. definitions_in self.now ≡ Ok (map parts_of (rc_slice_items image.definitions))) }
-        ensures err { IfErr result (λ e. e ≡ Memory ⊎ image_in self.now ≡ Err e) }
+        ensures shape { IfOk result (λ image. image_of_ctx self.now ≡ Ok (image_read image)) }
+        ensures definitions { IfOk result (λ image. definitions_of_ctx self.now ≡ Ok (map parts_of (rc_slice_items image.definitions))) }
+        ensures err { IfErr result (λ e. e ≡ Memory ⊎ image_of_ctx self.now ≡ Err e) }
     {
         if self.columns.len() as u64 != self.num_columns {
             return Err(RowsError::Metadata);
@@ -49,7 +49,8 @@ impl BinlogRowCtx<'_> {
     }
 }
 
-/// The row of the image that the context describes, as [`RowImage::read`] reads it.
+/// The row of the image that the context describes, as [`RowImage::read`] reads it. A plan of the table is made
+/// for it: for many rows there is a [`RowImage`].
 ///
 /// `Metadata` where there isn't a bit for each column; else the fault of the first column that has no plan, or
 /// of the optional metadata; else the refusals of [`RowImage::read`]. `Memory` where memory was refused.
