@@ -1,4 +1,4 @@
-use Rattle.std.proofs.Common.{◌<◌, ℕ, get_or, length, ◌≡◌, arith, rules, ap, ◌∙◌, take}
+use Rattle.std.proofs.Common.{◌<◌, ℕ, get_or, length, ◌≡◌, rules, ap, ◌∙◌, take}
 use Rattle.feed_writers.proofs.DigitLemmas.{last_in_front_is}
 use Rattle.feed_writers.proofs.digits.last_in_front.Goals as goal
 
