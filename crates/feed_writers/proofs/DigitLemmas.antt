@@ -6,7 +6,7 @@ use Rattle.std.proofs.lemmas.Fmt.{decimal_digit, decimal_step, length-decimal-le
 use Rattle.std.proofs.lemmas.Bool.Decides.{leb_tells}
 use Rattle.std.proofs.lemmas.List.{replicate_more, take-take, length-take-le}
 use Rattle.std.proofs.Math.Seq.{take-add, take-append_seam, drop-append_seam, take-length}
-use Rattle.std.proofs.Math.Nat.{pow-suc, mul_comm, div-div-eq-div-mul}
+use Rattle.std.proofs.Math.Nat.{pow-suc, mul_comm, div-div-eq-div-mul, pow-le-pow_right}
 use Rattle.std.proofs.lemmas.Nat.{pow-add, le_bytes_8}
 use Rattle.std.specs.Int.{w64, byte_at, bytes_low_first, to_le_bytes, from_le_bytes}
 use Rattle.std.specs.Fmt.{decimal, digits}
@@ -95,7 +95,7 @@ padded_more k n h = either (nat_lt n 10) refl
         ∙ ap (λ (t : List ℕ). replicate (suc k - length (decimal (n / 10))) 48 ++ t) (decimal_step n m h)
         ∙ sym (append_assoc (replicate (suc k - length (decimal (n / 10))) 48) (decimal (n / 10)) ((48 + n % 10) ∷ []))
 
-padded_one : (n : ℕ) → n < 10 → padded 1 n ≡ (48 + n) ∷ []
+pub padded_one : (n : ℕ) → n < 10 → padded 1 n ≡ (48 + n) ∷ []
 unfolding padded
 padded_one n l = rw (decimal_digit n l) refl
 
@@ -290,23 +290,37 @@ last_in_front_is bytes count whole le size are is =
 
 -- ---- eight digits without the zeros in front
 
-drop_zeros : (k : ℕ) (s : List ℕ) → drop k (replicate k 48 ++ s) ≡ s
-drop_zeros zero s = refl
-drop_zeros (suc k) s = drop_zeros k s
+drop_zeros : (k j : ℕ) (s : List ℕ) → drop k (replicate (k + j) 48 ++ s) ≡ replicate j 48 ++ s
+drop_zeros zero j s = let e : 0 + j ≡ j = omega arith in ap (λ (i : ℕ). replicate i 48 ++ s) e
+drop_zeros (suc k) j s = let e : suc k + j ≡ suc (k + j) = omega arith in ap (λ (i : ℕ). drop (suc k) (replicate i 48 ++ s)) e ∙ drop_zeros k j s
 
--- those behind the zeros in front are the number's
-digits_behind : (n k count : ℕ) → n < 2 ^ 64 → count ≡ length (decimal n) → k + count ≡ 8 → drop k (padded 4 (n / 10000) ++ padded 4 (n % 10000)) ≡ decimal n
-digits_behind n k count h e all =
-    let zeros : 8 - length (decimal n) ≡ k = omega (arith, e, all) in
-    ap (drop k) (eight_padded n h ∙ padded_of 8 n ∙ ap (λ (j : ℕ). replicate j 48 ++ decimal n) zeros) ∙ drop_zeros k (decimal n)
+-- of the eight digits of a number the last ones, where those in front are zeros
+pub last_digits : (n count : ℕ) → n < 2 ^ 64 → length (decimal n) ≤ count → count ≤ 8 → drop (8 - count) (padded 4 (n / 10000) ++ padded 4 (n % 10000)) ≡ padded count n
+last_digits n count h fits le =
+    let k = 8 - count in
+    let j = count - length (decimal n) in
+    let zeros : 8 - length (decimal n) ≡ k + j = omega (arith, fits, le) in
+    ap (drop k) (eight_padded n h ∙ padded_of 8 n ∙ ap (λ (i : ℕ). replicate i 48 ++ decimal n) zeros) ∙ drop_zeros k j (decimal n) ∙ sym (padded_of count n)
+
+-- all its digits
+pub own_digits : (n count : ℕ) → n < 2 ^ 64 → count ≡ length (decimal n) → count ≤ 8 → drop (8 - count) (padded 4 (n / 10000) ++ padded 4 (n % 10000)) ≡ decimal n
+own_digits n count h e le = last_digits n count h (omega (arith, e)) le ∙ whole_padded count n e
+
+-- as many as they are below a power of ten
+pub small_digits : (n count : ℕ) → 1 ≤ count → count ≤ 8 → n < 10 ^ count → drop (8 - count) (padded 4 (n / 10000) ++ padded 4 (n % 10000)) ≡ padded count n
+small_digits n count some le small =
+    let ten : 0 < 10 = omega arith in
+    let most : n < 2 ^ 64 = omega (arith, small, pow-le-pow_right {n = 10} ten le) in
+    last_digits n count most (length-decimal-le count n some small most) le
+
+pub below_eight : (n count : ℕ) → count ≤ 8 → n < 10 ^ count → n < 100000000
+below_eight n count le small = let ten : 0 < 10 = omega arith in omega (arith, small, pow-le-pow_right {n = 10} ten le)
 
 -- so many of eight bytes that were written count
-pub front_counts : (at count number r end : ℕ) (old new digits piece : List ℕ) → at ≤ length old → number < 2 ^ 64 → count ≡ length (decimal number) → count ≤ 8 → length digits ≡ 8 → end ≡ 8
-    → take end digits ≡ padded 4 (number / 10000) ++ padded 4 (number % 10000) → take count piece ≡ drop (8 - count) digits → r ≡ at + length piece → length piece ≡ 8 → take r new ≡ take at old ++ piece
-    → take (at + count) new ≡ take at old ++ decimal number
-front_counts at count number r end old new digits piece room h e le size e8 all shifted r8 p8 written =
-    let eight : digits ≡ padded 4 (number / 10000) ++ padded 4 (number % 10000) =
-    sym (take-length digits) ∙ ap (λ (j : ℕ). take j digits) (size ∙ sym e8) ∙ all in
+pub front_counts : (at count r end : ℕ) (old new digits all piece shown : List ℕ) → at ≤ length old → count ≤ 8 → length digits ≡ 8 → end ≡ 8 → take end digits ≡ all → drop (8 - count) all ≡ shown → take count piece ≡ drop (8 - count) digits
+    → r ≡ at + length piece → length piece ≡ 8 → take r new ≡ take at old ++ piece → take (at + count) new ≡ take at old ++ shown
+front_counts at count r end old new digits all piece shown room le size e8 are last shifted r8 p8 written =
+    let eight : digits ≡ all = sym (take-length digits) ∙ ap (λ (j : ℕ). take j digits) (size ∙ sym e8) ∙ are in
     let front = take at old in
     let len : length front ≡ at = length-take-le at old room in
     sym (take-take (at + count) r new (omega (arith, le, r8, p8)))
@@ -314,7 +328,7 @@ front_counts at count number r end old new digits piece room h e le size e8 all 
     ∙ ap (λ (j : ℕ). take (j + count) (front ++ piece)) (sym len)
     ∙ take-add (length front) count (front ++ piece)
     ∙ ap₂ (λ (a b : List ℕ). a ++ take count b) (take-append_seam front piece) (drop-append_seam front piece)
-    ∙ ap (λ (t : List ℕ). front ++ t) (shifted ∙ ap (drop (8 - count)) eight ∙ digits_behind number (8 - count) count h e (omega (arith, le)))
+    ∙ ap (λ (t : List ℕ). front ++ t) (shifted ∙ ap (drop (8 - count)) eight ∙ last)
 
 pub padded_zeros : padded 6 0 ≡ 48 ∷ 48 ∷ 48 ∷ 48 ∷ 48 ∷ 48 ∷ []
 unfolding padded digits

@@ -172,6 +172,22 @@ fn put_middle(text: &mut [u8], at: usize, number: u32) -> usize
     at + count
 }
 
+/// Writes a number in so many digits, eight at most.
+#[inline(always)]
+pub fn put_places(text: &mut [u8], at: usize, count: usize, number: u32) -> usize
+    requires some { 1 ≤ count }
+    requires few { count ≤ 8 }
+    requires small { number < 10 ^ count }
+    requires room { at + 8 ≤ length text.old }
+    ensures end { result ≡ at + count }
+    ensures text { take result text.new ≡ take at text.old ++ padded count number }
+{
+    let mut digits = [b'0'; 8];
+    put_eight(&mut digits, 0, number);
+    put_bytes(text, at, &last_in_front(digits, count));
+    at + count
+}
+
 /// The last `count` of eight bytes, in front of others.
 #[inline(always)]
 fn last_in_front(bytes: [u8; 8], count: usize) -> [u8; 8]
