@@ -51,6 +51,7 @@ fn put_quoted_numbers(text: &mut [u8], at: usize, scale: usize, numbers: Decimal
 fn put_sign(text: &mut [u8], at: usize, scale: usize, numbers: DecimalNumbers) -> usize
     requires { at < length text.old }
     ensures end { result ≡ at + length (numbers_sign scale numbers) }
+    ensures most { result ≤ at + 1 }
     ensures text { take result text.new ≡ take at text.old ++ numbers_sign scale numbers }
 {
     text[at] = b'-';
@@ -67,6 +68,7 @@ fn put_fraction(text: &mut [u8], at: usize, scale: usize, number: u32) -> usize
     requires small { number < 10 ^ scale }
     requires room { at + 9 ≤ length text.old }
     ensures end { result ≡ at + length (places_text scale number) }
+    ensures most { result ≤ at + 9 }
     ensures text { take result text.new ≡ take at text.old ++ places_text scale number }
 {
     if scale == 0 {
