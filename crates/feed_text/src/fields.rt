@@ -7,7 +7,6 @@ ghost use Rattle.rows_cells.specs.declared.form.Width.TheVariants.{One};
 ghost use Rattle.rows_cells.specs.declared.form.CellForm.TheVariants.{Signed, Unsigned, Counted, Datetime2, Time2, Decimal};
 ghost use Rattle.feed_text.specs.FieldText.{WritesOrNone};
 
-use crate::decimals::write_quoted;
 use crate::parts::{datetime_parts, time_parts};
 use crate::short::{FEW, FEW_DIGITS, put_date, put_span};
 use crate::short_decimals::write_few_quoted;
@@ -219,54 +218,10 @@ fn put_decimal_field<'a>(
     if precision > FEW_DIGITS {
         return None;
     }
-    let (digits, places) = (usize::from(precision), usize::from(scale));
-    if places <= digits && digits - places <= 16 && places <= 8 {
-        return put_short_decimal(text, at, bytes, precision, scale);
-    }
-    put_long_decimal(text, at, bytes, precision, scale)
-}
-
-/// The same, for decimals with few digits on both sides of the point.
-#[inline(always)]
-fn put_short_decimal<'a>(
-    text: &mut [u8],
-    at: usize,
-    bytes: &'a [u8],
-    precision: u8,
-    scale: u8,
-) -> Option<(usize, &'a [u8])>
-    requires few { precision ≤ 71 }
-    requires room { at + 76 ≤ length text.old }
-    ensures { WritesOrNone false (Decimal precision scale) bytes.now at text.old text.new result }
-{
     match decimal_front(bytes, precision, scale) {
         Ok((content, rest)) => {
             let (precision, scale) = (usize::from(precision), usize::from(scale));
             match write_few_quoted(text, at, precision, scale, content) {
-                Some(end) => Some((end, rest)),
-                None => None,
-            }
-        }
-        Err(_) => None,
-    }
-}
-
-/// The same, for all others.
-fn put_long_decimal<'a>(
-    text: &mut [u8],
-    at: usize,
-    bytes: &'a [u8],
-    precision: u8,
-    scale: u8,
-) -> Option<(usize, &'a [u8])>
-    requires few { precision ≤ 71 }
-    requires room { at + 76 ≤ length text.old }
-    ensures { WritesOrNone false (Decimal precision scale) bytes.now at text.old text.new result }
-{
-    match decimal_front(bytes, precision, scale) {
-        Ok((content, rest)) => {
-            let (precision, scale) = (usize::from(precision), usize::from(scale));
-            match write_quoted(text, at, precision, scale, content) {
                 Some(end) => Some((end, rest)),
                 None => None,
             }

@@ -1,6 +1,6 @@
 use Rattle.std.proofs.Common.{arith, sym}
 use Rattle.feed_text.proofs.FieldTextLemmas.{decimal_at}
-use Rattle.feed_text.proofs.fields.put_short_decimal.Goals as goal
+use Rattle.feed_text.proofs.fields.put_decimal_field.Goals as goal
 
 pub returns-in-Some : goal.returns-in-Some
 returns-in-Some c =
@@ -11,6 +11,6 @@ returns-in-Some c =
       text = p.text;
       read = d.1;
       is = d.2;
-      most = omega (arith, p.most, c.requires.few);
+      most = omega (arith, p.most, c.if-precision-gt-FEW_DIGITS.false);
       written = p.written;
     }
