@@ -3,6 +3,7 @@ pub mod PieceLemmas
 pub mod InjectiveLemmas
 pub mod WorkedLemmas
 pub mod DecimalTextLemmas
+pub mod NumberTextLemmas
 pub mod PlainTextLemmas
 pub mod CellLemmas
 pub mod DocumentLemmas

@@ -1,9 +1,13 @@
 -- The text of the feed: decimals, as their packed bytes say them.
-use Rattle.std.specs.Prelude.{◌≡◌, ◌⊎◌, ℕ, List, ◌++◌, Option, Some, None}
+use Rattle.std.specs.Prelude.{◌≡◌, ◌⊎◌, ℕ, List, [], ◌∷◌, ◌++◌, ◌||◌, ◌&&◌, nat_lt, nat_eq, if◌then◌else◌, Option, Some, None}
+use Rattle.std.specs.Fmt.{decimal}
 use Rattle.std.specs.Option.{option_map}
 use Rattle.rows_values.specs.declared.fault.RowsError.{RowsError}
 use Rattle.rows_values.specs.declared.fault.RowsError.TheVariants.{Memory, Decimal}
+use Rattle.rows_decimal.specs.Texts.{sign_text}
 use Rattle.rows_decimal.specs.Unpacked.{packed_text}
+use Rattle.rows_decimal.specs.declared.numbers.DecimalNumbers.{DecimalNumbers}
+use Rattle.rows_values.specs.TimeTexts.{padded}
 use Rattle.feed_writers.specs.Quoting.{quoted}
 
 -- the quoted text of the decimal that bytes pack, where they pack one
@@ -19,3 +23,15 @@ AppendsSome (Some text) old new = new ≡ old ++ text
 pub record IsDecimalRefused (e : RowsError) (text : Option (List ℕ)) (old new : List ℕ) : Type 0 where
   pub cause : (e ≡ Memory) ⊎ ((e ≡ Decimal) × (text ≡ None))
   pub unchanged : new ≡ old
+
+-- the sign of two numbers: a zero without digits after the point has none
+abbrev pub numbers_sign : ℕ → DecimalNumbers → List ℕ
+numbers_sign scale n = sign_text (n.negative && (nat_lt 0 scale || nat_lt 0 n.before))
+
+-- a point and so many digits, if there are any
+abbrev pub places_text : ℕ → ℕ → List ℕ
+places_text scale n = if nat_eq scale 0 then [] else 46 ∷ padded scale n
+
+-- the sign, the number before the point, and the one after it in so many digits
+abbrev pub numbers_text : ℕ → DecimalNumbers → List ℕ
+numbers_text scale n = numbers_sign scale n ++ (decimal n.before ++ places_text scale n.after)

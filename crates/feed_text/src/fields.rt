@@ -7,9 +7,9 @@ ghost use Rattle.rows_cells.specs.declared.form.Width.TheVariants.{One};
 ghost use Rattle.rows_cells.specs.declared.form.CellForm.TheVariants.{Signed, Unsigned, Counted, Datetime2, Time2, Decimal};
 ghost use Rattle.feed_text.specs.FieldText.{WritesOrNone};
 
-use crate::decimals::write_quoted;
 use crate::parts::{datetime_parts, time_parts};
 use crate::short::{FEW, FEW_DIGITS, put_date, put_span};
+use crate::short_decimals::write_few_quoted;
 use feed_writers::{put_byte, put_bytes, put_number, put_plain_quoted, put_quoted, put_signed};
 use rows_cells::{
     CellForm, CellRef, ImageField, Width, bytes_front, datetime_front, decimal_front,
@@ -221,7 +221,7 @@ fn put_decimal_field<'a>(
     match decimal_front(bytes, precision, scale) {
         Ok((content, rest)) => {
             let (precision, scale) = (usize::from(precision), usize::from(scale));
-            match write_quoted(text, at, precision, scale, content) {
+            match write_few_quoted(text, at, precision, scale, content) {
                 Some(end) => Some((end, rest)),
                 None => None,
             }

@@ -19,6 +19,7 @@ mod parts;
 mod pieces;
 mod quoting;
 mod short;
+mod short_decimals;
 mod values;
 
 pub use buffer::TextBuffer;

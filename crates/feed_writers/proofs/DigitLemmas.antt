@@ -1,11 +1,14 @@
 -- Numbers as text, by pairs of digits, and how many digits they have.
-use Rattle.std.proofs.Common.{◌≡◌, ℕ, zero, suc, ◌+◌, ◌-◌, ◌*◌, ◌/◌, ◌%◌, ◌^◌, ◌<◌, ◌≤◌, Bool, true, false, ◌&&◌, T, eqb, List, [], ◌∷◌, ◌++◌, length, take, drop, get_or, replicate, refl, sym, ap, ap₂, ◌∙◌, inl, inr, arith, eq-zero-or-pos, eqb→eq, append_assoc, length-append, length-drop}
+use Rattle.std.proofs.Common.{◌≡◌, ℕ, zero, suc, ◌+◌, ◌-◌, ◌*◌, ◌/◌, ◌%◌, ◌^◌, ◌<◌, ◌≤◌, Bool, true, false, ◌&&◌, T, eqb, List, [], ◌∷◌, ◌++◌, length, take, drop, get_or, replicate, refl, sym, ap, ap₂, ◌∙◌, inl, inr, arith, eq-zero-or-pos, eqb→eq, append_assoc, length-append}
 use Rattle.std.specs.Prelude.{nat_lt}
 use Rattle.std.proofs.lemmas.Bool.{ltb-true, ltb-false}
 use Rattle.std.proofs.lemmas.Fmt.{decimal_digit, decimal_step, length-decimal-le}
 use Rattle.std.proofs.lemmas.Bool.Decides.{leb_tells}
-use Rattle.std.proofs.lemmas.List.{replicate_more, drop-take, take-take, length-take-le}
-use Rattle.std.proofs.Math.Seq.{take-add, take-append_seam, drop-append_seam}
+use Rattle.std.proofs.lemmas.List.{replicate_more, take-take, length-take-le}
+use Rattle.std.proofs.Math.Seq.{take-add, take-append_seam, drop-append_seam, take-length}
+use Rattle.std.proofs.Math.Nat.{pow-suc, mul_comm, div-div-eq-div-mul, pow-le-pow_right}
+use Rattle.std.proofs.lemmas.Nat.{pow-add, le_bytes_8}
+use Rattle.std.specs.Int.{w64, byte_at, bytes_low_first, to_le_bytes, from_le_bytes}
 use Rattle.std.specs.Fmt.{decimal, digits}
 use Rattle.rows_values.specs.TimeTexts.{padded}
 use Rattle.feed_writers.specs.declared.digits.TheConstants.{PAIRS}
@@ -92,7 +95,7 @@ padded_more k n h = either (nat_lt n 10) refl
         ∙ ap (λ (t : List ℕ). replicate (suc k - length (decimal (n / 10))) 48 ++ t) (decimal_step n m h)
         ∙ sym (append_assoc (replicate (suc k - length (decimal (n / 10))) 48) (decimal (n / 10)) ((48 + n % 10) ∷ []))
 
-padded_one : (n : ℕ) → n < 10 → padded 1 n ≡ (48 + n) ∷ []
+pub padded_one : (n : ℕ) → n < 10 → padded 1 n ≡ (48 + n) ∷ []
 unfolding padded
 padded_one n l = rw (decimal_digit n l) refl
 
@@ -187,52 +190,37 @@ pushed_then base b c mid new a first second e = joined_is base (a ∷ []) b c mi
 
 -- ---- eight digits at once
 
-count_next : (n k : ℕ) → 10 ≤ n → n < 2 ^ 64 → k ≡ length (decimal (n / 10)) → k + 1 ≡ length (decimal n)
-count_next n k lo hi e = omega (arith, longer n lo hi, e)
-
-count_five : (n : ℕ) → 10000 ≤ n → n < 100000 → 5 ≡ length (decimal n)
-count_five n lo hi = count_next n 4 (omega (arith, lo)) (omega (arith, hi)) (count_four (n / 10) (omega (arith, lo)) (omega (arith, hi)))
-
-count_six : (n : ℕ) → 100000 ≤ n → n < 1000000 → 6 ≡ length (decimal n)
-count_six n lo hi = count_next n 5 (omega (arith, lo)) (omega (arith, hi)) (count_five (n / 10) (omega (arith, lo)) (omega (arith, hi)))
-
-count_seven : (n : ℕ) → 1000000 ≤ n → n < 10000000 → 7 ≡ length (decimal n)
-count_seven n lo hi = count_next n 6 (omega (arith, lo)) (omega (arith, hi)) (count_six (n / 10) (omega (arith, lo)) (omega (arith, hi)))
-
-count_eight : (n : ℕ) → 10000000 ≤ n → n < 100000000 → 8 ≡ length (decimal n)
-count_eight n lo hi = count_next n 7 (omega (arith, lo)) (omega (arith, hi)) (count_seven (n / 10) (omega (arith, lo)) (omega (arith, hi)))
-
 -- 1 where n is at least k, else 0
 pub record IsFrom (n k r : ℕ) : Type 0 where
   pub from : k ≤ n → r ≡ 1
   pub below : n < k → r ≡ 0
 
 -- one digit, and one more for each power of ten that is passed
-pub count_sum : (n a b c d e f g : ℕ) → n < 100000000 → IsFrom n 10 a → IsFrom n 100 b → IsFrom n 1000 c → IsFrom n 10000 d → IsFrom n 100000 e → IsFrom n 1000000 f → IsFrom n 10000000 g
-    → 1 + a + b + c + d + e + f + g ≡ length (decimal n)
-count_sum n a b c d e f g h ia ib ic id ie if ig =
+pub count_sum : (n a b c : ℕ) → n < 10000 → IsFrom n 10 a → IsFrom n 100 b → IsFrom n 1000 c → 1 + a + b + c ≡ length (decimal n)
+count_sum n a b c h ia ib ic =
     elim (leb_tells 10 n) [
-      | inr t ↦ omega (arith, count_one n t.1, ia.below t.1, ib.below (omega arith), ic.below (omega arith), id.below (omega arith), ie.below (omega arith), if.below (omega arith), ig.below (omega arith))
+      | inr t ↦ omega (arith, count_one n t.1, ia.below t.1, ib.below (omega arith), ic.below (omega arith))
       | inl s ↦ elim (leb_tells 100 n) [
-        | inr t ↦ omega (arith, count_two n s.1 t.1, ia.from s.1, ib.below t.1, ic.below (omega arith), id.below (omega arith), ie.below (omega arith), if.below (omega arith), ig.below (omega arith))
+        | inr t ↦ omega (arith, count_two n s.1 t.1, ia.from s.1, ib.below t.1, ic.below (omega arith))
         | inl s2 ↦ elim (leb_tells 1000 n) [
-          | inr t ↦ omega (arith, count_three n s2.1 t.1, ia.from s.1, ib.from s2.1, ic.below t.1, id.below (omega arith), ie.below (omega arith), if.below (omega arith), ig.below (omega arith))
-          | inl s3 ↦ elim (leb_tells 10000 n) [
-            | inr t ↦ omega (arith, count_four n s3.1 t.1, ia.from s.1, ib.from s2.1, ic.from s3.1, id.below t.1, ie.below (omega arith), if.below (omega arith), ig.below (omega arith))
-            | inl s4 ↦ elim (leb_tells 100000 n) [
-              | inr t ↦ omega (arith, count_five n s4.1 t.1, ia.from s.1, ib.from s2.1, ic.from s3.1, id.from s4.1, ie.below t.1, if.below (omega arith), ig.below (omega arith))
-              | inl s5 ↦ elim (leb_tells 1000000 n) [
-                | inr t ↦ omega (arith, count_six n s5.1 t.1, ia.from s.1, ib.from s2.1, ic.from s3.1, id.from s4.1, ie.from s5.1, if.below t.1, ig.below (omega arith))
-                | inl s6 ↦ elim (leb_tells 10000000 n) [
-                  | inr t ↦ omega (arith, count_seven n s6.1 t.1, ia.from s.1, ib.from s2.1, ic.from s3.1, id.from s4.1, ie.from s5.1, if.from s6.1, ig.below t.1)
-                  | inl s7 ↦ omega (arith, count_eight n s7.1 h, ia.from s.1, ib.from s2.1, ic.from s3.1, id.from s4.1, ie.from s5.1, if.from s6.1, ig.from s7.1)
-                ]
-              ]
-            ]
-          ]
+          | inr t ↦ omega (arith, count_three n s2.1 t.1, ia.from s.1, ib.from s2.1, ic.below t.1)
+          | inl s3 ↦ omega (arith, count_four n s3.1 h, ia.from s.1, ib.from s2.1, ic.from s3.1)
         ]
       ]
     ]
+
+-- a number of five digits or more, by those in front of its last four
+pub long_counted : (n few : ℕ) (r : ℕ × ℕ) → r ≡ (n / 10000, 4) → few ≡ length (decimal r.0) → 10000 ≤ n → n < 2 ^ 32 → r.1 + few ≡ length (decimal n)
+long_counted n few r e h lo hi =
+    let four : r.1 ≡ 4 = ap (λ (p : ℕ × ℕ). p.1) e in
+    let front : few ≡ length (decimal (n / 10000)) = h ∙ ap (λ (p : ℕ × ℕ). length (decimal p.0)) e in
+    omega (arith, four, front, count_more n lo (omega (arith, hi)))
+
+pub short_counted : (n few : ℕ) (r : ℕ × ℕ) → r ≡ (n, 0) → few ≡ length (decimal r.0) → r.1 + few ≡ length (decimal n)
+short_counted n few r e h =
+    let none : r.1 ≡ 0 = ap (λ (p : ℕ × ℕ). p.1) e in
+    let all : few ≡ length (decimal n) = h ∙ ap (λ (p : ℕ × ℕ). length (decimal p.0)) e in
+    omega (arith, none, all)
 
 eight_padded : (n : ℕ) → n < 2 ^ 64 → padded 4 (n / 10000) ++ padded 4 (n % 10000) ≡ padded 8 n
 eight_padded n h =
@@ -241,41 +229,106 @@ eight_padded n h =
     let c : n % 100 ≡ n % 10000 % 100 = omega arith in
     sym (rw (padded_two_more 5 n h, padded_two_more 3 (n / 100) (omega (arith, h)), padded_two_more 1 (n % 10000) (omega arith), append_assoc, a, b, ← c) refl)
 
--- all eight digits stand in a list, and those behind the zeros in front are the number's
-digits_behind : (n count : ℕ) (digits : List ℕ) → n < 2 ^ 64 → count ≡ length (decimal n) → count ≤ 8 → take 8 digits ≡ padded 4 (n / 10000) ++ padded 4 (n % 10000) → take count (drop (8 - count) digits) ≡ decimal n
-digits_behind n count digits h e le is =
-    let whole : 8 - count + count ≡ 8 = omega (arith, le) in
-    sym (drop-take (8 - count) count digits)
-    ∙ ap (λ (k : ℕ). drop (8 - count) (take k digits)) whole
-    ∙ ap (drop (8 - count)) (is ∙ eight_padded n h ∙ padded_of 8 n ∙ ap (λ (k : ℕ). replicate (8 - k) 48 ++ decimal n) (sym e))
-    ∙ drop_zeros (8 - count) (decimal n)
-  where
-    drop_zeros : (k : ℕ) (s : List ℕ) → drop k (replicate k 48 ++ s) ≡ s
-    drop_zeros zero s = refl
-    drop_zeros (suc k) s = drop_zeros k s
+-- ---- a number's lowest bytes
+
+-- of k and m bytes the first k
+take_low : (k m i n : ℕ) → take k (bytes_low_first i (k + m) n) ≡ bytes_low_first i k n
+take_low zero m i n = refl
+take_low (suc k) m i n =
+    let e : suc k + m ≡ suc (k + m) = omega arith in
+    ap (λ (j : ℕ). take (suc k) (bytes_low_first i j n)) e ∙ ap (λ (l : List ℕ). byte_at i n ∷ l) (take_low k m (suc i) n)
+
+-- of k and m bytes the last m
+drop_low : (k m i n : ℕ) → drop k (bytes_low_first i (k + m) n) ≡ bytes_low_first (i + k) m n
+drop_low zero m i n =
+    let e : i ≡ i + 0 = omega arith in
+    let f : 0 + m ≡ m = omega arith in
+    ap (λ (j : ℕ). bytes_low_first i j n) f ∙ ap (λ (j : ℕ). bytes_low_first j m n) e
+drop_low (suc k) m i n =
+    let e : suc i + k ≡ i + suc k = omega arith in
+    let f : suc k + m ≡ suc (k + m) = omega arith in
+    ap (λ (j : ℕ). drop (suc k) (bytes_low_first i j n)) f ∙ drop_low k m (suc i) n ∙ ap (λ (j : ℕ). bytes_low_first j m n) e
+
+byte_of : (i n : ℕ) → byte_at i n ≡ n / 256 ^ i % 256
+byte_of zero n = let e : n ≡ n / 1 = omega arith in ap (λ (k : ℕ). k % 256) e
+byte_of (suc i) n = refl
+
+byte_shifted : (i k n : ℕ) → byte_at i (n / 256 ^ k) ≡ byte_at (i + k) n
+byte_shifted i k n =
+    let e : 256 ^ k * 256 ^ i ≡ 256 ^ (i + k) = mul_comm (256 ^ k) (256 ^ i) ∙ sym (pow-add 256 i k) in
+    byte_of i (n / 256 ^ k) ∙ ap (λ (m : ℕ). m % 256) (div-div-eq-div-mul n (256 ^ k) (256 ^ i) ∙ ap (λ (m : ℕ). n / m) e) ∙ sym (byte_of (i + k) n)
+
+-- a number without its lowest k bytes
+low_shifted : (m i k n : ℕ) → bytes_low_first i m (n / 256 ^ k) ≡ bytes_low_first (i + k) m n
+low_shifted zero i k n = refl
+low_shifted (suc m) i k n =
+    let e : suc i + k ≡ suc (i + k) = omega arith in
+    ap₂ (λ (b : ℕ) (l : List ℕ). b ∷ l) (byte_shifted i k n) (low_shifted m (suc i) k n ∙ ap (λ (j : ℕ). bytes_low_first j m n) e)
+
+-- a number of eight bytes that is shifted by the first k of them begins with those behind
+shifted_bytes : (k m n : ℕ) → k + m ≡ 8 → take m (to_le_bytes w64 (n / 256 ^ k)) ≡ drop k (to_le_bytes w64 n)
+shifted_bytes k m n e =
+    let other : m + k ≡ 8 = omega (arith, e) in
+    ap (λ (j : ℕ). take m (bytes_low_first 0 j (n / 256 ^ k))) (sym other) ∙ take_low m k 0 (n / 256 ^ k) ∙ low_shifted m 0 k n
+    ∙ sym (drop_low k m 0 n) ∙ ap (λ (j : ℕ). drop k (bytes_low_first 0 j n)) e
+
+power_eight : (k : ℕ) → 2 ^ (8 * k) ≡ 256 ^ k
+power_eight zero = refl
+power_eight (suc k) =
+    let e : 8 * suc k ≡ 8 + 8 * k = omega arith in
+    ap (λ (j : ℕ). 2 ^ j) e ∙ pow-add 2 8 (8 * k) ∙ ap (λ (j : ℕ). 256 * j) (power_eight k) ∙ mul_comm 256 (256 ^ k) ∙ sym (pow-suc 256 k)
+
+-- eight bytes as one number, without its lowest ones
+pub last_in_front_is : (bytes : List ℕ) (count whole : ℕ) → count ≤ 8 → length bytes ≡ 8 → ((i : ℕ) → get_or bytes i 0 < 256) → whole ≡ from_le_bytes w64 bytes
+    → take count (to_le_bytes w64 (whole / 2 ^ (64 - 8 * count))) ≡ drop (8 - count) bytes
+last_in_front_is bytes count whole le size are is =
+    let k = 8 - count in
+    let sum : k + count ≡ 8 = omega (arith, le) in
+    let bits : 64 - 8 * count ≡ 8 * k = omega (arith, le) in
+    let power : 2 ^ (64 - 8 * count) ≡ 256 ^ k = ap (λ (j : ℕ). 2 ^ j) bits ∙ power_eight k in
+    ap (λ (m : ℕ). take count (to_le_bytes w64 (whole / m))) power ∙ shifted_bytes k count whole sum ∙ ap (drop k) (le_bytes_8 bytes whole size are is)
+
+-- ---- eight digits without the zeros in front
+
+drop_zeros : (k j : ℕ) (s : List ℕ) → drop k (replicate (k + j) 48 ++ s) ≡ replicate j 48 ++ s
+drop_zeros zero j s = let e : 0 + j ≡ j = omega arith in ap (λ (i : ℕ). replicate i 48 ++ s) e
+drop_zeros (suc k) j s = let e : suc k + j ≡ suc (k + j) = omega arith in ap (λ (i : ℕ). drop (suc k) (replicate i 48 ++ s)) e ∙ drop_zeros k j s
+
+-- of the eight digits of a number the last ones, where those in front are zeros
+pub last_digits : (n count : ℕ) → n < 2 ^ 64 → length (decimal n) ≤ count → count ≤ 8 → drop (8 - count) (padded 4 (n / 10000) ++ padded 4 (n % 10000)) ≡ padded count n
+last_digits n count h fits le =
+    let k = 8 - count in
+    let j = count - length (decimal n) in
+    let zeros : 8 - length (decimal n) ≡ k + j = omega (arith, fits, le) in
+    ap (drop k) (eight_padded n h ∙ padded_of 8 n ∙ ap (λ (i : ℕ). replicate i 48 ++ decimal n) zeros) ∙ drop_zeros k j (decimal n) ∙ sym (padded_of count n)
+
+-- all its digits
+pub own_digits : (n count : ℕ) → n < 2 ^ 64 → count ≡ length (decimal n) → count ≤ 8 → drop (8 - count) (padded 4 (n / 10000) ++ padded 4 (n % 10000)) ≡ decimal n
+own_digits n count h e le = last_digits n count h (omega (arith, e)) le ∙ whole_padded count n e
+
+-- as many as they are below a power of ten
+pub small_digits : (n count : ℕ) → 1 ≤ count → count ≤ 8 → n < 10 ^ count → drop (8 - count) (padded 4 (n / 10000) ++ padded 4 (n % 10000)) ≡ padded count n
+small_digits n count some le small =
+    let ten : 0 < 10 = omega arith in
+    let most : n < 2 ^ 64 = omega (arith, small, pow-le-pow_right {n = 10} ten le) in
+    last_digits n count most (length-decimal-le count n some small most) le
+
+pub below_eight : (n count : ℕ) → count ≤ 8 → n < 10 ^ count → n < 100000000
+below_eight n count le small = let ten : 0 < 10 = omega arith in omega (arith, small, pow-le-pow_right {n = 10} ten le)
 
 -- so many of eight bytes that were written count
-pub front_counts : (at count n : ℕ) (old new piece digits : List ℕ) → at ≤ length old → n < 2 ^ 64 → count ≡ length (decimal n) → count ≤ 8 → take (at + 8) new ≡ take at old ++ piece → piece ≡ take 8 (drop (8 - count) digits) → take 8 digits ≡ padded 4 (n / 10000) ++ padded 4 (n % 10000)
-    → take (at + count) new ≡ take at old ++ decimal n
-front_counts at count n old new piece digits room h e le written is all =
+pub front_counts : (at count r end : ℕ) (old new digits all piece shown : List ℕ) → at ≤ length old → count ≤ 8 → length digits ≡ 8 → end ≡ 8 → take end digits ≡ all → drop (8 - count) all ≡ shown → take count piece ≡ drop (8 - count) digits
+    → r ≡ at + length piece → length piece ≡ 8 → take r new ≡ take at old ++ piece → take (at + count) new ≡ take at old ++ shown
+front_counts at count r end old new digits all piece shown room le size e8 are last shifted r8 p8 written =
+    let eight : digits ≡ all = sym (take-length digits) ∙ ap (λ (j : ℕ). take j digits) (size ∙ sym e8) ∙ are in
     let front = take at old in
     let len : length front ≡ at = length-take-le at old room in
-    sym (take-take (at + count) (at + 8) new (omega (arith, le)))
+    sym (take-take (at + count) r new (omega (arith, le, r8, p8)))
     ∙ ap (take (at + count)) written
-    ∙ ap (λ (k : ℕ). take (k + count) (front ++ piece)) (sym len)
+    ∙ ap (λ (j : ℕ). take (j + count) (front ++ piece)) (sym len)
     ∙ take-add (length front) count (front ++ piece)
     ∙ ap₂ (λ (a b : List ℕ). a ++ take count b) (take-append_seam front piece) (drop-append_seam front piece)
-    ∙ ap (λ (t : List ℕ). front ++ t) (ap (take count) is ∙ take-take count 8 (drop (8 - count) digits) le ∙ digits_behind n count digits h e le all)
-
--- the same, of the eight bytes as they were cut out
-pub cut_counts : (at count n r p : ℕ) (old new digits : List ℕ) → at ≤ length old → n < 2 ^ 64 → count ≡ length (decimal n) → count ≤ 8 → length digits ≡ 16 → p ≡ 8 → take p digits ≡ padded 4 (n / 10000) ++ padded 4 (n % 10000)
-    → r ≡ at + length (take (16 - count - (8 - count)) (drop (8 - count) digits)) → take r new ≡ take at old ++ take (16 - count - (8 - count)) (drop (8 - count) digits) → take (at + count) new ≡ take at old ++ decimal n
-cut_counts at count n r p old new digits room h e le size p8 all end written =
-    let k : 16 - count - (8 - count) ≡ 8 = omega (arith, le) in
-    let long : 8 ≤ length (drop (8 - count) digits) = omega (arith, length-drop (8 - count) digits, size) in
-    let eight : length (take (16 - count - (8 - count)) (drop (8 - count) digits)) ≡ 8 = ap (λ (m : ℕ). length (take m (drop (8 - count) digits))) k ∙ length-take-le 8 (drop (8 - count) digits) long in
-    let r8 : at + 8 ≡ r = omega (arith, end, eight) in
-    front_counts at count n old new (take 8 (drop (8 - count) digits)) digits room h e le (ap (λ (m : ℕ). take m new) r8 ∙ written ∙ ap (λ (m : ℕ). take at old ++ take m (drop (8 - count) digits)) k) refl (ap (λ (m : ℕ). take m digits) (sym p8) ∙ all)
+    ∙ ap (λ (t : List ℕ). front ++ t) (shifted ∙ ap (drop (8 - count)) eight ∙ last)
 
 pub padded_zeros : padded 6 0 ≡ 48 ∷ 48 ∷ 48 ∷ 48 ∷ 48 ∷ 48 ∷ []
 unfolding padded digits

@@ -1,6 +1,6 @@
 //! Bytes and numbers in decimal.
 
-ghost use Rattle.std.specs.Prelude.{◌≡◌, ◌≤◌, ◌<◌, ◌^◌, ◌+◌, ◌/◌, ◌%◌, ◌++◌, ◌∷◌, [], length, take};
+ghost use Rattle.std.specs.Prelude.{◌≡◌, ◌≤◌, ◌<◌, ◌^◌, ◌+◌, ◌-◌, ◌/◌, ◌%◌, ◌++◌, ◌∷◌, [], length, take, drop};
 ghost use Rattle.std.specs.Fmt.{decimal, signed_decimal};
 ghost use Rattle.rows_values.specs.TimeTexts.{padded};
 
@@ -141,8 +141,8 @@ fn put_short(text: &mut [u8], at: usize, number: u32) -> usize
     put_four(text, at, number)
 }
 
-/// Writes a number below 100,000,000 in decimal. It takes all of its eight digits and leaves out the zeros in
-/// front, so that nothing hangs on how many these are but where the text ends.
+/// Writes a number below 100,000,000 in decimal. All of its eight digits are shifted as one number until those
+/// in front are left out that are zeros, so that nothing hangs on how many these are but where the text ends.
 #[inline(always)]
 fn put_middle(text: &mut [u8], at: usize, number: u32) -> usize
     requires small { number < 100000000 }
@@ -152,10 +152,37 @@ fn put_middle(text: &mut [u8], at: usize, number: u32) -> usize
     ensures text { take result text.new ≡ take at text.old ++ decimal number }
 {
     let count = middle_count(number);
-    let mut digits = [b'0'; 16];
+    let mut digits = [b'0'; 8];
     put_eight(&mut digits, 0, number);
-    put_bytes(text, at, &digits[8 - count..16 - count]);
+    put_bytes(text, at, &last_in_front(digits, count));
     at + count
+}
+
+/// Writes a number in so many digits, eight at most.
+#[inline(always)]
+pub fn put_places(text: &mut [u8], at: usize, count: usize, number: u32) -> usize
+    requires some { 1 ≤ count }
+    requires few { count ≤ 8 }
+    requires small { number < 10 ^ count }
+    requires room { at + 8 ≤ length text.old }
+    ensures end { result ≡ at + count }
+    ensures text { take result text.new ≡ take at text.old ++ padded count number }
+{
+    let mut digits = [b'0'; 8];
+    put_eight(&mut digits, 0, number);
+    put_bytes(text, at, &last_in_front(digits, count));
+    at + count
+}
+
+/// The last `count` of eight bytes, in front of others.
+#[inline(always)]
+fn last_in_front(bytes: [u8; 8], count: usize) -> [u8; 8]
+    requires some { 1 ≤ count }
+    requires most { count ≤ 8 }
+    ensures { take count result ≡ drop (8 - count) bytes }
+{
+    let shifted = u64::from_le_bytes(bytes) >> (64 - 8 * count);
+    shifted.to_le_bytes()
 }
 
 /// How many digits a number below 100,000,000 has.
@@ -166,13 +193,20 @@ fn middle_count(number: u32) -> usize
     ensures low { 1 ≤ result }
     ensures high { result ≤ 8 }
 {
-    1 + is_from(number, 10)
-        + is_from(number, 100)
-        + is_from(number, 1000)
-        + is_from(number, 10_000)
-        + is_from(number, 100_000)
-        + is_from(number, 1_000_000)
-        + is_from(number, 10_000_000)
+    let front = number / 10_000;
+    let (counted, behind) = if front > 0 { (front, 4) } else { (number, 0) };
+    behind + few_count(counted)
+}
+
+/// How many digits a number below 10,000 has, without a branch.
+#[inline(always)]
+fn few_count(number: u32) -> usize
+    requires { number < 10000 }
+    ensures value { result ≡ length (decimal number) }
+    ensures low { 1 ≤ result }
+    ensures high { result ≤ 4 }
+{
+    1 + is_from(number, 10) + is_from(number, 100) + is_from(number, 1000)
 }
 
 /// 1 where a number is at least another, else 0.

@@ -12,7 +12,7 @@ mod plain;
 mod quoted;
 mod times;
 
-pub use digits::{put_byte, put_bytes, put_number, put_padded, put_place, put_signed};
+pub use digits::{put_byte, put_bytes, put_number, put_padded, put_place, put_places, put_signed};
 pub use escapes::put_escapes;
 pub use hexadecimal::put_hexadecimal;
 pub use plain::{is_plain, plain_len};

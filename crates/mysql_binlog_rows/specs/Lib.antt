@@ -22,6 +22,7 @@ pub use Rattle.rows_decimal.specs.GroupsLeft
 pub use Rattle.rows_decimal.specs.Texts
 pub use Rattle.rows_decimal.specs.Unpacked
 pub use Rattle.rows_decimal.specs.PackedTexts
+pub use Rattle.rows_decimal.specs.PackedNumbers
 pub use Rattle.rows_jsonb.specs.JsonbTypes
 pub use Rattle.rows_jsonb.specs.JsonbLayout
 pub use Rattle.rows_jsonb.specs.AllColumnTypes

@@ -17,3 +17,4 @@ pub mod WriteLemmas
 pub mod PackedFrontLemmas
 pub mod Computed
 pub mod CheckLemmas
+pub mod NumberLemmas

@@ -54,7 +54,7 @@ pub nines_begin : (x : List ℕ) → nines_digits 0 x ≡ Some []
 unfolding nines_digits
 nines_begin x = refl
 
-nines_next : (i : ℕ) (x : List ℕ) → nines_digits (i + 1) x ≡ joined (nines_digits i x) (group_digits 9 (take 4 (drop (4 * i) x)))
+pub nines_next : (i : ℕ) (x : List ℕ) → nines_digits (i + 1) x ≡ joined (nines_digits i x) (group_digits 9 (take 4 (drop (4 * i) x)))
 unfolding nines_digits
 nines_next i x = let e : i + 1 ≡ suc i = omega arith in rw e refl
 

@@ -5,3 +5,4 @@ pub mod Steps
 pub mod GroupsLeft
 pub mod Unpacked
 pub mod PackedTexts
+pub mod PackedNumbers

@@ -14,6 +14,7 @@ mod fields;
 mod group_number;
 mod groups;
 pub mod laws;
+mod numbers;
 mod order;
 mod packed_check;
 mod packed_text;
@@ -24,6 +25,7 @@ mod unpacking;
 
 pub use digits::{DIG_BASE, DIG_PER_DEC, DIG_TO_BYTES, Digit, POWERS_10, decimal_bin_size};
 pub use fields::Decimal;
+pub use numbers::{DecimalNumbers, decimal_numbers};
 pub use packed_check::packs_decimal;
 pub use packed_text::put_decimal_text;
 pub use parse::ParseDecimalError;

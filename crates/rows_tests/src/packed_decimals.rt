@@ -4,7 +4,7 @@ ghost use Rattle.std.specs.Prelude.{◌≤◌};
 
 use crate::decimals::{is_shown, is_written};
 use crate::devices::FailingReader;
-use mysql_binlog_rows::{Decimal, RowsError, put_decimal_text};
+use mysql_binlog_rows::{Decimal, DecimalNumbers, RowsError, decimal_numbers, put_decimal_text};
 use std::alloc::Global;
 use std::str;
 
@@ -155,5 +155,50 @@ fn packed_bytes_without_a_text(rt: HostRuntime) {
             && has_text(2, 3, b"\x80\x00", None)
             && has_text(4, 0, b"\x80", None)
             && has_text(2, 0, b"\x80\x00", None)
+    );
+}
+
+/// Whether the bytes pack the decimal of these numbers.
+fn has_numbers(
+    precision: usize,
+    scale: usize,
+    bytes: &[u8],
+    negative: bool,
+    before: u64,
+    after: u32,
+) -> bool {
+    let wanted = DecimalNumbers {
+        negative,
+        before,
+        after,
+    };
+    decimal_numbers(precision, scale, bytes) == Some(wanted)
+}
+
+// With groups of nine digits and of fewer on both sides, and without digits on one side.
+#[test]
+fn numbers_of_packed_bytes(rt: HostRuntime) {
+    let positive = b"\x81\x0d\xfb\x38\xd2\x04\xd2".as_slice();
+    let negative = b"\x7e\xf2\x04\xc7\x2d\xfb\x2d".as_slice();
+    assert!(rt;
+        has_numbers(14, 4, positive, false, 1_234_567_890, 1234)
+            && has_numbers(14, 4, negative, true, 1_234_567_890, 1234)
+            && has_numbers(3, 2, b"\x80\x32", false, 0, 50)
+            && has_numbers(4, 2, b"\x7f\xff", true, 0, 0)
+            && has_numbers(2, 2, b"\xb2", false, 0, 50)
+            && has_numbers(9, 0, b"\xbb\x9a\xc9\xff", false, 999_999_999, 0)
+            && has_numbers(0, 0, b"", false, 0, 0)
+    );
+}
+
+// What has no text, and decimals with more digits than the numbers have.
+#[test]
+fn packed_bytes_without_numbers(rt: HostRuntime) {
+    assert!(rt;
+        decimal_numbers(2, 0, b"\xe4") == None
+            && decimal_numbers(2, 3, b"\x80\x00") == None
+            && decimal_numbers(4, 0, b"\x80") == None
+            && decimal_numbers(17, 0, b"\x80\x00\x00\x00\x00\x00\x00\x01") == None
+            && decimal_numbers(9, 9, b"\x80\x00\x00\x01") == None
     );
 }

@@ -100,3 +100,41 @@ fn digits_in_a_buffer(rt: HostRuntime) {
             && is_number(rt.alloc(), i64::MIN, b" 7=-9223372036854775808")
     );
 }
+
+/// Whether the text of a decimal's cell in an image is this one.
+fn is_decimal(alloc: Global, precision: u8, scale: u8, packed: &[u8], wanted: &[u8]) -> bool {
+    let columns = [column(7, CellForm::Decimal(precision, scale))];
+    let plan = ImagePlan {
+        columns: &columns,
+        json_columns: None,
+    };
+    let mut image = [0; 32];
+    let Some(front) = image.get_mut(1..) else {
+        return false;
+    };
+    let Some(front) = front.get_mut(..packed.len()) else {
+        return false;
+    };
+    front.copy_from_slice(packed);
+    let Ok(mut cells) = ImageCells::of(plan, &image) else {
+        return false;
+    };
+    let mut out = TextBuffer::new(alloc);
+    // The first cells stand in a buffer without room.
+    out.put(b'a') == Ok(()) && out.put_cells(alloc, &mut cells) == Ok(()) && out.as_slice() == wanted
+}
+
+// Few digits and many, on both sides of the point and on one, and a zero with a sign.
+#[test]
+fn decimals_in_a_buffer(rt: HostRuntime) {
+    let alloc = rt.alloc();
+    let negative = b"\x7e\xf2\x04\xc7\x2d\xfb\x2d".as_slice();
+    assert!(rt;
+        is_decimal(alloc, 14, 4, negative, b"a 7='-1234567890.1234'")
+            && is_decimal(alloc, 3, 2, b"\x80\x32", b"a 7='0.50'")
+            && is_decimal(alloc, 4, 2, b"\x7f\xff", b"a 7='-0.00'")
+            && is_decimal(alloc, 5, 0, b"\x7f\xff\xff", b"a 7='0'")
+            && is_decimal(alloc, 9, 9, b"\x80\x00\x00\x07", b"a 7='0.000000007'")
+            && is_decimal(alloc, 17, 0, b"\x80\x00\x00\x01\x00\x00\x00\x02", b"a 7='1000000002'")
+    );
+}

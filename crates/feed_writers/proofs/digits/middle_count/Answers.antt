@@ -1,13 +1,10 @@
-use Rattle.feed_writers.proofs.DigitLemmas.{count_sum}
+use Rattle.std.proofs.Common.{arith}
+use Rattle.feed_writers.proofs.DigitLemmas.{long_counted, short_counted}
 use Rattle.feed_writers.proofs.digits.middle_count.Goals as goal
+use Rattle.feed_writers.proofs.digits.middle_count.Goals.{then-front-gt0, else-front-gt0}
 
 pub returns-clause-value : goal.returns-clause-value
-returns-clause-value c =
-    count_sum c.args.number _ _ _ _ _ _ _ c.requires
-    (record { from = c.is_from.ensures.from; below = c.is_from.ensures.below })
-    (record { from = c.is_from-2.ensures.from; below = c.is_from-2.ensures.below })
-    (record { from = c.is_from-3.ensures.from; below = c.is_from-3.ensures.below })
-    (record { from = c.is_from-4.ensures.from; below = c.is_from-4.ensures.below })
-    (record { from = c.is_from-5.ensures.from; below = c.is_from-5.ensures.below })
-    (record { from = c.is_from-6.ensures.from; below = c.is_from-6.ensures.below })
-    (record { from = c.is_from-7.ensures.from; below = c.is_from-7.ensures.below })
+returns-clause-value c = elim c.if-front-gt0.branch [
+  | then-front-gt0 w ↦ long_counted c.args.number c.few_count.result c.if-front-gt0.counted w.counted-is c.few_count.ensures.value (omega (arith, w.if-front-gt0.true)) c.ranges.number.fits
+  | else-front-gt0 w ↦ short_counted c.args.number c.few_count.result c.if-front-gt0.counted w.counted-is c.few_count.ensures.value
+]

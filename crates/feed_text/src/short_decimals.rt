@@ -1,0 +1,79 @@
+//! The quoted text of decimals with few digits, by the numbers before and after the point.
+
+ghost use Rattle.std.specs.Prelude.{◌≡◌, ◌≤◌, ◌<◌, ◌+◌, ◌^◌, ◌++◌, ◌∷◌, [], length, take};
+ghost use Rattle.std.specs.Fmt.{decimal};
+ghost use Rattle.rows_decimal.specs.PackedTexts.{PutsOrNone};
+ghost use Rattle.feed_text.specs.DecimalText.{quoted_decimal, numbers_sign, places_text, numbers_text};
+
+use crate::decimals::write_quoted;
+use feed_writers::{put_byte, put_number, put_places};
+use rows_decimal::{DecimalNumbers, decimal_numbers};
+
+/// Writes what [`write_quoted`] does where there is more room: a decimal with at most 16 digits before the point and
+/// 8 after it by its numbers.
+#[inline(always)]
+pub(crate) fn write_few_quoted(
+    text: &mut [u8],
+    at: usize,
+    precision: usize,
+    scale: usize,
+    bytes: &[u8],
+) -> Option<usize>
+    requires few { precision ≤ 71 }
+    requires room { at + 76 ≤ length text.old }
+    ensures { PutsOrNone (quoted_decimal precision scale bytes.now) (precision + 5) at text.old text.new result }
+{
+    match decimal_numbers(precision, scale, bytes) {
+        Some(numbers) => Some(put_quoted_numbers(text, at, scale, numbers)),
+        None => write_quoted(text, at, precision, scale, bytes),
+    }
+}
+
+/// Writes the text of a sign and two numbers between quotes.
+#[inline(always)]
+fn put_quoted_numbers(text: &mut [u8], at: usize, scale: usize, numbers: DecimalNumbers) -> usize
+    requires few { scale ≤ 8 }
+    requires small { numbers.after < 10 ^ scale }
+    requires room { at + 76 ≤ length text.old }
+    ensures end { result ≡ at + (length (numbers_text scale numbers) + 2) }
+    ensures text { take result text.new ≡ take at text.old ++ (39 ∷ numbers_text scale numbers ++ 39 ∷ []) }
+{
+    let end = put_byte(text, at, b'\'');
+    let end = put_sign(text, end, scale, numbers);
+    let end = put_number(text, end, numbers.before);
+    let end = put_fraction(text, end, scale, numbers.after);
+    put_byte(text, end, b'\'')
+}
+
+/// Writes a minus where it is negative, and not a zero without digits after the point. The byte is stored in
+/// any case, so that nothing hangs on the sign but where the text ends.
+#[inline(always)]
+fn put_sign(text: &mut [u8], at: usize, scale: usize, numbers: DecimalNumbers) -> usize
+    requires { at < length text.old }
+    ensures end { result ≡ at + length (numbers_sign scale numbers) }
+    ensures most { result ≤ at + 1 }
+    ensures text { take result text.new ≡ take at text.old ++ numbers_sign scale numbers }
+{
+    text[at] = b'-';
+    if scale == 0 && numbers.before == 0 {
+        return at;
+    }
+    at + usize::from(numbers.negative)
+}
+
+/// Writes a point and so many digits of a number, if there are any.
+#[inline(always)]
+fn put_fraction(text: &mut [u8], at: usize, scale: usize, number: u32) -> usize
+    requires few { scale ≤ 8 }
+    requires small { number < 10 ^ scale }
+    requires room { at + 9 ≤ length text.old }
+    ensures end { result ≡ at + length (places_text scale number) }
+    ensures most { result ≤ at + 9 }
+    ensures text { take result text.new ≡ take at text.old ++ places_text scale number }
+{
+    if scale == 0 {
+        return at;
+    }
+    let end = put_byte(text, at, b'.');
+    put_places(text, end, scale, number)
+}

@@ -1,0 +1,85 @@
+//! The numbers before and after the point of a decimal with few digits, from the bytes that pack it.
+
+ghost use Rattle.std.specs.Prelude.{◌≡◌, ◌≤◌, length, true};
+ghost use Rattle.rows_decimal.specs.Digits.{side_size as side_size_of};
+ghost use Rattle.rows_decimal.specs.Unpacked.{before_digits, unpacked};
+ghost use Rattle.rows_decimal.specs.PackedTexts.{turned};
+ghost use Rattle.rows_decimal.specs.PackedNumbers.{NumberOrNone, NumbersOrNone};
+
+use crate::digits::{DIG_PER_DEC, decimal_bin_size, group_size, power_of_ten, side_size};
+use crate::group_number::{group_number, has_minus_bit};
+
+/// The most digits before the point of a decimal that is given as numbers.
+const MOST_BEFORE: usize = 16;
+
+/// The most digits after the point.
+const MOST_AFTER: usize = 8;
+
+/// A decimal as its sign and two numbers.
+#[derive(Clone, Copy, Debug, PartialEq, Eq)]
+pub struct DecimalNumbers {
+    /// Whether it has a minus, as a zero may have too.
+    pub negative: bool,
+    /// The number of the digits before the point.
+    pub before: u64,
+    /// The number of the digits after the point.
+    pub after: u32,
+}
+
+/// The numbers of the decimal that the bytes pack, of `precision` digits with `scale` of them after the
+/// point, where at most 16 stand before it and at most 8 after it.
+///
+/// None where there are more digits, and where the bytes pack no decimal: where scale is past precision, where they
+/// are not as many as the digits take, or where a group of k digits is 10^k or more.
+#[inline]
+pub fn decimal_numbers(precision: usize, scale: usize, bytes: &[u8]) -> Option<DecimalNumbers>
+    ensures { NumbersOrNone precision scale bytes.now result }
+{
+    if scale > precision {
+        return None;
+    }
+    let count = precision - scale;
+    if count > MOST_BEFORE || scale > MOST_AFTER {
+        return None;
+    }
+    if bytes.len() != decimal_bin_size(precision, scale) {
+        return None;
+    }
+    let negative = has_minus_bit(bytes);
+    let (front, back) = bytes.split_at(side_size(count));
+    let after = group_number(back, negative, front.is_empty());
+    if after >= power_of_ten(scale) {
+        return None;
+    }
+    match before_number(front, negative, count) {
+        Some(before) => Some(DecimalNumbers {
+            negative,
+            before,
+            after,
+        }),
+        None => None,
+    }
+}
+
+/// The number of at most 16 digits before the point; none where a group has too many.
+#[inline(always)]
+fn before_number(bytes: &[u8], negative: bool, count: usize) -> Option<u64>
+    requires size { length bytes.now ≡ side_size_of count }
+    requires few { count ≤ 16 }
+    ensures { NumberOrNone (before_digits count (turned negative true bytes.now)) count result }
+{
+    let left = count % DIG_PER_DEC;
+    let (front, rest) = bytes.split_at(group_size(left));
+    let high = group_number(front, negative, true);
+    if high >= power_of_ten(left) {
+        return None;
+    }
+    if count < DIG_PER_DEC {
+        return Some(u64::from(high));
+    }
+    let low = group_number(rest, negative, front.is_empty());
+    if low >= 1_000_000_000 {
+        return None;
+    }
+    Some(u64::from(high) * 1_000_000_000 + u64::from(low))
+}
