@@ -135,10 +135,24 @@ fn put_short(text: &mut [u8], at: usize, number: u32) -> usize
         return put_two(text, at, number);
     }
     if number < 1000 {
-        let end = put_byte(text, at, b'0' + (number / 100) as u8);
-        return put_two(text, end, number % 100);
+        return put_three(text, at, number);
     }
     put_four(text, at, number)
+}
+
+/// Writes a number of three digits in decimal.
+#[inline(always)]
+fn put_three(text: &mut [u8], at: usize, number: u32) -> usize
+    requires long { 100 ≤ number }
+    requires small { number < 1000 }
+    requires room { at + 3 ≤ length text.old }
+    ensures end { result ≡ at + length (decimal number) }
+    ensures most { result ≤ at + 3 }
+    ensures text { take result text.new ≡ take at text.old ++ decimal number }
+{
+    let hundreds = number / 100;
+    let end = put_byte(text, at, b'0' + hundreds as u8);
+    put_two(text, end, number - 100 * hundreds)
 }
 
 /// Writes a number below 100,000,000 in decimal. All of its eight digits are shifted as one number until those
@@ -254,13 +268,19 @@ pub fn put_place(text: &mut [u8], at: usize, number: u32) -> usize
     ensures most { result ≤ at + 20 }
     ensures text { take result text.new ≡ take at text.old ++ decimal number }
 {
-    if number < 10_000 {
-        return put_short(text, at, number);
+    if number < 10 {
+        return put_byte(text, at, b'0' + number as u8);
+    }
+    if number < 100 {
+        return put_two(text, at, number);
+    }
+    if number < 1000 {
+        return put_three(text, at, number);
     }
     put_long_place(text, at, number)
 }
 
-/// The same of a number of five digits or more.
+/// The same of a number of four digits or more.
 #[inline(never)]
 fn put_long_place(text: &mut [u8], at: usize, number: u32) -> usize
     requires { at + 20 ≤ length text.old }

@@ -121,7 +121,9 @@ fn is_decimal(alloc: Global, precision: u8, scale: u8, packed: &[u8], wanted: &[
     };
     let mut out = TextBuffer::new(alloc);
     // The first cells stand in a buffer without room.
-    out.put(b'a') == Ok(()) && out.put_cells(alloc, &mut cells) == Ok(()) && out.as_slice() == wanted
+    out.put(b'a') == Ok(())
+        && out.put_cells(alloc, &mut cells) == Ok(())
+        && out.as_slice() == wanted
 }
 
 // Few digits and many, on both sides of the point and on one, and a zero with a sign.
@@ -135,6 +137,12 @@ fn decimals_in_a_buffer(rt: HostRuntime) {
             && is_decimal(alloc, 4, 2, b"\x7f\xff", b"a 7='-0.00'")
             && is_decimal(alloc, 5, 0, b"\x7f\xff\xff", b"a 7='0'")
             && is_decimal(alloc, 9, 9, b"\x80\x00\x00\x07", b"a 7='0.000000007'")
-            && is_decimal(alloc, 17, 0, b"\x80\x00\x00\x01\x00\x00\x00\x02", b"a 7='1000000002'")
+            && is_decimal(
+                alloc,
+                17,
+                0,
+                b"\x80\x00\x00\x01\x00\x00\x00\x02",
+                b"a 7='1000000002'"
+            )
     );
 }
