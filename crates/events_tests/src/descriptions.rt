@@ -62,7 +62,24 @@ fn is_written(alloc: Global, description: &FormatDescriptionEvent<'_>, bytes: &[
         && description.len() == bytes.len()
 }
 
-/// Whether the event is read as a description, made owned, and written as its own body.
+/// Appends the event that a description is, with the header and the checksum of these parts.
+fn put_event(
+    parts: &EventParts<'_>,
+    description: &FormatDescriptionEvent<'_>,
+    out: &mut Vec<u8>,
+) -> Result<(), WireFault> {
+    parts.header().serialize(out)?;
+    description.serialize(out)?;
+    if let Some(algorithm) = description.footer().checksum_alg_raw() {
+        out.push(algorithm)?;
+    }
+    if let Some(checksum) = parts.checksum() {
+        out.extend_from_slice(&checksum.to_le_bytes())?;
+    }
+    Ok(())
+}
+
+/// Whether the event is read as a description, made owned, and written as its own bytes.
 fn is_written_back(alloc: Global, event: &[u8]) -> bool {
     let Ok(parts) = EventParts::cut(event, BinlogEventFooter::default()) else {
         return false;
@@ -73,7 +90,10 @@ fn is_written_back(alloc: Global, event: &[u8]) -> bool {
     let Ok(owned) = read.into_owned(alloc) else {
         return false;
     };
-    is_written(alloc, &owned, parts.body())
+    let mut out = Vec::new(alloc);
+    put_event(&parts, &owned, &mut out).is_ok()
+        && out.as_slice() == event
+        && owned.len() == parts.body().len()
 }
 
 #[test]
@@ -176,7 +196,8 @@ fn post_header_lengths(rt: HostRuntime) {
     );
 }
 
-/// What comes of a description of 59 bytes where memory is for so many bytes, and how many stand there then.
+/// What comes of a description behind two bytes where memory is for so many bytes, and how many bytes stand there then;
+/// none where not even the two find a place.
 fn written_in(
     alloc: Global,
     description: &FormatDescriptionEvent<'_>,
