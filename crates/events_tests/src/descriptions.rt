@@ -1,0 +1,240 @@
+//! Format descriptions: read, made and written.
+
+use crate::worked::{DESCRIPTION, changed};
+use events_frames::{BinlogEventFooter, EventError, EventParts, FormatDescriptionEvent};
+use linked_list_allocator::LocalHeap;
+use rows_consts::{BinlogChecksumAlg, BinlogVersion, EventType};
+use std::alloc::{AllocError, Global};
+use std::borrow::CowSlice;
+use wire_buf::{MySerialize, WireFault};
+
+/// The place of the last number of the server's version.
+const PATCH: usize = 25;
+
+/// The description that an event is, under no other.
+fn description(alloc: Global, event: &[u8]) -> Result<FormatDescriptionEvent<'_>, EventError> {
+    match EventParts::cut(event, BinlogEventFooter::default()) {
+        Ok(parts) => parts.description(alloc),
+        Err(fault) => Err(fault),
+    }
+}
+
+/// A description of server 5.6.1 that names CRC-32, with these post-header lengths.
+fn made(lengths: &[u8]) -> FormatDescriptionEvent<'_> {
+    let crc = BinlogEventFooter::new(BinlogChecksumAlg::BINLOG_CHECKSUM_ALG_CRC32);
+    FormatDescriptionEvent::new(BinlogVersion::Version4)
+        .with_server_version(CowSlice::Borrowed(b"5.6.1"))
+        .with_event_type_header_lengths(CowSlice::Borrowed(lengths))
+        .with_footer(crc)
+}
+
+/// Whether the description says what that of server 5.6.1 does.
+fn is_worked(alloc: Global, read: &FormatDescriptionEvent<'_>) -> bool {
+    let named = match read.server_version(alloc) {
+        Ok(text) => text.as_str() == "5.6.1",
+        Err(_) => false,
+    };
+    named
+        && read.binlog_version() == BinlogVersion::Version4
+        && read.server_version_raw() == b"5.6.1".as_slice()
+        && read.split_version() == (5, 6, 1)
+        && read.create_timestamp() == 0
+        && read.event_header_length() == 19
+        && read.event_type_header_lengths().is_empty()
+        && read.footer() == BinlogEventFooter::new(BinlogChecksumAlg::BINLOG_CHECKSUM_ALG_CRC32)
+        && read.len() == 57
+}
+
+#[test]
+fn description_fields(rt: HostRuntime) {
+    let alloc = rt.alloc();
+    match description(alloc, DESCRIPTION) {
+        Ok(read) => assert!(rt; is_worked(alloc, &read)),
+        Err(_) => assert!(rt; false),
+    }
+}
+
+/// Whether the description is written as the bytes.
+fn is_written(alloc: Global, description: &FormatDescriptionEvent<'_>, bytes: &[u8]) -> bool {
+    let mut out = Vec::new(alloc);
+    description.serialize(&mut out).is_ok()
+        && out.as_slice() == bytes
+        && description.len() == bytes.len()
+}
+
+/// Appends the event that a description is, with the header and the checksum of these parts.
+fn put_event(
+    parts: &EventParts<'_>,
+    description: &FormatDescriptionEvent<'_>,
+    out: &mut Vec<u8>,
+) -> Result<(), WireFault> {
+    parts.header().serialize(out)?;
+    description.serialize(out)?;
+    if let Some(algorithm) = description.footer().checksum_alg_raw() {
+        out.push(algorithm)?;
+    }
+    if let Some(checksum) = parts.checksum() {
+        out.extend_from_slice(&checksum.to_le_bytes())?;
+    }
+    Ok(())
+}
+
+/// Whether the event is read as a description, made owned, and written as its own bytes.
+fn is_written_back(alloc: Global, event: &[u8]) -> bool {
+    let Ok(parts) = EventParts::cut(event, BinlogEventFooter::default()) else {
+        return false;
+    };
+    let Ok(read) = parts.description(alloc) else {
+        return false;
+    };
+    let Ok(owned) = read.into_owned(alloc) else {
+        return false;
+    };
+    let mut out = Vec::new(alloc);
+    put_event(&parts, &owned, &mut out).is_ok()
+        && out.as_slice() == event
+        && owned.len() == parts.body().len()
+}
+
+#[test]
+fn description_written_back(rt: HostRuntime) -> Result<(), AllocError> {
+    let alloc = rt.alloc();
+    let older = changed(alloc, DESCRIPTION, PATCH, b'0')?;
+    assert!(rt;
+        is_written_back(alloc, DESCRIPTION)
+            && is_written_back(alloc, older.as_slice())
+            && is_written(alloc, &made(b""), &DESCRIPTION[19..76])
+    );
+    Ok(())
+}
+
+// A shorter version has zeros behind it, and of a longer one 50 bytes are written.
+#[test]
+fn versions_of_another_length(rt: HostRuntime) {
+    let alloc = rt.alloc();
+    let mut bytes = [b'9'; 57];
+    bytes[0] = 3;
+    bytes[1] = 0;
+    bytes[52] = 0xfd;
+    bytes[53] = 0x35;
+    bytes[54] = 0xbb;
+    bytes[55] = 0x4a;
+    bytes[56] = 19;
+    let long = FormatDescriptionEvent::new(BinlogVersion::Version4)
+        .with_binlog_version(BinlogVersion::Version3)
+        .with_create_timestamp(1_253_783_037)
+        .with_server_version(CowSlice::Borrowed(&[b'9'; 51]));
+    assert!(rt; is_written(alloc, &long, &bytes) && long.server_version_raw().len() == 51);
+}
+
+/// Whether the event is a description of no checksums, with these post-header lengths.
+fn is_older(alloc: Global, event: &[u8], lengths: &[u8]) -> bool {
+    match description(alloc, event) {
+        Ok(read) => {
+            read.footer() == BinlogEventFooter::default()
+                && read.event_type_header_lengths() == lengths
+                && read.split_version() == (5, 6, 0)
+        }
+        Err(_) => false,
+    }
+}
+
+// What would be the algorithm and the checksum are post-header lengths.
+#[test]
+fn description_of_an_older_server(rt: HostRuntime) -> Result<(), AllocError> {
+    let alloc = rt.alloc();
+    let older = changed(alloc, DESCRIPTION, PATCH, b'0')?;
+    let parts = EventParts::cut(older.as_slice(), BinlogEventFooter::default());
+    let whole = match parts {
+        Ok(parts) => parts.checksum().is_none() && parts.body().len() == 62,
+        Err(_) => false,
+    };
+    assert!(rt; whole && is_older(alloc, older.as_slice(), b"\x01\0\0\0\0"));
+    Ok(())
+}
+
+/// Why the description with another byte at one place is none, or none where it is one.
+fn refusal(alloc: Global, place: usize, byte: u8) -> Option<EventError> {
+    match changed(alloc, DESCRIPTION, place, byte) {
+        Ok(event) => description(alloc, event.as_slice()).err(),
+        Err(_) => Some(EventError::Memory),
+    }
+}
+
+// Versions 3 and 260 of the format, and headers of 18 bytes. An unknown algorithm is kept as its number.
+#[test]
+fn description_refusals(rt: HostRuntime) {
+    let alloc = rt.alloc();
+    assert!(rt;
+        refusal(alloc, 19, 3) == Some(EventError::Invalid)
+            && refusal(alloc, 20, 1) == Some(EventError::Invalid)
+            && refusal(alloc, 75, 18) == Some(EventError::Invalid)
+            && refusal(alloc, 76, 2).is_none()
+    );
+}
+
+/// Whether the description gives these post-header lengths to START_EVENT_V3, QUERY_EVENT, TABLE_MAP_EVENT and
+/// WRITE_ROWS_EVENT.
+fn has_lengths(description: &FormatDescriptionEvent<'_>, lengths: [u8; 4]) -> bool {
+    description.get_event_type_header_length(EventType::START_EVENT_V3) == lengths[0]
+        && description.get_event_type_header_length(EventType::QUERY_EVENT) == lengths[1]
+        && description.get_event_type_header_length(EventType::TABLE_MAP_EVENT) == lengths[2]
+        && description.get_event_type_header_length(EventType::WRITE_ROWS_EVENT) == lengths[3]
+}
+
+#[test]
+fn post_header_lengths(rt: HostRuntime) {
+    let worked = match description(rt.alloc(), DESCRIPTION) {
+        Ok(read) => has_lengths(&read, [0, 13, 8, 10]),
+        Err(_) => false,
+    };
+    assert!(rt;
+        worked
+            && has_lengths(&made(&[56, 12]), [56, 12, 8, 10])
+            && made(&[56, 12]).get_event_type_header_length(EventType::UNKNOWN_EVENT) == 0
+            && made(&[7; 19]).get_event_type_header_length(EventType::TABLE_MAP_EVENT) == 7
+    );
+}
+
+/// What comes of a description behind two bytes where memory is for so many bytes, and how many bytes stand there then;
+/// none where not even the two find a place.
+fn written_in(
+    alloc: Global,
+    description: &FormatDescriptionEvent<'_>,
+    size: usize,
+) -> (Result<(), WireFault>, usize) {
+    let Ok(heap) = LocalHeap::new(alloc, size) else {
+        return (Ok(()), 0);
+    };
+    let mut out = Vec::new(&heap);
+    let Ok(()) = out.extend_from_slice(b"ab") else {
+        return (Ok(()), 0);
+    };
+    (description.serialize(&mut out), out.len())
+}
+
+/// In how many of the memories of up to so many bytes the description is written, in how many it is refused and what
+/// stood there stands, and in how many neither.
+fn outcomes(
+    alloc: Global,
+    description: &FormatDescriptionEvent<'_>,
+    sizes: usize,
+) -> (usize, usize, usize) {
+    let (mut written, mut refused, mut wrong) = (0usize, 0usize, 0usize);
+    for size in 1..=sizes {
+        match written_in(alloc, description, size) {
+            (Ok(()), 0) => {}
+            (Ok(()), 61) => written = written.wrapping_add(1),
+            (Err(WireFault::Memory), 2) => refused = refused.wrapping_add(1),
+            _ => wrong = wrong.wrapping_add(1),
+        }
+    }
+    (written, refused, wrong)
+}
+
+// Memory of each size is used up at another request.
+#[test]
+fn description_without_memory(rt: HostRuntime) {
+    let (written, refused, wrong) = outcomes(rt.alloc(), &made(&[56, 13]), 512);
+    assert!(rt; written > 0 && refused > 0 && wrong == 0);
+}

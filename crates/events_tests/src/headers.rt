@@ -1,0 +1,79 @@
+//! Headers of events, and the mark at the front of a file.
+
+use crate::devices::{NarrowWriter, Trickle};
+use events_frames::{BinlogEventHeader, BinlogFileHeader, EventError};
+use rows_consts::{EventType, UnknownEventType};
+use rows_flags::EventFlags;
+use std::alloc::Global;
+use std::io::ErrorKind;
+use wire_buf::{MySerialize, ParseBuf, WireFault};
+
+/// The header of a query event of 100 bytes.
+const HEADER: &[u8] = b"\xfd\x35\xbb\x4a\x02\x01\0\0\0\x64\0\0\0\xc6\0\0\0\0\0";
+
+/// Whether the header is written as the bytes.
+fn is_written(alloc: Global, header: &BinlogEventHeader, bytes: &[u8]) -> bool {
+    let mut out = Vec::new(alloc);
+    header.serialize(&mut out).is_ok() && out.as_slice() == bytes
+}
+
+/// Whether the bytes begin with this header, and so many stand behind it.
+fn is_header(alloc: Global, bytes: &[u8], header: BinlogEventHeader, left: usize) -> bool {
+    let mut buf = ParseBuf(bytes);
+    buf.parse::<BinlogEventHeader>(alloc, ()) == Ok(header) && buf.len() == left
+}
+
+/// Whether headers that are made say what they were made of.
+fn are_made() -> bool {
+    let header = BinlogEventHeader::new(1, 15, 3, 4, 5, 0x8001);
+    let unknown = BinlogEventHeader::new(1, 200, 3, 4, 5, 0);
+    header.timestamp() == 1
+        && header.event_type_raw() == 15
+        && header.event_type() == Ok(EventType::FORMAT_DESCRIPTION_EVENT)
+        && header.server_id() == 3
+        && header.event_size() == 4
+        && header.log_pos() == 5
+        && header.flags_raw() == 0x8001
+        && header.flags() == EventFlags::LOG_EVENT_BINLOG_IN_USE_F
+        && unknown.event_type() == Err(UnknownEventType(200))
+}
+
+#[test]
+fn event_header(rt: HostRuntime) {
+    let alloc = rt.alloc();
+    let header = BinlogEventHeader::new(1_253_783_037, 2, 1, 100, 198, 0);
+    assert!(rt;
+        is_header(alloc, HEADER, header, 0)
+            && is_written(alloc, &header, HEADER)
+            && is_header(
+                alloc,
+                b"\0\0\0\0\0\0\0\0\0\0\0\0\0\0\0\0\0\0\0\x07",
+                BinlogEventHeader::new(0, 0, 0, 0, 0, 0),
+                1
+            )
+            && ParseBuf(&HEADER[..18]).parse::<BinlogEventHeader>(alloc, ()) == Err(WireFault::Eof)
+            && are_made()
+    );
+}
+
+/// Why the bytes don't begin with the mark of a file, or none where they do.
+fn refused_mark(mut bytes: &[u8]) -> Option<EventError> {
+    BinlogFileHeader::read(&mut bytes).err()
+}
+
+#[test]
+fn file_mark(rt: HostRuntime) {
+    let mut out = Vec::new(rt.alloc());
+    let steps = [None, Some(ErrorKind::Other)];
+    assert!(rt;
+        refused_mark(b"\xfebin").is_none()
+            && refused_mark(b"\xfebio") == Some(EventError::Invalid)
+            && refused_mark(b"\xfebi") == Some(EventError::Eof)
+            && BinlogFileHeader::read(&mut Trickle::new(b"\xfebin", &steps))
+                == Err(EventError::Read)
+            && BinlogFileHeader.write(&mut out) == Ok(())
+            && out.as_slice() == b"\xfebin".as_slice()
+            && BinlogFileHeader.write(&mut NarrowWriter { room: 3 }) == Err(EventError::Write)
+            && BinlogFileHeader.len() == 4
+    );
+}
