@@ -7,6 +7,7 @@ use Rattle.std.specs.Prelude.{[], ◌∷◌, slice_index}
 use lib.Pointwise.{bytes_decides}
 use Rattle.wire_buf.specs.Spelling.{◌⨾◌, AreBytes}
 use Rattle.wire_buf.specs.Numbers.{IsShortString}
+use Rattle.wire_buf.proofs.WritingLemmas.{AreBytes-front, AreBytes-back}
 use Rattle.wire_forms.specs.RawTexts.{text_of}
 use Rattle.rows_meta.specs.TableMaps.{TableMap, IsTableMap, written_map}
 use Rattle.rows_meta.specs.MapViews.{map_of}
@@ -14,25 +15,16 @@ use Rattle.rows_meta.specs.contracts.table_map.TableMapEventPartialEq.TheImpl.{g
 use Rattle.rows_meta.specs.declared.table_map.TableMapEvent.{TableMapEvent}
 
 -- what is true of all bytes of two pieces is true of those of each
-front_bytes : (xs ys : List ℕ) → AreBytes (xs ++ ys) → AreBytes xs
-front_bytes [] ys are k = omega arith
-front_bytes (x ∷ xs) ys are zero = are 0
-front_bytes (x ∷ xs) ys are (suc k) = front_bytes xs ys (λ j. are (suc j)) k
-
-back_bytes : (xs ys : List ℕ) → AreBytes (xs ++ ys) → AreBytes ys
-back_bytes [] ys are = are
-back_bytes (x ∷ xs) ys are = back_bytes xs ys (λ j. are (suc j))
-
 first_bytes : {p q : List ℕ → List ℕ → Type 0} {bytes rest : List ℕ} (h : (p ⨾ q) bytes rest) → AreBytes bytes → AreBytes h.front
-first_bytes h are = front_bytes h.front h.back (subst AreBytes h.joined are)
+first_bytes h are = AreBytes-front h.front h.back (subst AreBytes h.joined are)
 
 second_bytes : {p q : List ℕ → List ℕ → Type 0} {bytes rest : List ℕ} (h : (p ⨾ q) bytes rest) → AreBytes bytes → AreBytes h.back
-second_bytes h are = back_bytes h.front h.back (subst AreBytes h.joined are)
+second_bytes h are = AreBytes-back h.front h.back (subst AreBytes h.joined are)
 
 -- a string behind its length in a byte has at most 255 bytes
-short_fits : (name bytes : List ℕ) → AreBytes bytes → IsShortString name bytes → length name ≤ 255
+pub short_fits : (name bytes : List ℕ) → AreBytes bytes → IsShortString name bytes → length name ≤ 255
 short_fits name bytes are h =
-    let below = front_bytes h.front name (subst AreBytes h.joined are) 0 in
+    let below = AreBytes-front h.front name (subst AreBytes h.joined are) 0 in
     let count : length name ≡ slice_index h.front 0 + 0 = h.front_is.value_is in
     omega (arith, below, count)
 
