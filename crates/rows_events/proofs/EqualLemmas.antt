@@ -1,25 +1,15 @@
 -- What `==` tells of rows events.
-use Rattle.std.proofs.Common.{◌≡◌, Bool, true, true≢false, ℕ, List, Option, Some, None, refl, sym, ap, rules}
-use Rattle.std.specs.Prelude.{option_map}
+use Rattle.std.proofs.Common.{◌≡◌, ap, rules}
 use Rattle.std.proofs.lemmas.Bool.Decides.{Decides-like, Decides-and, Decides-eqb}
 use Rattle.std.specs.Bool.{Decides}
-use Rattle.std.specs.Option.{option_eq}
 use lib.Pointwise.{bytes_decides}
 use denote.Enum.Bare.{same_true, true_same}
 use Rattle.wire_forms.specs.RawTexts.{text_of}
+use Rattle.rows_meta.proofs.EqualityLemmas.{maybe_decides, true_decides}
 use Rattle.rows_events.specs.contracts.rows_event_type.RowsEventType.{the_type as event_type}
 use Rattle.rows_events.specs.contracts.rows_event.RowsEventPartialEq.TheImpl.{ghosts as event_equality}
 use Rattle.rows_events.specs.declared.rows_event.RowsEvent.{RowsEvent}
 use Rattle.rows_events.specs.Views.{body_of}
-
-maybe_decides : {A : Type 0} (E : A → A → Bool) (f : A → List ℕ) → ((x y : A) → Decides (E x y) (f x ≡ f y)) → (o p : Option A) → Decides (option_eq E o p) (option_map f o ≡ option_map f p)
-maybe_decides E f each None None = (λ e. refl, λ e. refl)
-maybe_decides E f each None (Some y) = (λ e. absurd (true≢false (sym e)), λ e. cc)
-maybe_decides E f each (Some x) None = (λ e. absurd (true≢false (sym e)), λ e. cc)
-maybe_decides E f each (Some x) (Some y) = Decides-like _ (λ e. ap (λ v. Some v) e) (λ e. cc) (each x y)
-
-true_decides : Decides true (Unit {0})
-true_decides = (λ e. tt, λ e. refl)
 
 pub events_decide : (a b : RowsEvent) → Decides (event_equality.eq a b) (body_of a ≡ body_of b)
 events_decide a b =

@@ -4,4 +4,5 @@ pub mod ArrayLemmas
 pub mod ColumnLemmas
 pub mod LengthLemmas
 pub mod MapFaultLemmas
+pub mod EqualityLemmas
 pub mod MapLawLemmas

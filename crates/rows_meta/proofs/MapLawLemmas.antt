@@ -1,5 +1,5 @@
 -- Laws of table maps: which are written whole, and what `==` tells of them.
-use Rattle.std.proofs.Common.{◌≡◌, ◌≤◌, ◌++◌, ◌+◌, ℕ, List, length, refl, true, suc, zero, subst, ap, arith}
+use Rattle.std.proofs.Common.{◌≡◌, ◌≤◌, ◌++◌, ◌+◌, ℕ, List, length, refl, suc, zero, subst, ap, arith}
 use Rattle.std.proofs.lemmas.List.{take_all}
 use Rattle.std.proofs.lemmas.Bool.Decides.{Decides-like, Decides-and, Decides-eqb}
 use Rattle.std.specs.Bool.{Decides}
@@ -11,6 +11,7 @@ use Rattle.wire_buf.proofs.WritingLemmas.{AreBytes-front, AreBytes-back}
 use Rattle.wire_forms.specs.RawTexts.{text_of}
 use Rattle.rows_meta.specs.TableMaps.{TableMap, IsTableMap, written_map}
 use Rattle.rows_meta.specs.MapViews.{map_of}
+use Rattle.rows_meta.proofs.EqualityLemmas.{true_decides}
 use Rattle.rows_meta.specs.contracts.table_map.TableMapEventPartialEq.TheImpl.{ghosts as map_equality}
 use Rattle.rows_meta.specs.declared.table_map.TableMapEvent.{TableMapEvent}
 
@@ -39,9 +40,6 @@ map_whole t bytes rest are h =
     uncut t
     (short_fits _ _ (first_bytes h.first_is.second_is.second_is names) h.first_is.second_is.second_is.first_is)
     (short_fits _ _ (first_bytes h.first_is.second_is.second_is.second_is.second_is behind) h.first_is.second_is.second_is.second_is.second_is.first_is)
-
-true_decides : Decides true (Unit {0})
-true_decides = (λ e. tt, λ e. refl)
 
 pub maps_decide : (a b : TableMapEvent) → Decides (map_equality.eq a b) (map_of a ≡ map_of b)
 maps_decide a b =
