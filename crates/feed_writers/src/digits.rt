@@ -128,16 +128,28 @@ fn put_short(text: &mut [u8], at: usize, number: u32) -> usize
     ensures most { result ≤ at + 4 }
     ensures text { take result text.new ≡ take at text.old ++ decimal number }
 {
+    if number < 1000 {
+        return put_below_thousand(text, at, number);
+    }
+    put_four(text, at, number)
+}
+
+/// Writes a number below 1,000 in decimal.
+#[inline(always)]
+fn put_below_thousand(text: &mut [u8], at: usize, number: u32) -> usize
+    requires small { number < 1000 }
+    requires room { at + 3 ≤ length text.old }
+    ensures end { result ≡ at + length (decimal number) }
+    ensures most { result ≤ at + 3 }
+    ensures text { take result text.new ≡ take at text.old ++ decimal number }
+{
     if number < 10 {
         return put_byte(text, at, b'0' + number as u8);
     }
     if number < 100 {
         return put_two(text, at, number);
     }
-    if number < 1000 {
-        return put_three(text, at, number);
-    }
-    put_four(text, at, number)
+    put_three(text, at, number)
 }
 
 /// Writes a number of three digits in decimal.
@@ -268,14 +280,8 @@ pub fn put_place(text: &mut [u8], at: usize, number: u32) -> usize
     ensures most { result ≤ at + 20 }
     ensures text { take result text.new ≡ take at text.old ++ decimal number }
 {
-    if number < 10 {
-        return put_byte(text, at, b'0' + number as u8);
-    }
-    if number < 100 {
-        return put_two(text, at, number);
-    }
     if number < 1000 {
-        return put_three(text, at, number);
+        return put_below_thousand(text, at, number);
     }
     put_long_place(text, at, number)
 }

@@ -1,6 +1,6 @@
 use Rattle.std.proofs.Common.{arith, refl, ap, ◌∙◌, ◌++◌, List, ℕ, take}
 use Rattle.feed_writers.proofs.DigitLemmas.{count_one, count_two, one_digit, decimal_two}
-use Rattle.feed_writers.proofs.digits.put_place.Goals as goal
+use Rattle.feed_writers.proofs.digits.put_below_thousand.Goals as goal
 
 pub returns-then-number-lt10-clause-end : goal.returns-then-number-lt10-clause-end
 returns-then-number-lt10-clause-end c = omega (arith, count_one c.args.number c.if-number-lt10.true, c.put_byte.ensures.end)
