@@ -1,2 +1,4 @@
 pub mod Readings
 pub mod ReadingViews
+pub mod Files
+pub mod FileViews
