@@ -1,4 +1,5 @@
 pub mod Readings
 pub mod ReadingViews
 pub mod Files
+pub mod Checksums
 pub mod FileViews
