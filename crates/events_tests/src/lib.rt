@@ -1,4 +1,4 @@
-//! Tests of the crate `events_frames`: a file for each subject, and what the tests have in common in `devices` and
+//! Tests of the crates of events: a file for each subject, and what the tests have in common in `devices` and
 //! `worked`.
 #![tactic(auto)]
 
@@ -7,6 +7,8 @@ mod descriptions;
 #[cfg(test)]
 mod devices;
 #[cfg(test)]
+mod files;
+#[cfg(test)]
 mod footers_and_bodies;
 #[cfg(test)]
 mod frames;
@@ -14,5 +16,7 @@ mod frames;
 mod headers;
 #[cfg(test)]
 mod parts;
+#[cfg(test)]
+mod readers;
 #[cfg(test)]
 mod worked;
