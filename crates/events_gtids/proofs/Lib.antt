@@ -1,2 +1,4 @@
 pub mod StampLemmas
 pub mod ClockLemmas
+pub mod OptionalLemmas
+pub mod GtidLemmas
