@@ -2,3 +2,4 @@ pub mod StampLemmas
 pub mod ClockLemmas
 pub mod OptionalLemmas
 pub mod GtidLemmas
+pub mod SetterLemmas

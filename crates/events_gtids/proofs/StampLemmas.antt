@@ -1,12 +1,12 @@
 -- Numbers of which the first announces the second: read, missing and written.
-use Rattle.std.proofs.Common.{◌≡◌, ◌+◌, ◌-◌, ◌*◌, ◌^◌, ◌%◌, ◌≤◌, ◌<◌, ◌++◌, ◌⊎◌, ◌∙◌, append-nil, ℕ, suc, List, [], length, refl, sym, ap, subst, arith, inl, inr, Option, Some, None, Bool, true, false, true≢false}
-use Rattle.std.specs.Prelude.{option_map, nat_le, nat_lt, if◌then◌else◌}
+use Rattle.std.proofs.Common.{◌≡◌, ◌+◌, ◌^◌, ◌%◌, ◌≤◌, ◌<◌, ◌++◌, ◌⊎◌, ◌∙◌, append-nil, ℕ, suc, List, [], length, refl, sym, ap, arith, inl, inr, Option, Some, None, Bool, true, false}
+use Rattle.std.specs.Prelude.{option_map, nat_le, nat_lt}
 use Rattle.std.specs.Bool.{⊤}
 use Rattle.std.proofs.lemmas.Bool.Decides.{leb_tells}
 use Rattle.std.proofs.lemmas.List.{length-append}
 use Rattle.std.proofs.Math.Nat.{mod-eq_of_lt, add-mod_right}
 use Rattle.wire_buf.specs.Spelling.{Begins, Reads, Lacks, Both, ◌⨾◌}
-use Rattle.wire_buf.specs.Writing.{WritesField, Refuses, with_front, both_spellings}
+use Rattle.wire_buf.specs.Writing.{WritesField, Refuses, both_spellings}
 use Rattle.wire_buf.specs.declared.fault.WireFault.{WireFault}
 use Rattle.wire_buf.specs.declared.fault.WireFault.TheVariants.{Memory, Form}
 use Rattle.wire_buf.proofs.SpellingLemmas.{Reads-led, Lacks-led_head, Lacks-led_tail}
@@ -15,7 +15,7 @@ use Rattle.wire_ints.specs.Ints.{little_spelling, unsigned_bits}
 use Rattle.wire_ints.specs.Bits.{map_if}
 use Rattle.rows_meta.specs.TableMaps.{number}
 use Rattle.rows_meta.proofs.LengthLemmas.{HasLength, front_length, little_length, if_length}
-use Rattle.events_gtids.specs.Stamps.{Stamp, IsStamp, IsAnnounced, top_bit, stamp_spelling, announced_spelling}
+use Rattle.events_gtids.specs.Stamps.{Stamp, IsStamp, IsAnnounced, top_bit, stamp_spelling}
 
 -- what the code's numbers of n bytes write
 abbrev pub Coded : ℕ → ℕ → Option (List ℕ)
