@@ -5,10 +5,14 @@
 //! with absent fields in `specs/GtidSetters.antt`.
 #![tactic(auto)]
 
+mod anonymous_gtid_event;
+mod binlog_struct;
 mod commit_time;
 mod gtid_event;
+pub mod laws;
 mod logical_clock;
 mod optional;
 mod server_version;
 
+pub use anonymous_gtid_event::AnonymousGtidEvent;
 pub use gtid_event::GtidEvent;
