@@ -3,3 +3,4 @@ pub mod ClockLemmas
 pub mod OptionalLemmas
 pub mod GtidLemmas
 pub mod SetterLemmas
+pub mod GtidEquality

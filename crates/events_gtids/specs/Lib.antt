@@ -5,3 +5,4 @@ pub mod SettledFacts
 pub mod GtidSetters
 pub mod FieldViews
 pub mod GtidViews
+pub mod WorkedFields
