@@ -4,3 +4,4 @@ pub mod OptionalLemmas
 pub mod GtidLemmas
 pub mod SetterLemmas
 pub mod GtidEquality
+pub mod WrittenBackLemmas
