@@ -1,0 +1,7 @@
+pub mod StampLemmas
+pub mod ClockLemmas
+pub mod OptionalLemmas
+pub mod GtidLemmas
+pub mod SetterLemmas
+pub mod GtidEquality
+pub mod WrittenBackLemmas

@@ -1,0 +1,8 @@
+pub mod Stamps
+pub mod OptionalFields
+pub mod Gtids
+pub mod SettledFacts
+pub mod GtidSetters
+pub mod FieldViews
+pub mod GtidViews
+pub mod WorkedFields
