@@ -1,0 +1,2 @@
+pub mod RowsContexts
+pub mod RowsViews
