@@ -1,1 +1,4 @@
 pub mod QueryLemmas
+pub mod FrontLemmas
+pub mod StatusVarLemmas
+pub mod FieldLemmas

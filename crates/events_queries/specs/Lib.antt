@@ -1,2 +1,6 @@
 pub mod Queries
 pub mod QueryViews
+pub mod StatusVars
+pub mod StatusVarFronts
+pub mod DbNames
+pub mod StatusVarViews

@@ -5,9 +5,17 @@
 //! code's events say is in `specs/QueryViews.antt`.
 #![tactic(auto)]
 
+mod fields;
+mod fronts;
 pub mod laws;
 mod query_event;
+mod status_var;
+mod status_var_val;
 mod status_vars;
+mod status_vars_iterator;
 
 pub use query_event::QueryEvent;
+pub use status_var::StatusVar;
+pub use status_var_val::StatusVarVal;
 pub use status_vars::StatusVars;
+pub use status_vars_iterator::StatusVarsIterator;
