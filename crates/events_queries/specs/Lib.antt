@@ -1,4 +1,5 @@
 pub mod Queries
+pub mod LoadQueries
 pub mod QueryViews
 pub mod StatusVars
 pub mod StatusVarFronts
