@@ -1,0 +1,5 @@
+pub mod QueryLemmas
+pub mod LoadQueryLemmas
+pub mod FrontLemmas
+pub mod StatusVarLemmas
+pub mod FieldLemmas

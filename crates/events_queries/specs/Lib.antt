@@ -1,0 +1,7 @@
+pub mod Queries
+pub mod LoadQueries
+pub mod QueryViews
+pub mod StatusVars
+pub mod StatusVarFronts
+pub mod DbNames
+pub mod StatusVarViews
