@@ -1,4 +1,4 @@
-//! Tests of the crate `events_frames`: a file for each subject, and what the tests have in common in `devices` and
+//! Tests of the crates `events_frames` and `events_gtids`: a file for each subject, and what the tests have in common in `devices` and
 //! `worked`.
 #![tactic(auto)]
 
@@ -10,6 +10,8 @@ mod devices;
 mod footers_and_bodies;
 #[cfg(test)]
 mod frames;
+#[cfg(test)]
+mod gtids;
 #[cfg(test)]
 mod headers;
 #[cfg(test)]
