@@ -13,6 +13,8 @@ mod footers_and_bodies;
 #[cfg(test)]
 mod frames;
 #[cfg(test)]
+mod gtids;
+#[cfg(test)]
 mod headers;
 #[cfg(test)]
 mod parts;
