@@ -1,11 +1,13 @@
-//! Tests of the crate `events_frames`: a file for each subject, and what the tests have in common in `devices` and
-//! `worked`.
+//! Tests of the crates `events_frames`, `events_bodies` and `events_rows`: a file for each subject, and what the tests have
+//! in common in `devices` and `worked`.
 #![tactic(auto)]
 
 #[cfg(test)]
 mod descriptions;
 #[cfg(test)]
 mod devices;
+#[cfg(test)]
+mod event_types;
 #[cfg(test)]
 mod footers_and_bodies;
 #[cfg(test)]
@@ -14,5 +16,7 @@ mod frames;
 mod headers;
 #[cfg(test)]
 mod parts;
+#[cfg(test)]
+mod rows_by_type;
 #[cfg(test)]
 mod worked;
