@@ -7,6 +7,8 @@ mod descriptions;
 #[cfg(test)]
 mod devices;
 #[cfg(test)]
+mod event_types;
+#[cfg(test)]
 mod files;
 #[cfg(test)]
 mod footers_and_bodies;
@@ -20,5 +22,7 @@ mod headers;
 mod parts;
 #[cfg(test)]
 mod readers;
+#[cfg(test)]
+mod rows_by_type;
 #[cfg(test)]
 mod worked;
