@@ -9,6 +9,8 @@ mod devices;
 #[cfg(test)]
 mod event_types;
 #[cfg(test)]
+mod example;
+#[cfg(test)]
 mod files;
 #[cfg(test)]
 mod footers_and_bodies;
