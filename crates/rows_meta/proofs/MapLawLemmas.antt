@@ -16,10 +16,10 @@ use Rattle.rows_meta.specs.contracts.table_map.TableMapEventPartialEq.TheImpl.{g
 use Rattle.rows_meta.specs.declared.table_map.TableMapEvent.{TableMapEvent}
 
 -- what is true of all bytes of two pieces is true of those of each
-first_bytes : {p q : List ℕ → List ℕ → Type 0} {bytes rest : List ℕ} (h : (p ⨾ q) bytes rest) → AreBytes bytes → AreBytes h.front
+pub first_bytes : {p q : List ℕ → List ℕ → Type 0} {bytes rest : List ℕ} (h : (p ⨾ q) bytes rest) → AreBytes bytes → AreBytes h.front
 first_bytes h are = AreBytes-front h.front h.back (subst AreBytes h.joined are)
 
-second_bytes : {p q : List ℕ → List ℕ → Type 0} {bytes rest : List ℕ} (h : (p ⨾ q) bytes rest) → AreBytes bytes → AreBytes h.back
+pub second_bytes : {p q : List ℕ → List ℕ → Type 0} {bytes rest : List ℕ} (h : (p ⨾ q) bytes rest) → AreBytes bytes → AreBytes h.back
 second_bytes h are = AreBytes-back h.front h.back (subst AreBytes h.joined are)
 
 -- a string behind its length in a byte has at most 255 bytes
