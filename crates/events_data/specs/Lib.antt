@@ -1,0 +1,2 @@
+pub mod BodyForms
+pub mod DataReadings
