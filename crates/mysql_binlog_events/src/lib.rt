@@ -3,9 +3,9 @@
 //!
 //! Each thing is made in a part of its own, which is re-exported whole: `events_frames` has frames, headers, footers,
 //! descriptions and the faults of events, `events_bodies` the plain bodies, `events_queries` the bodies that hold
-//! statements, and their status variables, `events_gtids` those of GTIDs, `events_rows` rows events by their types, and
-//! `events_stream` the readers of streams and files, and the writer. The parts stand on those of `mysql_binlog_rows` and
-//! `mysql_wire`.
+//! statements, and their status variables, `events_gtids` those of GTIDs, `events_rows` rows events by their types,
+//! `events_data` bodies of any type, and `events_stream` the readers of streams and files, and the writer. The parts stand
+//! on those of `mysql_binlog_rows` and `mysql_wire`.
 #![tactic(auto)]
 
 pub mod laws;
@@ -14,6 +14,7 @@ pub use events_bodies::{
     BeginLoadQueryEvent, IncidentEvent, IntvarEvent, RandEvent, RotateEvent, RowsQueryEvent,
     UserVarEvent, XidEvent,
 };
+pub use events_data::{BodyForm, EventData};
 pub use events_frames::{
     BinlogCtx, BinlogEvent, BinlogEventFooter, BinlogEventHeader, BinlogFileHeader, BinlogStruct,
     EventError, EventParts, FormatDescriptionEvent, NextFrame, gather, next_frame, read_body,
