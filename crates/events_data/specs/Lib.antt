@@ -1,2 +1,3 @@
 pub mod BodyForms
 pub mod DataReadings
+pub mod DataSpellings

@@ -5,6 +5,7 @@ pub use Rattle.events_bodies.specs.UserVars
 pub use Rattle.events_bodies.specs.UserVarViews
 pub use Rattle.events_data.specs.BodyForms
 pub use Rattle.events_data.specs.DataReadings
+pub use Rattle.events_data.specs.DataSpellings
 pub use Rattle.events_frames.specs.EventErrors
 pub use Rattle.events_frames.specs.Bodies as FrameBodies
 pub use Rattle.events_frames.specs.FileHeaders

@@ -4,8 +4,8 @@
 //! Each thing is made in a part of its own, which is re-exported whole: `events_frames` has frames, headers, footers,
 //! descriptions and the faults of events, `events_bodies` the plain bodies, `events_queries` the bodies that hold
 //! statements, and their status variables, `events_gtids` those of GTIDs, `events_rows` rows events by their types,
-//! `events_data` the body of an event of any type, and `events_stream` the readers of streams and files, and the writer. The parts stand on those of `mysql_binlog_rows` and
-//! `mysql_wire`.
+//! `events_data` bodies of any type, and `events_stream` the readers of streams and files, and the writer. The parts stand
+//! on those of `mysql_binlog_rows` and `mysql_wire`.
 #![tactic(auto)]
 
 pub mod laws;
