@@ -3,6 +3,8 @@
 #![tactic(auto)]
 
 #[cfg(test)]
+mod bodies;
+#[cfg(test)]
 mod descriptions;
 #[cfg(test)]
 mod devices;
@@ -21,10 +23,20 @@ mod gtids;
 #[cfg(test)]
 mod headers;
 #[cfg(test)]
+mod memory;
+#[cfg(test)]
 mod parts;
+#[cfg(test)]
+mod queries;
 #[cfg(test)]
 mod readers;
 #[cfg(test)]
 mod rows_by_type;
 #[cfg(test)]
+mod status_vars;
+#[cfg(test)]
+mod user_vars;
+#[cfg(test)]
 mod worked;
+#[cfg(test)]
+mod written;

@@ -1,0 +1,238 @@
+//! QUERY_EVENT and EXECUTE_LOAD_QUERY_EVENT: read, made and written.
+
+use crate::written::{is_short, is_written};
+use events_frames::read_body;
+use events_queries::{ExecuteLoadQueryEvent, QueryEvent};
+use rows_consts::{LoadDuplicateHandling, StatusVarKey, UnknownDuplicateHandling};
+use std::alloc::Global;
+use std::borrow::CowSlice;
+use wire_buf::MySerialize;
+
+/// `drop table t` in the schema `test`, which the thread 9 ran in 1 second with the error 1051, with its options and
+/// its character sets.
+const QUERY: &[u8] =
+    b"\x09\0\0\0\x01\0\0\0\x04\x1b\x04\x0c\0\0\0\0\0\0\x04\x21\0\x21\0\x08\0test\0drop table t";
+
+/// The status variables of both.
+const VARS: &[u8] = b"\0\0\0\0\0\x04\x21\0\x21\0\x08\0";
+
+/// A statement for the file 7, whose name stands in it from byte 10 to byte 14, and whose rows replace others.
+const LOAD: &[u8] =
+    b"\x09\0\0\0\x01\0\0\0\x04\x1b\x04\x0c\0\x07\0\0\0\x0a\0\0\0\x0e\0\0\0\x02\0\0\0\0\0\x04\x21\0\x21\0\x08\0test\0LOAD DATA 'a' REPLACE";
+
+/// The text of that statement.
+const LOAD_TEXT: &[u8] = b"LOAD DATA 'a' REPLACE";
+
+/// Whether the event says what `QUERY` does.
+fn is_drop(read: &QueryEvent<'_>) -> bool {
+    read.thread_id() == 9
+        && read.execution_time() == 1
+        && read.error_code() == 1051
+        && read.status_vars_raw() == VARS
+        && read.schema_raw() == b"test".as_slice()
+        && read.query_raw() == b"drop table t".as_slice()
+        && read.len() == QUERY.len()
+}
+
+/// Whether `QUERY` is read so, and written as it is, also where it borrows nothing.
+fn reads_query(alloc: Global) -> bool {
+    let Ok(read) = read_body::<QueryEvent<'_>>(alloc, (), QUERY) else {
+        return false;
+    };
+    if !is_drop(&read) || !is_written(alloc, &read, QUERY) {
+        return false;
+    }
+    match read.into_owned(alloc) {
+        Ok(owned) => is_drop(&owned) && is_written(alloc, &owned, QUERY),
+        Err(_) => false,
+    }
+}
+
+/// Whether setters make the event that `QUERY` is.
+fn makes_query(alloc: Global) -> bool {
+    let empty = QueryEvent::new(
+        CowSlice::Borrowed(b""),
+        CowSlice::Borrowed(b""),
+        CowSlice::Borrowed(b""),
+    );
+    let made = empty
+        .with_thread_id(9)
+        .with_execution_time(1)
+        .with_error_code(1051)
+        .with_status_vars(CowSlice::Borrowed(VARS))
+        .with_schema(CowSlice::Borrowed(b"test"))
+        .with_query(CowSlice::Borrowed(b"drop table t"));
+    is_drop(&made) && read_body(alloc, (), QUERY) == Ok(made)
+}
+
+/// Whether the byte behind the schema is skipped, and written as 0; the other fields are empty or 0.
+fn skips_a_byte(alloc: Global) -> bool {
+    match read_body::<QueryEvent<'_>>(alloc, (), b"\0\0\0\0\0\0\0\0\x01\0\0\0\0d!BEGIN") {
+        Ok(read) => {
+            read.schema_raw() == b"d".as_slice()
+                && read.query_raw() == b"BEGIN".as_slice()
+                && read
+                    .status_vars()
+                    .get_status_var(StatusVarKey::Flags2)
+                    .is_none()
+                && is_written(alloc, &read, b"\0\0\0\0\0\0\0\0\x01\0\0\0\0d\0BEGIN")
+        }
+        Err(_) => false,
+    }
+}
+
+/// Whether a schema and a statement that aren't UTF-8 are texts with replacement characters.
+fn is_lossy(alloc: Global) -> bool {
+    let event = QueryEvent::new(
+        CowSlice::Borrowed(b""),
+        CowSlice::Borrowed(b"d\xff"),
+        CowSlice::Borrowed(b"use `d\xff`"),
+    );
+    let is_schema = match event.schema(alloc) {
+        Ok(schema) => schema.as_ref() == "d\u{fffd}",
+        Err(_) => false,
+    };
+    is_schema
+        && match event.query(alloc) {
+            Ok(query) => query.as_ref() == "use `d\u{fffd}`",
+            Err(_) => false,
+        }
+}
+
+#[test]
+fn query_body(rt: HostRuntime) {
+    let alloc = rt.alloc();
+    assert!(rt;
+        reads_query(alloc)
+            && makes_query(alloc)
+            && skips_a_byte(alloc)
+            && is_lossy(alloc)
+            && is_short::<QueryEvent<'_>>(alloc, &QUERY[..12])
+            && is_short::<QueryEvent<'_>>(alloc, &QUERY[..24])
+            && is_short::<QueryEvent<'_>>(alloc, &QUERY[..29])
+            && !is_short::<QueryEvent<'_>>(alloc, &QUERY[..30])
+    );
+}
+
+/// Whether a schema of 300 bytes is written as its first 255.
+fn cuts_schema(alloc: Global) -> bool {
+    let long = [b'd'; 300];
+    let event = QueryEvent::new(
+        CowSlice::Borrowed(b""),
+        CowSlice::Borrowed(&long),
+        CowSlice::Borrowed(b"BEGIN"),
+    );
+    let cut = QueryEvent::new(
+        CowSlice::Borrowed(b""),
+        CowSlice::Borrowed(&long[..255]),
+        CowSlice::Borrowed(b"BEGIN"),
+    );
+    let mut out = Vec::new(alloc);
+    event.serialize(&mut out).is_ok()
+        && event.len() == out.len()
+        && out.len() == 274
+        && read_body(alloc, (), out.as_slice()) == Ok(cut)
+}
+
+#[test]
+fn query_with_a_long_schema(rt: HostRuntime) {
+    assert!(rt; cuts_schema(rt.alloc()));
+}
+
+/// Whether the event has the numbers of `LOAD`.
+fn has_numbers(read: &ExecuteLoadQueryEvent<'_>) -> bool {
+    read.thread_id() == 9
+        && read.execution_time() == 1
+        && read.error_code() == 1051
+        && read.file_id() == 7
+        && read.start_pos() == 10
+        && read.end_pos() == 14
+        && read.dup_handling() == Ok(LoadDuplicateHandling::LOAD_DUP_REPLACE)
+        && read.dup_handling_raw() == 2
+        && read.len() == LOAD.len()
+}
+
+/// Whether the event says what `LOAD` does.
+fn is_load(read: &ExecuteLoadQueryEvent<'_>) -> bool {
+    has_numbers(read)
+        && read.status_vars_raw() == VARS
+        && read.schema_raw() == b"test".as_slice()
+        && read.query_raw() == LOAD_TEXT
+}
+
+/// Whether `LOAD` is read so, and written as it is, also where it borrows nothing.
+fn reads_load(alloc: Global) -> bool {
+    let Ok(read) = read_body::<ExecuteLoadQueryEvent<'_>>(alloc, (), LOAD) else {
+        return false;
+    };
+    if !is_load(&read) || !is_written(alloc, &read, LOAD) {
+        return false;
+    }
+    match read.into_owned(alloc) {
+        Ok(owned) => is_load(&owned) && is_written(alloc, &owned, LOAD),
+        Err(_) => false,
+    }
+}
+
+/// An event of the file 1, where all else is empty or 0.
+fn empty_load<'a>() -> ExecuteLoadQueryEvent<'a> {
+    ExecuteLoadQueryEvent::new(
+        1,
+        LoadDuplicateHandling::LOAD_DUP_ERROR,
+        CowSlice::Borrowed(b""),
+        CowSlice::Borrowed(b""),
+        CowSlice::Borrowed(b""),
+    )
+}
+
+/// Whether setters make the event that `LOAD` is.
+fn makes_load(alloc: Global) -> bool {
+    let numbered = empty_load()
+        .with_thread_id(9)
+        .with_execution_time(1)
+        .with_error_code(1051)
+        .with_file_id(7)
+        .with_start_pos(10)
+        .with_end_pos(14)
+        .with_dup_handling(LoadDuplicateHandling::LOAD_DUP_REPLACE);
+    let made = numbered
+        .with_status_vars(CowSlice::Borrowed(VARS))
+        .with_schema(CowSlice::Borrowed(b"test"))
+        .with_query(CowSlice::Borrowed(LOAD_TEXT));
+    is_load(&made) && read_body(alloc, (), LOAD) == Ok(made)
+}
+
+/// Whether an unknown handling of duplicates and the byte behind the schema are read, and that byte is written as 0.
+fn keeps_handling(alloc: Global) -> bool {
+    let read = [0u8; 26];
+    let mut bytes = [0u8; 28];
+    bytes[..26].copy_from_slice(&read);
+    bytes[25] = 3;
+    bytes[26] = b'!';
+    bytes[27] = b'x';
+    match read_body::<ExecuteLoadQueryEvent<'_>>(alloc, (), &bytes) {
+        Ok(read) => {
+            read.dup_handling() == Err(UnknownDuplicateHandling(3))
+                && read.query_raw() == b"x".as_slice()
+                && is_written(
+                    alloc,
+                    &read,
+                    b"\0\0\0\0\0\0\0\0\0\0\0\0\0\0\0\0\0\0\0\0\0\0\0\0\0\x03\0x",
+                )
+        }
+        Err(_) => false,
+    }
+}
+
+#[test]
+fn execute_load_query_body(rt: HostRuntime) {
+    let alloc = rt.alloc();
+    assert!(rt;
+        reads_load(alloc)
+            && makes_load(alloc)
+            && keeps_handling(alloc)
+            && is_short::<ExecuteLoadQueryEvent<'_>>(alloc, &LOAD[..25])
+            && is_short::<ExecuteLoadQueryEvent<'_>>(alloc, &LOAD[..42])
+            && !is_short::<ExecuteLoadQueryEvent<'_>>(alloc, &LOAD[..43])
+    );
+}

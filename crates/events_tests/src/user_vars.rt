@@ -1,0 +1,116 @@
+//! USER_VAR_EVENT: read and written.
+
+use crate::written::{is_short, is_written, refusal};
+use bitflags::Flags;
+use events_bodies::UserVarEvent;
+use events_frames::{EventError, read_body};
+use rows_flags::UserVarFlags;
+use std::alloc::Global;
+use wire_consts::{ItemResult, UnknownItemResultType};
+
+/// `@n`, an unsigned integer, 300.
+const UNSIGNED: &[u8] = b"\x01\0\0\0n\0\x02\x3f\0\0\0\x08\0\0\0\x2c\x01\0\0\0\0\0\0\x01";
+
+/// `@name`, the text `ab` in utf8mb4, of a server that writes no flags.
+const TEXT: &[u8] = b"\x04\0\0\0name\0\0\xff\0\0\0\x02\0\0\0ab";
+
+/// `@n`, NULL.
+const NULL: &[u8] = b"\x01\0\0\0n\x01";
+
+/// Whether the body is one of an unsigned integer.
+fn is_unsigned(read: &UserVarEvent<'_>) -> bool {
+    read.name_raw() == b"n".as_slice()
+        && !read.is_null()
+        && read.value() == Some(b"\x2c\x01\0\0\0\0\0\0".as_slice())
+        && read.charset() == 63
+        && read.value_type() == Ok(ItemResult::INT_RESULT)
+        && read.flags_raw() == 1
+        && read.flags() == UserVarFlags::UNSIGNED
+        && read.len() == UNSIGNED.len()
+}
+
+/// Whether the body is one of a text without flags.
+fn is_text(read: &UserVarEvent<'_>) -> bool {
+    read.name_raw() == b"name".as_slice()
+        && !read.is_null()
+        && read.value() == Some(b"ab".as_slice())
+        && read.charset() == 255
+        && read.value_type() == Ok(ItemResult::STRING_RESULT)
+        && read.flags_raw() == 0
+        && read.flags() == UserVarFlags::empty()
+        && read.len() == TEXT.len()
+}
+
+/// Whether the body is NULL.
+fn is_null(read: &UserVarEvent<'_>) -> bool {
+    read.name_raw() == b"n".as_slice()
+        && read.is_null()
+        && read.value().is_none()
+        && read.charset() == 63
+        && read.value_type() == Ok(ItemResult::STRING_RESULT)
+        && read.flags_raw() == 0
+        && read.len() == NULL.len()
+}
+
+/// Whether the bytes are read as such a variable, which is written as they are, also where it borrows nothing.
+fn reads(alloc: Global, bytes: &[u8], is_said: fn(&UserVarEvent<'_>) -> bool) -> bool {
+    let Ok(read) = read_body::<UserVarEvent<'_>>(alloc, (), bytes) else {
+        return false;
+    };
+    if !is_said(&read) || !is_written(alloc, &read, bytes) {
+        return false;
+    }
+    match read.into_owned(alloc) {
+        Ok(owned) => is_said(&owned) && is_written(alloc, &owned, bytes),
+        Err(_) => false,
+    }
+}
+
+#[test]
+fn user_variables(rt: HostRuntime) {
+    let alloc = rt.alloc();
+    assert!(rt;
+        reads(alloc, UNSIGNED, is_unsigned)
+            && reads(alloc, TEXT, is_text)
+            && reads(alloc, NULL, is_null)
+    );
+}
+
+/// What type of value the bytes name, and all bits of its flags.
+fn type_and_flags(
+    alloc: Global,
+    bytes: &[u8],
+) -> Option<(Result<ItemResult, UnknownItemResultType>, u8, UserVarFlags)> {
+    match read_body::<UserVarEvent<'_>>(alloc, (), bytes) {
+        Ok(read) => Some((read.value_type(), read.flags_raw(), read.flags())),
+        Err(_) => None,
+    }
+}
+
+#[test]
+fn user_variables_of_unknown_types(rt: HostRuntime) {
+    let alloc = rt.alloc();
+    assert!(rt;
+        type_and_flags(alloc, b"\0\0\0\0\0\x05\x3f\0\0\0\0\0\0\0\x83")
+            == Some((Err(UnknownItemResultType(5)), 0x83, UserVarFlags::UNSIGNED))
+            && type_and_flags(alloc, b"\0\0\0\0\0\xff\x3f\0\0\0\0\0\0\0\x02")
+                == Some((Ok(ItemResult::INVALID_RESULT), 2, UserVarFlags::empty()))
+    );
+}
+
+#[test]
+fn user_variables_refused(rt: HostRuntime) {
+    let alloc = rt.alloc();
+    assert!(rt;
+        is_short::<UserVarEvent<'_>>(alloc, &UNSIGNED[..22])
+            && is_short::<UserVarEvent<'_>>(alloc, &TEXT[..9])
+            && is_short::<UserVarEvent<'_>>(alloc, &NULL[..5])
+            && is_short::<UserVarEvent<'_>>(alloc, &NULL[..4])
+            && refusal::<UserVarEvent<'_>>(alloc, b"\x01\0\0\0n\x01\0")
+                == Some(EventError::RemainingBytes)
+            && refusal::<UserVarEvent<'_>>(
+                alloc,
+                b"\x01\0\0\0n\0\x02\x3f\0\0\0\x08\0\0\0\x2c\x01\0\0\0\0\0\0\x01\0",
+            ) == Some(EventError::RemainingBytes)
+    );
+}
