@@ -14,7 +14,9 @@ const BLOCK: &[u8] = b"\0\0\0\0\0\x04\x21\0\x21\0\x08\0\x0e\0";
 fn says(alloc: Global, block: &[u8], key: Key, value: StatusVarVal<'_>) -> bool {
     match StatusVarsIterator::new(block).next() {
         Some(var) => {
-            var.key() == key && var.value_raw() == &block[1..] && var.get_value(alloc) == Ok(value)
+            var.key() == key
+                && block.get(1..) == Some(var.value_raw())
+                && var.get_value(alloc) == Ok(value)
         }
         None => false,
     }

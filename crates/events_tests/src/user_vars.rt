@@ -52,16 +52,37 @@ fn is_null(read: &UserVarEvent<'_>) -> bool {
         && read.len() == NULL.len()
 }
 
-/// Whether the bytes are read as such a variable, which is written as they are, also where it borrows nothing.
-fn reads(alloc: Global, bytes: &[u8], is_said: fn(&UserVarEvent<'_>) -> bool) -> bool {
-    let Ok(read) = read_body::<UserVarEvent<'_>>(alloc, (), bytes) else {
-        return false;
-    };
-    if !is_said(&read) || !is_written(alloc, &read, bytes) {
+/// Whether the variable is written as these bytes, also where it borrows nothing.
+fn is_kept(alloc: Global, read: UserVarEvent<'_>, bytes: &[u8]) -> bool {
+    if !is_written(alloc, &read, bytes) {
         return false;
     }
     match read.into_owned(alloc) {
-        Ok(owned) => is_said(&owned) && is_written(alloc, &owned, bytes),
+        Ok(owned) => is_written(alloc, &owned, bytes),
+        Err(_) => false,
+    }
+}
+
+/// Whether an unsigned integer is read and kept.
+fn reads_unsigned(alloc: Global) -> bool {
+    match read_body::<UserVarEvent<'_>>(alloc, (), UNSIGNED) {
+        Ok(read) => is_unsigned(&read) && is_kept(alloc, read, UNSIGNED),
+        Err(_) => false,
+    }
+}
+
+/// Whether a text without flags is read and kept.
+fn reads_text(alloc: Global) -> bool {
+    match read_body::<UserVarEvent<'_>>(alloc, (), TEXT) {
+        Ok(read) => is_text(&read) && is_kept(alloc, read, TEXT),
+        Err(_) => false,
+    }
+}
+
+/// Whether NULL is read and kept.
+fn reads_null(alloc: Global) -> bool {
+    match read_body::<UserVarEvent<'_>>(alloc, (), NULL) {
+        Ok(read) => is_null(&read) && is_kept(alloc, read, NULL),
         Err(_) => false,
     }
 }
@@ -69,11 +90,7 @@ fn reads(alloc: Global, bytes: &[u8], is_said: fn(&UserVarEvent<'_>) -> bool) ->
 #[test]
 fn user_variables(rt: HostRuntime) {
     let alloc = rt.alloc();
-    assert!(rt;
-        reads(alloc, UNSIGNED, is_unsigned)
-            && reads(alloc, TEXT, is_text)
-            && reads(alloc, NULL, is_null)
-    );
+    assert!(rt; reads_unsigned(alloc) && reads_text(alloc) && reads_null(alloc));
 }
 
 /// What type of value the bytes name, and all bits of its flags.
