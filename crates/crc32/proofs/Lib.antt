@@ -1,0 +1,4 @@
+pub mod DivisionLemmas
+pub mod MessageLemmas
+pub mod TableLemmas
+pub mod ZerosLemmas
