@@ -2,6 +2,7 @@
 #![tactic(auto)]
 
 use binlog_feed::{Follower, Verdict, Watched, name_of, report, request, status};
+use crc32::crc32;
 use std::alloc::Global;
 use std::env;
 use std::fs::File;
@@ -34,11 +35,6 @@ const ONE_INSERT: [u8; 142] = [
     0x8e, 0x00, 0x00, 0x00, 0x00, 0x00, 0x0b, 0x00, 0x00, 0x00, 0x00, 0x00, 0x00, 0x00,
 ];
 
-/// A checksum function that answers 0. No event of a kind that is shown has a checksum yet.
-fn no_checksum(_bytes: &[u8]) -> u32 {
-    0
-}
-
 /// Says a name on standard error, and ends with status 1.
 fn fail(rt: &impl Eprint, name: &str) -> ExitCode {
     let _ = eprintln!(rt; "{name}");
@@ -68,7 +64,7 @@ fn report_to_stdout<P: Print, R: Read + Drop>(rt: &P, alloc: Global, reader: R) 
     };
     let mut reader = Watched::new(reader);
     let mut writer = Watched::new(out);
-    let verdict = report(alloc, &mut reader, &no_checksum, &mut writer);
+    let verdict = report(alloc, &mut reader, &crc32, &mut writer);
     flushed(&mut writer.into_inner(), verdict)
 }
 
@@ -113,7 +109,7 @@ fn follow<P: Print, R: Read + Drop>(rt: &P, alloc: Global, mut reader: R) -> Ver
         1,
         b"",
         PACKET_LIMIT,
-        no_checksum,
+        crc32,
     ) else {
         return Verdict::Memory;
     };

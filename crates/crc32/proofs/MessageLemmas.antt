@@ -2,10 +2,9 @@
 use Rattle.std.proofs.Common.{◌≡◌, ℕ, zero, suc, ◌+◌, ◌-◌, ◌*◌, ◌/◌, ◌%◌, ◌<◌, ◌≤◌, ◌==◌, List, [], ◌∷◌, ◌++◌, bit_xor, fold, flat_map, length, replicate, get_or, take, drop, if◌then◌else◌, refl, sym, subst, ap, ◌∙◌, arith}
 use Rattle.std.proofs.lemmas.List.Sums.{fold-append}
 use Rattle.std.proofs.lemmas.Grind.{flat_map-append}
-use Rattle.std.proofs.lemmas.List.{take-append-drop, length-take, length-drop, get_or-drop, drop-drop}
+use Rattle.std.proofs.lemmas.List.{take-append-drop, length-take, length-drop, get_or-drop, drop-drop, take_rest}
 use Rattle.std.proofs.Math.Seq.{drop-cons}
 use native.Mathlib.Numerals.{add-one}
-use Rattle.std.proofs.lemmas.List.{take_rest}
 use lib.Bits.{xor_assoc, xor_comm, xor_shr, xor_mod, xor_zero_r}
 use Rattle.byteorder.specs.Endian.{little_from, little_number}
 use Rattle.crc32.specs.Checksums.{polynomial, after_bit, byte_bits, after_bytes}

@@ -1,4 +1,4 @@
--- The same checksum as the remainder of a division, as the standard says it. A number stands for a polynomial over GF(2) whose
+-- The checksum of an event as the remainder of a division, as the standard says it. A number stands for a polynomial over GF(2) whose
 -- coefficients are its binary digits, the highest power in the lowest digit: exclusive-or adds two polynomials, and a
 -- number that is doubled has each digit one power lower.
 use Rattle.std.specs.Prelude.{ℕ, ◌+◌, ◌*◌, ◌^◌, ◌<◌, ◌≡◌, Bool, cond, List, [], ◌∷◌, bit_xor, length}

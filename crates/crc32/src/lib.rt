@@ -5,8 +5,19 @@
 //! worked values.
 #![tactic(auto)]
 
-mod checksum;
+ghost use Rattle.std.specs.Prelude.{◌≡◌};
+ghost use Rattle.crc32.specs.Checksums.{crc32_of};
+
 pub mod laws;
+mod register;
 mod tables;
 
-pub use checksum::crc32;
+use register::{ONES, register_after};
+
+/// The CRC-32 of bytes. Of an event a server takes all bytes in front of the checksum, without the flag that says that
+/// the log is in use.
+pub fn crc32(bytes: &[u8]) -> u32
+    ensures { result ≡ crc32_of bytes.now }
+{
+    register_after(ONES, bytes) ^ ONES
+}

@@ -1,7 +1,9 @@
-//! Tests of the change feed through its public calls: worked binary logs and streams, requests, names, and readers and
-//! writers that fail.
+//! Tests of the change feed through its public calls: worked binary logs and streams, requests, names, readers and writers
+//! that fail, and checksums.
 #![tactic(auto)]
 
+#[cfg(test)]
+mod checksums;
 #[cfg(test)]
 mod failing;
 #[cfg(test)]

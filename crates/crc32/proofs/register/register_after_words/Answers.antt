@@ -2,7 +2,7 @@ use Rattle.std.proofs.Common.{ap, ◌∙◌, arith}
 use Rattle.std.proofs.lemmas.List.{take_rest}
 use Rattle.crc32.specs.Checksums.{after_bytes}
 use Rattle.crc32.proofs.MessageLemmas.{four_more}
-use Rattle.crc32.proofs.checksum.register_after_words.Goals as goal
+use Rattle.crc32.proofs.register.register_after_words.Goals as goal
 
 pub loop-at-preserved : goal.loop-at-preserved
 loop-at-preserved c = record {

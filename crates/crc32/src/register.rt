@@ -1,17 +1,17 @@
-//! The checksum of bytes.
+//! The register of a CRC, which takes up a message byte by byte.
 //!
-//! The register of a CRC adds up: what each word of the message leaves in it can be looked up apart, as if all bytes behind the
+//! It adds up: what each word of the message leaves in it can be looked up apart, as if all bytes behind the
 //! word were zeros, and the exclusive-or of these is the register behind the last one. So the look-ups of sixteen bytes
 //! don't wait for each other.
 
 ghost use Rattle.std.specs.Prelude.{◌≡◌, ◌≤◌, ◌+◌, ◌∷◌, [], replicate};
-ghost use Rattle.crc32.specs.Checksums.{after_bytes, crc32_of};
+ghost use Rattle.crc32.specs.Checksums.{after_bytes};
 
 use crate::tables::TABLES;
 use byteorder::{ByteOrder, LittleEndian};
 
 /// What the register is before the first byte, and what turns each of its bits behind the last one.
-const ONES: u32 = 0xffff_ffff;
+pub(crate) const ONES: u32 = 0xffff_ffff;
 
 /// The register after one byte more.
 fn register_after_byte(register: u32, byte: u8) -> u32
@@ -57,7 +57,7 @@ fn register_after_words(start: u32, bytes: &[u8]) -> u32
 }
 
 /// The register after more bytes, sixteen at a time.
-fn register_after(start: u32, bytes: &[u8]) -> u32
+pub(crate) fn register_after(start: u32, bytes: &[u8]) -> u32
     ensures { result ≡ after_bytes start bytes.now }
 {
     let mut register = start;
@@ -75,12 +75,4 @@ fn register_after(start: u32, bytes: &[u8]) -> u32
         at += 16;
     }
     register_after_words(register, &bytes[at..])
-}
-
-/// The CRC-32 of bytes. Of an event a server takes all bytes in front of the checksum, without the flag that says that the log
-/// is in use.
-pub fn crc32(bytes: &[u8]) -> u32
-    ensures { result ≡ crc32_of bytes.now }
-{
-    register_after(ONES, bytes) ^ ONES
 }

@@ -1,6 +1,6 @@
 use Rattle.std.proofs.Common.{◌≡◌, drop}
 use Rattle.crc32.specs.Checksums.{after_bytes}
-use Rattle.crc32.proofs.checksum.register_after_each.Given as goal
+use Rattle.crc32.proofs.register.register_after_each.Given as goal
 
 -- what is left leads to the same register
 abbrev pub invariant-loop-byte : goal.invariant-loop-byte

@@ -2,7 +2,7 @@ use Rattle.std.proofs.Common.{◌≡◌, ◌+◌, ℕ, [], drop, sym, ap, ◌∙
 use Rattle.std.proofs.lemmas.List.{drop_all}
 use Rattle.crc32.specs.Checksums.{after_bytes}
 use Rattle.crc32.proofs.MessageLemmas.{one_more, after_nothing}
-use Rattle.crc32.proofs.checksum.register_after_each.Goals as goal
+use Rattle.crc32.proofs.register.register_after_each.Goals as goal
 
 pub loop-byte-preserved : goal.loop-byte-preserved
 loop-byte-preserved c =

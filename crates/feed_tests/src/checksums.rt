@@ -1,0 +1,54 @@
+//! The checksum of bytes: published and zlib's values, and each short length bit by bit.
+
+use crate::samples::{BEGIN, MAP, ROWS, XID};
+use crc32::crc32;
+
+/// The CRC-32 of bytes, bit by bit.
+fn bit_by_bit(bytes: &[u8]) -> u32 {
+    let mut register = u32::MAX;
+    for byte in bytes {
+        register ^= u32::from(*byte);
+        for _ in 0..8 {
+            let shifted = register >> 1;
+            register = if register % 2 == 1 {
+                shifted ^ 0xedb8_8320
+            } else {
+                shifted
+            };
+        }
+    }
+    !register
+}
+
+#[test]
+fn published_checksums(rt: HostRuntime) {
+    assert!(rt;
+        crc32(b"") == 0
+            && crc32(b"123456789") == 0xcbf4_3926
+            && crc32(b"The quick brown fox jumps over the lazy dog") == 0x414f_a339
+    );
+}
+
+#[test]
+fn checksums_of_events_by_zlib(rt: HostRuntime) {
+    assert!(rt;
+        crc32(&BEGIN) == 0x30dc_be28
+            && crc32(&MAP) == 0xcc3c_c388
+            && crc32(&ROWS) == 0xeb5c_239e
+            && crc32(&XID) == 0xcad6_397d
+    );
+}
+
+#[test]
+fn checksums_of_each_short_length(rt: HostRuntime) {
+    let mut bytes = [0u8; 40];
+    let mut byte = 0x9du8;
+    for place in bytes.iter_mut() {
+        byte = byte.wrapping_mul(5).wrapping_add(37);
+        *place = byte;
+    }
+    for len in 0..41 {
+        let (front, _) = bytes.split_at(len);
+        assert!(rt; crc32(front) == bit_by_bit(front));
+    }
+}
