@@ -3,10 +3,10 @@ use Rattle.std.proofs.Common.{◌≡◌, ℕ, Bool, true, false, cond, List, [],
 use Rattle.std.specs.Prelude.{◌&&◌, ◌||◌, not, is_none}
 use Rattle.std.specs.List.{list_any}
 use Rattle.std.proofs.lemmas.Bool.{eqb-true}
-use Rattle.binlog_feed.specs.declared.verdict.Verdict.{Verdict}
+use Rattle.feed_rules.specs.declared.verdict.Verdict.{Verdict}
 use Rattle.binlog_feed.specs.Events.{Event, type_of}
 use Rattle.binlog_feed.specs.Kinds.{Unshown, default_description, in_force, kind_of}
-use Rattle.binlog_feed.specs.declared.verdict.Verdict.TheVariants as verdicts
+use Rattle.feed_rules.specs.declared.verdict.Verdict.TheVariants as verdicts
 use Rattle.binlog_feed.specs.Transactions.{stands, opens, is_gtid, is_waiting, frame_fault, size_fault, or_fault, fault_of, good_after, good}
 
 unshown_type : (e : Event) (n : ℕ) → type_of e ≡ n → (n ≡ 33 → kind_of e default_description ≡ Unshown) × (n ≡ 34 → kind_of e default_description ≡ Unshown) × (n ≡ 42 → kind_of e default_description ≡ Unshown)

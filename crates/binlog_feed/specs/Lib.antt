@@ -19,7 +19,6 @@ pub mod KindViews
 pub mod Tables
 pub mod Lines
 pub mod Standing
-pub mod Verdicts
 pub mod Streams
 pub mod Following
 pub mod Requests

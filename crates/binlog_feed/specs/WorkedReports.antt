@@ -2,7 +2,7 @@
 use Rattle.std.specs.Prelude.{ℕ, List, [], ◌∷◌, ◌++◌, take, codes}
 use Rattle.binlog_feed.specs.Events.{Event, joined, mark}
 use Rattle.binlog_feed.specs.Report.{Report}
-use Rattle.binlog_feed.specs.declared.verdict.Verdict.{Verdict}
+use Rattle.feed_rules.specs.declared.verdict.Verdict.{Verdict}
 
 abbrev pub file_of : List Event → List ℕ
 file_of l = mark ++ joined l

@@ -12,7 +12,7 @@ ghost use Rattle.binlog_feed.specs.WorkedReports.{file_of, nothing_and, one_inse
 ghost use Rattle.binlog_feed.specs.Streams.{stream_report};
 ghost use Rattle.binlog_feed.specs.Requests.{dump_request};
 ghost use Rattle.binlog_feed.specs.WorkedStreams.{open_answer, whole_answer, closing_packet, misnumbered_answer, misnumbered_front, empty_payload, long_closing_payload, short_event_payload, error_packet, program_limit, worked_request};
-ghost use Rattle.binlog_feed.specs.declared.verdict.Verdict.TheVariants.{Closed, TooLarge, OutOfNumber, NotAnEvent, ServerError, End, Mark, NoTableMap, Outside, Row, Inside, Unshown};
+ghost use Rattle.feed_rules.specs.declared.verdict.Verdict.TheVariants.{Closed, TooLarge, OutOfNumber, NotAnEvent, ServerError, End, Mark, NoTableMap, Outside, Row, Inside, Unshown};
 
 pub use feed_text::laws::equal_quotes_are_of_equal_bytes;
 

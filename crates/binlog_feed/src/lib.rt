@@ -6,12 +6,11 @@ mod feed;
 pub mod laws;
 mod rows;
 mod text;
-mod verdict;
 mod wire;
 
 pub use feed::follower::Follower;
 pub use feed::reporting::report;
 pub use feed::request::{RequestError, request};
 pub use feed_text::{put_value, quote};
-pub use verdict::{Verdict, name_of, status};
+pub use feed_rules::{Verdict, name_of, status};
 pub use wire_streams::{MAX_READS, Watched};

@@ -1,7 +1,7 @@
 -- The names that the program prints of verdicts, and its exit status.
 use Rattle.std.specs.Prelude.{ℕ, List, codes}
-use Rattle.binlog_feed.specs.declared.verdict.Verdict.{Verdict}
-use Rattle.binlog_feed.specs.declared.verdict.Verdict.TheVariants.{End, Closed, Mark, TooLarge, OutOfNumber, ServerError, NotAnEvent, Frame, Algorithm, Checksum, Size, Body, NoTableMap, Row, Outside, Inside, Unshown, UnknownKind, Memory, Read, Write}
+use Rattle.feed_rules.specs.declared.verdict.Verdict.{Verdict}
+use Rattle.feed_rules.specs.declared.verdict.Verdict.TheVariants.{End, Closed, Mark, TooLarge, OutOfNumber, ServerError, NotAnEvent, Frame, Algorithm, Checksum, Size, Body, NoTableMap, Row, Outside, Inside, Unshown, UnknownKind, Memory, Read, Write}
 
 abbrev pub verdict_name : Verdict → List ℕ
 verdict_name End = codes "End"

@@ -1,8 +1,8 @@
 //! How a report or a stream ended.
 
 ghost use Rattle.std.specs.Prelude.{◌≡◌};
-ghost use Rattle.binlog_feed.specs.declared.verdict.Verdict.TheVariants.{Memory};
-ghost use Rattle.binlog_feed.specs.Verdicts.{verdict_name, verdict_status};
+ghost use Rattle.feed_rules.specs.declared.verdict.Verdict.TheVariants.{Memory};
+ghost use Rattle.feed_rules.specs.Verdicts.{verdict_name, verdict_status};
 
 use std::alloc::{AllocError, AllocFailed};
 

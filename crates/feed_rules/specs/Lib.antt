@@ -1,0 +1,13 @@
+pub mod Words
+pub mod Readers
+pub mod Bodies
+pub mod Events
+pub mod Rows
+pub mod Kinds
+pub mod Checks
+pub mod Transactions
+pub mod Rules
+pub mod Texts
+pub mod Laws
+pub mod WorkedEvents
+pub mod Verdicts

@@ -1,0 +1,95 @@
+-- What a rows event says under a table map: the lines of its rows, or a fault.
+use Rattle.std.specs.Prelude.{ℕ, true, false, List, [], ◌∷◌, length, map, Option, Some, None, Result, Ok, Err, ◌==◌}
+use Rattle.rows_cells.specs.Images.{PlacedValue}
+use Rattle.rows_jsonb.specs.Items.{Walked}
+use Rattle.rows_jsonb.specs.JsonbValues.{Reading, ◌>>=◌}
+use Rattle.rows_meta.specs.ColumnMetadata.{columns_of}
+use Rattle.rows_meta.specs.TableMaps.{TableMap}
+use Rattle.rows_optional.specs.Extracted.{extracted}
+use Rattle.rows_optional.specs.MetadataFields.{fields}
+use Rattle.rows_plan.specs.ImageShapes.{TablePlan}
+use Rattle.rows_plan.specs.Plans.{table_of, first_columns}
+use Rattle.rows_plan.specs.PlanViews.{json_count}
+use Rattle.rows_events.specs.EventShapes.{event_rows}
+use Rattle.rows_events.specs.RowsEvents.{RowsBody}
+use Rattle.rows_events.specs.RowsEventTypes.{images_of}
+use Rattle.rows_events.specs.declared.rows_event_type.RowImages.{RowImages}
+use Rattle.rows_events.specs.declared.rows_event_type.RowImages.TheVariants as images
+use Rattle.feed_text.specs.ImageText.{cells_text}
+use Rattle.feed_rules.specs.declared.verdict.Verdict.{Verdict}
+use Rattle.feed_rules.specs.declared.verdict.Verdict.TheVariants as verdicts
+
+-- the plan of a table's columns by its map
+abbrev pub plan_by : TableMap → TablePlan
+plan_by t = record {
+  first = λ n. extracted (fields t.column_types t.optional_metadata) >>= λ e. first_columns (table_of (columns_of t.column_types (Some t.metadata)) e) n;
+  json_columns = json_count t.column_types;
+}
+
+-- what happened to a row
+pub data Change : Type 0 where
+  Insert : Change
+  Update : Change
+  Delete : Change
+
+abbrev pub change_by : RowImages → Change
+change_by images.Before = Delete
+change_by images.After = Insert
+change_by images.BeforeAndAfter = Update
+change_by images.BeforeAndPartialAfter = Update
+
+abbrev pub change_of : RowsBody → Change
+change_of r = change_by (images_of r.event_type)
+
+-- a row that changed: the texts of its images, the one before the change, the one after it, or both
+pub record Row : Type 0 where
+  pub change : Change
+  pub database : List ℕ
+  pub table : List ℕ
+  pub images : List (List ℕ)
+
+-- the texts of images; a cell whose document has no tree has none
+unfoldable pub image_texts : List (List PlacedValue) → Reading (List (List ℕ))
+image_texts [] = Ok []
+image_texts (image ∷ images) = do
+  text ← cells_text image
+  texts ← image_texts images
+  Ok (text ∷ texts)
+
+unfoldable pub row_texts : List (List (List PlacedValue)) → Reading (List (List (List ℕ)))
+row_texts [] = Ok []
+row_texts (row ∷ rows) = do
+  texts ← image_texts row
+  more ← row_texts rows
+  Ok (texts ∷ more)
+
+-- the texts of all rows, where all can be read
+abbrev pub walked_texts : Walked (List (List PlacedValue)) → Option (List (List (List ℕ)))
+walked_texts w = elim w.fault [ None ↦ found (row_texts w.items) | Some e ↦ None ]
+  where
+    found : Reading (List (List (List ℕ))) → Option (List (List (List ℕ)))
+    found (Ok texts) = Some texts
+    found (Err e) = None
+
+-- the texts of the rows of an event under a table map
+unfoldable pub texts_of_rows : RowsBody → TableMap → Option (List (List (List ℕ)))
+texts_of_rows r t = walked_texts (event_rows r (plan_by t))
+
+abbrev pub rows_by : RowsBody → TableMap → Option (List (List (List ℕ))) → Result (List Row) Verdict
+rows_by r t None = Err verdicts.Row
+rows_by r t (Some texts) = Ok (map (λ images. record { change = change_of r; database = t.database; table = t.table; images = images }) texts)
+
+-- the rows of an event; without rows data no table map is asked for
+unfoldable pub rows_result : Option TableMap → RowsBody → Result (List Row) Verdict
+rows_result m r = elim (length r.rows_data == 0) [
+  | true ↦ Ok []
+  | false ↦ elim m [ None ↦ Err verdicts.NoTableMap | Some t ↦ rows_by r t (texts_of_rows r t) ]
+]
+
+abbrev pub fault_in : Result (List Row) Verdict → Option Verdict
+fault_in (Ok rows) = None
+fault_in (Err v) = Some v
+
+abbrev pub rows_in : Result (List Row) Verdict → List Row
+rows_in (Ok rows) = rows
+rows_in (Err v) = []

@@ -1,0 +1,69 @@
+//! The laws of the rules, each the contract of a function that does nothing.
+
+ghost use Rattle.std.specs.Prelude.{◌≡◌, ◌<◌, ◌≤◌, ◌+◌, ℕ, List, [], ◌++◌, Some, true, false, codes, length, nat_eq};
+ghost use Rattle.std.specs.List.{starts_with};
+ghost use Rattle.rows_meta.specs.TableMaps.{TableMap, IsTableMap};
+ghost use Rattle.rows_events.specs.RowsEvents.{RowsBody, IsRowsEvent};
+ghost use Rattle.rows_events.specs.declared.rows_event_ctx.RowsEventCtx.{RowsEventCtx};
+ghost use Rattle.events_bodies.specs.Bodies.{IsRotate, IsXid};
+ghost use Rattle.events_frames.specs.Events.{size_of};
+ghost use Rattle.events_frames.specs.EventParts.{Parts, IsEvent, least_behind};
+ghost use Rattle.events_frames.specs.Footers.{Footer};
+ghost use Rattle.events_queries.specs.Queries.{IsQuery};
+ghost use Rattle.feed_rules.specs.Readers.{IsBodyOf};
+ghost use Rattle.feed_rules.specs.Bodies.{query_in, rotate_in, xid_in, table_map_in, rows_event_in};
+ghost use Rattle.feed_rules.specs.Events.{Event, header_of, content, parts, in_force};
+ghost use Rattle.feed_rules.specs.Rows.{texts_of_rows, rows_result, rows_in};
+ghost use Rattle.feed_rules.specs.Kinds.{Kind, is_inside, kinds};
+ghost use Rattle.feed_rules.specs.Checks.{fault_of};
+ghost use Rattle.feed_rules.specs.Transactions.{Line, Transaction};
+ghost use Rattle.feed_rules.specs.Rules.{Rules, rules, good, shown, up_to_fault, fault_after, shown_after};
+ghost use Rattle.feed_rules.specs.Texts.{line_text};
+ghost use Rattle.feed_rules.specs.Laws.{IsOpen, IsOf, Each, IsBetween};
+
+/// A body is read exactly where it is in its grammar, and as what it spells.
+pub fn bodies_are_read()
+    ensures query { IsBodyOf IsQuery query_in }
+    ensures rotate { IsBodyOf IsRotate rotate_in }
+    ensures xid { IsBodyOf IsXid xid_in }
+    ensures table_map { (post_header : ℕ) → IsBodyOf (IsTableMap post_header) (table_map_in post_header) }
+    ensures rows_event { (ctx : RowsEventCtx) → IsBodyOf (IsRowsEvent ctx) (rows_event_in ctx) }
+{}
+
+/// The parts of an event under the description in force are those that its grammar says, and all bytes are an event that are
+/// as long as their header says and long enough for what stands in them.
+pub fn parts_are_those_of_events()
+    ensures one { (f : Footer) (e : Event) (p : Parts) → IsEvent f p e → p ≡ parts f e }
+    ensures whole { (f : Footer) (e : Event) → size_of e ≡ length e → 19 + least_behind f (header_of e) (content e) ≤ length e → IsEvent f (parts f e) e }
+{}
+
+/// What the first of some events show is the first of what all of them show, whatever the rules.
+pub fn first_events_show_the_first_transactions()
+    ensures { (r : Rules) (first more : List Event) → (later : List Transaction) × (shown r (first ++ more) ≡ shown r first ++ later) }
+{}
+
+/// Where a transaction is open, some begin has no begin, commit, rollback or description after it.
+pub fn inside_is_an_open_begin()
+    ensures { (past : List Kind) → is_inside past ≡ true → IsOpen past }
+{}
+
+/// Each transaction that is shown is whole at one of the events without a fault: a stretch from a begin up to the commit
+/// that this event is, or the statement that it is, outside a transaction. No line of it looks like its opening line or its
+/// commit line.
+pub fn shown_transactions_are_whole()
+    ensures whole { (f : List ℕ → ℕ) (l : List Event) → Each (IsOf (good (rules f) l)) (shown (rules f) l) }
+    ensures not_opening { (x : Line) → starts_with nat_eq (line_text x) (codes "begin ") ≡ false }
+    ensures not_closing { (x : Line) → starts_with nat_eq (line_text x) (codes "commit ") ≡ false }
+{}
+
+/// From a place between transactions on, what events show and their first fault follow from the events and the description
+/// in force, whatever came before.
+pub fn what_came_before_does_not_matter()
+    ensures fault { (f : List ℕ → ℕ) (p q l : List Event) → in_force p ≡ in_force q → IsBetween (kinds p) → IsBetween (kinds q) → fault_after (fault_of f) p l ≡ fault_after (fault_of f) q l }
+    ensures shown { (f : List ℕ → ℕ) (p q l : List Event) → in_force p ≡ in_force q → IsBetween (kinds p) → IsBetween (kinds q) → shown_after (rules f) p (up_to_fault (fault_of f) p l) ≡ shown_after (rules f) q (up_to_fault (fault_of f) q l) }
+{}
+
+/// A rows event that is shown has as many lines as rows.
+pub fn a_line_for_each_row()
+    ensures { (r : RowsBody) (t : TableMap) (texts : List (List (List ℕ))) → texts_of_rows r t ≡ Some texts → 0 < length r.rows_data → length (rows_in (rows_result (Some t) r)) ≡ length texts }
+{}
