@@ -1,6 +1,7 @@
 pub mod Readings
 pub mod ReadingViews
 pub mod OwnedEvents
+pub mod OwnedBodies
 pub mod EventViews
 pub mod Files
 pub mod Checksums
