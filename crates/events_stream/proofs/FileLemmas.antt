@@ -16,7 +16,7 @@ first_true true b h = refl
 first_true false b h = h
 
 -- a whole event has a header
-whole_long : (bytes : List ℕ) → IsWhole bytes → 19 ≤ length bytes
+pub whole_long : (bytes : List ℕ) → IsWhole bytes → 19 ≤ length bytes
 whole_long bytes w = leb-true 19 (length bytes) (first_true _ _ (first_true _ _ w.whole))
 
 -- what is left in front of a reader is known behind it

@@ -2,3 +2,4 @@ pub mod ReadingLemmas
 pub mod TakingLemmas
 pub mod FileLemmas
 pub mod EventLemmas
+pub mod WholeLemmas
