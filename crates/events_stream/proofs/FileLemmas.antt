@@ -1,4 +1,4 @@
--- How much of a file its items take, and what follows its end.
+-- How much of a file its items take, what follows its end, and its faults.
 use Rattle.std.proofs.Common.{◌≡◌, ◌≤◌, ◌+◌, ◌*◌, ℕ, Bool, true, false, true≢false, List, length, Option, Some, None, inl, inr, refl, sym, ap, ◌∙◌, arith}
 use Rattle.std.specs.Prelude.{◌&&◌}
 use Rattle.std.specs.Io.KnownBytes.{Consumes}
@@ -7,6 +7,8 @@ use Rattle.std.proofs.lemmas.List.{length-append}
 use Rattle.events_frames.specs.Events.{IsWhole}
 use Rattle.events_frames.specs.EventParts.{Parts}
 use Rattle.events_frames.specs.declared.event_error.EventError.{EventError}
+use Rattle.events_stream.specs.OwnedEvents.{IsNextFault, NoFrame, Refused, NoMemory}
+use Rattle.events_stream.specs.Readings.{IsTakeFault}
 use Rattle.events_stream.specs.Files.{File, GivesEvent, GivesFault, GivesNothing, GivesItems, NoItem, OneEvent, OneFault, IsOwnFault}
 
 first_true : (a b : Bool) → (a && b) ≡ true → a ≡ true
@@ -14,7 +16,7 @@ first_true true b h = refl
 first_true false b h = h
 
 -- a whole event has a header
-whole_long : (bytes : List ℕ) → IsWhole bytes → 19 ≤ length bytes
+pub whole_long : (bytes : List ℕ) → IsWhole bytes → 19 ≤ length bytes
 whole_long bytes w = leb-true 19 (length bytes) (first_true _ _ (first_true _ _ w.whole))
 
 -- what is left in front of a reader is known behind it
@@ -71,3 +73,11 @@ no_event_behind_fault old new after p error f e = true≢false (sym f.ended ∙ 
 
 pub one_fault : (old new after : File) (error again : EventError) → GivesFault old new error → GivesFault new after again → ⊥
 one_fault old new after error again f g = true≢false (sym f.ended ∙ g.went_on)
+
+-- a fault of the next event ends a file
+pub fault_given : (old new : File) (error : EventError) → old.ended ≡ false → new.ended ≡ true → new.reading ≡ old.reading → IsNextFault (IsTakeFault old.reading.description) new.failed old.left new.left error → GivesFault old new error
+fault_given old new error on off same (NoFrame taken fault h) = record { bytes = taken; went_on = on; why = inr h; unchanged = same; ended = off }
+fault_given old new error on off same (Refused event fault consumed whole h) =
+    record { bytes = event; went_on = on; why = inl (record { consumed = consumed; whole = whole; why = inl h }); unchanged = same; ended = off }
+fault_given old new error on off same (NoMemory event consumed whole) =
+    record { bytes = event; went_on = on; why = inl (record { consumed = consumed; whole = whole; why = inr refl }); unchanged = same; ended = off }

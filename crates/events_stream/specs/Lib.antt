@@ -1,5 +1,8 @@
 pub mod Readings
 pub mod ReadingViews
+pub mod OwnedEvents
+pub mod OwnedBodies
+pub mod EventViews
 pub mod Files
 pub mod Checksums
 pub mod WrittenEvents

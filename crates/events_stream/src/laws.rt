@@ -2,7 +2,10 @@
 
 ghost use Rattle.std.specs.Prelude.{◌≡◌, ◌≤◌, ◌+◌, ◌*◌, ℕ, List, length, Some, true};
 ghost use Rattle.events_frames.specs.Descriptions.{Description};
-ghost use Rattle.events_frames.specs.EventParts.{Parts};
+ghost use Rattle.events_frames.specs.EventParts.{Parts, IsCutFault};
+ghost use Rattle.events_frames.specs.Events.{IsWhole};
+ghost use Rattle.events_frames.specs.Footers.{Footer};
+ghost use Rattle.events_frames.specs.declared.event_error.EventError.TheVariants.{Frame};
 ghost use Rattle.events_frames.specs.declared.event_error.EventError.{EventError};
 ghost use Rattle.events_stream.specs.Readings.{Reading, Said, Takes, IsTakeFault, IsTaken};
 ghost use Rattle.events_stream.specs.Files.{File, GivesEvent, GivesFault, GivesNothing, GivesItems};
@@ -18,6 +21,12 @@ pub fn events_are_taken_in_one_way()
 /// What is taken has no fault.
 pub fn taken_events_have_no_fault()
     ensures { (d : Description) (event : List ℕ) (p : Parts) (said : Said) (fault : EventError) → Takes d event p said → IsTakeFault d event fault → ⊥ }
+{}
+
+/// Of a whole event that isn't cut the fault is `Frame`: it is too short for what stands behind its body, or as a
+/// description for its fields.
+pub fn whole_events_are_refused_as_too_short()
+    ensures { (in_force : Footer) (event : List ℕ) (fault : EventError) → IsWhole event → IsCutFault in_force event fault → fault ≡ Frame }
 {}
 
 /// Two readers with equal descriptions in force take the same events, and give the same parts of them, whatever table maps

@@ -7,7 +7,7 @@ use rows_consts::BinlogVersion;
 use std::alloc::{AllocError, Global};
 
 /// The sum of the bytes, as a checksum.
-fn added(bytes: &[u8]) -> u32 {
+pub(crate) fn added(bytes: &[u8]) -> u32 {
     bytes
         .iter()
         .fold(0, |sum: u32, byte| sum.wrapping_add(u32::from(*byte)))
@@ -49,7 +49,7 @@ fn ends(alloc: Global, file: &mut BinlogFile<&[u8]>) -> bool {
 }
 
 /// A file of four events, with these bytes behind them.
-fn file_with(alloc: Global, behind: &[u8]) -> Result<Vec<u8>, AllocError> {
+pub(crate) fn file_with(alloc: Global, behind: &[u8]) -> Result<Vec<u8>, AllocError> {
     let mut file = Vec::from_slice(alloc, &BinlogFileHeader::VALUE)?;
     for part in [BEGIN, TABLE_MAP, INSERT, COMMIT, behind] {
         file.extend_from_slice(part)?;

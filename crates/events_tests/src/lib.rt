@@ -25,6 +25,8 @@ mod headers;
 #[cfg(test)]
 mod memory;
 #[cfg(test)]
+mod owned_events;
+#[cfg(test)]
 mod parts;
 #[cfg(test)]
 mod queries;

@@ -23,13 +23,13 @@ fn refuses(reader: &mut EventStreamReader, event: &[u8]) -> Option<EventError> {
 }
 
 /// A reader before its first event.
-fn reader(alloc: Global) -> EventStreamReader {
+fn reader(alloc: Global) -> Result<EventStreamReader, AllocError> {
     EventStreamReader::new(alloc, BinlogVersion::Version4)
 }
 
 #[test]
-fn rotate_clears_maps(rt: HostRuntime) {
-    let mut reader = reader(rt.alloc());
+fn rotate_clears_maps(rt: HostRuntime) -> Result<(), AllocError> {
+    let mut reader = reader(rt.alloc())?;
     assert!(rt;
         reader.get_tme(7).is_none()
             && takes(&mut reader, TABLE_MAP)
@@ -38,6 +38,7 @@ fn rotate_clears_maps(rt: HostRuntime) {
             && takes(&mut reader, ROTATE)
             && reader.get_tme(7).is_none()
     );
+    Ok(())
 }
 
 /// The number of columns of the table map that is kept for the id 7.
@@ -52,7 +53,7 @@ fn newest_table_map(rt: HostRuntime) -> Result<(), AllocError> {
     let two =
         b"\0\0\0\0\x13\x01\0\0\0\x26\0\0\0\x4f\0\0\0\0\0\x07\0\0\0\0\0\x01\0\x01d\0\x01t\0\x02\x03\x03\0\x03";
     let short = changed(alloc, TABLE_MAP, 27, 200)?;
-    let mut reader = reader(alloc);
+    let mut reader = reader(alloc)?;
     assert!(rt;
         takes(&mut reader, TABLE_MAP)
             && takes(&mut reader, TABLE_MAP)
@@ -67,8 +68,8 @@ fn newest_table_map(rt: HostRuntime) -> Result<(), AllocError> {
 
 // A description is in force from behind it on: events then end with a checksum.
 #[test]
-fn description_in_force(rt: HostRuntime) {
-    let mut reader = reader(rt.alloc());
+fn description_in_force(rt: HostRuntime) -> Result<(), AllocError> {
+    let mut reader = reader(rt.alloc())?;
     let short = b"\0\0\0\0\x10\x01\0\0\0\x16\0\0\0\0\0\0\0\0\0abc";
     assert!(rt;
         takes(&mut reader, short)
@@ -76,6 +77,7 @@ fn description_in_force(rt: HostRuntime) {
             && refuses(&mut reader, short) == Some(EventError::Frame)
             && reader.get_fde().server_version_raw() == b"5.6.1".as_slice()
     );
+    Ok(())
 }
 
 /// Whether the description with another byte at this place is refused so, and isn't in force then.
@@ -83,7 +85,9 @@ fn is_refused(alloc: Global, place: usize, byte: u8, fault: EventError) -> bool 
     let Ok(event) = changed(alloc, DESCRIPTION, place, byte) else {
         return false;
     };
-    let mut reader = reader(alloc);
+    let Ok(mut reader) = reader(alloc) else {
+        return false;
+    };
     refuses(&mut reader, &event) == Some(fault)
         && reader.get_fde().server_version_raw().is_empty()
         && takes(&mut reader, BEGIN)
@@ -104,8 +108,8 @@ fn refused_descriptions_not_in_force(rt: HostRuntime) {
 
 // A rotate whose position isn't whole, and bytes that are no header.
 #[test]
-fn refused_events(rt: HostRuntime) {
-    let mut reader = reader(rt.alloc());
+fn refused_events(rt: HostRuntime) -> Result<(), AllocError> {
+    let mut reader = reader(rt.alloc())?;
     let short = b"\0\0\0\0\x04\x01\0\0\0\x1a\0\0\0\0\0\0\0\0\0\x04\0\0\0\0\0\0";
     assert!(rt;
         takes(&mut reader, TABLE_MAP)
@@ -113,4 +117,5 @@ fn refused_events(rt: HostRuntime) {
             && refuses(&mut reader, &short[..18]) == Some(EventError::Eof)
             && reader.get_tme(7).is_some()
     );
+    Ok(())
 }

@@ -30,4 +30,4 @@ pub use events_rows::{
     RowsKind, UpdateRows, UpdateRowsEvent, UpdateRowsEventV1, UpdateRowsV1, WriteRows,
     WriteRowsEvent, WriteRowsEventV1, WriteRowsV1,
 };
-pub use events_stream::{BinlogFile, EventStreamReader, calc_checksum, write_event};
+pub use events_stream::{BinlogFile, Event, EventStreamReader, calc_checksum, write_event};
