@@ -1,17 +1,21 @@
 -- The texts of cells, one after the other.
-use Rattle.std.proofs.Common.{◌≡◌, ◌≤◌, ℕ, suc, List, [], ◌∷◌, ◌++◌, length, take, Option, Some, None, Result, Ok, Err, inl, inr, refl, sym, ap, ◌∙◌, append_assoc, arith}
+use Rattle.std.proofs.Common.{◌≡◌, ◌⊎◌, ◌≤◌, subst, false, true, ℕ, suc, List, [], ◌∷◌, ◌++◌, length, take, Option, Some, None, Result, Ok, Err, inl, inr, refl, sym, ap, ◌∙◌, append_assoc, arith}
 use Rattle.std.proofs.lemmas.List.{append-nil, length-take-le, take-append-le, take-take}
 use Rattle.rows_jsonb.specs.JsonbValues.{Reading, ◌>>=◌}
 use Rattle.std.proofs.Math.Seq.{take-append_seam}
+use Rattle.std.specs.Prelude.{IsSome}
 use Rattle.rows_values.specs.declared.fault.RowsError.{RowsError}
+use Rattle.rows_values.specs.declared.fault.RowsError.TheVariants.{Decimal}
+use Rattle.rows_jsonb.specs.JsonParsing.{Parses}
 use Rattle.rows_cells.specs.declared.cell.CellRef.{CellRef}
-use Rattle.rows_cells.specs.CellViews.{cell_value}
+use Rattle.rows_cells.specs.declared.cell.CellRef.TheVariants as ref
+use Rattle.rows_cells.specs.CellViews.{cell_value, IsReadable}
 use Rattle.rows_cells.specs.declared.image.ImageCells.{ImageCells}
 use Rattle.rows_cells.specs.declared.image.ImageField.{ImageField}
 use Rattle.rows_cells.specs.Images.{PlacedValue}
 use Rattle.rows_cells.proofs.FieldLemmas.{bind-ok}
 use Rattle.rows_cells.specs.ImageViews.{cells_left, cells_count, TakesCell, IsNextField, PassesField}
-use Rattle.feed_text.specs.CellText.{label, cell_text, Appends, IsCellRefused}
+use Rattle.feed_text.specs.CellText.{label, cell_text, Appends, IsCellRefused, PacksNone}
 use Rattle.feed_text.specs.FieldText.{WritesField}
 use Rattle.feed_text.specs.ImageText.{Cells, behind, cells_text, Gives, WritesFields, AppendsFields, PutsCells, StopsWithin, IsCellsRefused}
 
@@ -126,6 +130,17 @@ all_put old mid new before after a t = rw t.2 (record {
 pub stops_unread : (e : RowsError) (old mid new : ImageCells) (before after : List ℕ) → AppendsFields old mid before after → (let fault : Result (Option (ℕ × CellRef)) RowsError = Err e in TakesCell mid fault new) → StopsWithin e old before after
 stops_unread e old mid new before after a t = record { given = a.gives.given; text = a.text; left = cells_left mid; read = a.gives.read; is = a.gives.is; why = inr (inl t.0); appended = a.appended }
 
+-- a decimal that was read packs one
+packs_some : (cell : CellRef) → IsReadable cell → PacksNone cell → ⊥
+packs_some (ref.Decimal precision scale b) readable none = let clash : false ≡ true = subst (λ (o : Option (List ℕ)). IsSome o) none readable in absurd cc
+packs_some _ readable none = absurd none
+
+-- so a cell that was read is refused for its document alone
+document_alone : (e : RowsError) (place : ℕ) (cell : CellRef) → IsReadable cell → ((e ≡ Decimal) × PacksNone cell) ⊎ Parses (λ (t : List ℕ). t) (Err e) (cell_text place (cell_value cell))
+    → Parses (λ (t : List ℕ). t) (Err e) (cell_text place (cell_value cell))
+document_alone e place cell readable (inl none) = absurd (packs_some cell readable none.1)
+document_alone e place cell readable (inr why) = why
+
 -- a cell has no text, or memory was refused
 pub stops_unwritten : (e : RowsError) (old mid new : ImageCells) (place : ℕ) (cell : CellRef) (before one two : List ℕ) → AppendsFields old mid before one → TakesCell mid (Ok (Some (place, cell))) new → IsCellRefused e cell (cell_text place (cell_value cell)) one two → StopsWithin e old before two
 stops_unwritten e old mid new place cell before one two a t r = record {
@@ -134,7 +149,7 @@ stops_unwritten e old mid new place cell before one two a t r = record {
   left = cells_left mid;
   read = a.gives.read;
   is = a.gives.is;
-  why = inr (inr (place, cell, cells_left new, t.0, r.0));
+  why = inr (inr (record { place = place; value = cell_value cell }, cells_left new, t.0, document_alone e place cell t.2 r.0));
   appended = r.1 ∙ a.appended;
 }
 

@@ -62,8 +62,7 @@ pub record PutsCells (old new : ImageCells) (before after : List ℕ) : Type 0 w
 abbrev pub StopsAt : RowsError → Reading Cells → Type 0
 StopsAt e left =
     (e ≡ Memory) ⊎ ((left ≡ Err e)
-    ⊎ ((place : ℕ) × (cell : CellRef) × (more : Reading Cells) × (left ≡ behind (record { place = place; value = cell_value cell } ∷ []) more)
-    × (((e ≡ Decimal) × PacksNone cell) ⊎ Parses (λ t. t) (Err e) (cell_text place (cell_value cell)))))
+    ⊎ ((v : PlacedValue) × (more : Reading Cells) × (left ≡ behind (v ∷ []) more) × Parses (λ t. t) (Err e) (cell_text v.place v.value)))
 
 -- some cells have a text, which was appended, and those behind them have none
 pub record StopsWithin (e : RowsError) (cells : ImageCells) (before after : List ℕ) : Type 0 where
