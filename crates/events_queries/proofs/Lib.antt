@@ -3,3 +3,4 @@ pub mod LoadQueryLemmas
 pub mod FrontLemmas
 pub mod StatusVarLemmas
 pub mod FieldLemmas
+pub mod StatusVarEquality

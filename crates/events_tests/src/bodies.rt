@@ -11,22 +11,22 @@ use std::alloc::Global;
 use std::borrow::CowSlice;
 
 /// The log goes on in the file `mysql-bin.000002`, at its first event.
-const ROTATE: &[u8] = b"\x04\0\0\0\0\0\0\0mysql-bin.000002";
+pub(crate) const ROTATE: &[u8] = b"\x04\0\0\0\0\0\0\0mysql-bin.000002";
 
 /// The commit of the transaction 1234.
-const XID: &[u8] = b"\xd2\x04\0\0\0\0\0\0";
+pub(crate) const XID: &[u8] = b"\xd2\x04\0\0\0\0\0\0";
 
 /// The seeds 1032 and 0x04_030201.
-const RAND: &[u8] = b"\x08\x04\0\0\0\0\0\0\x01\x02\x03\x04\0\0\0\0";
+pub(crate) const RAND: &[u8] = b"\x08\x04\0\0\0\0\0\0\x01\x02\x03\x04\0\0\0\0";
 
 /// The next number of `AUTO_INCREMENT` is 300.
-const INTVAR: &[u8] = b"\x02\x2c\x01\0\0\0\0\0\0";
+pub(crate) const INTVAR: &[u8] = b"\x02\x2c\x01\0\0\0\0\0\0";
 
 /// The first block of the file 7.
-const BEGIN_LOAD: &[u8] = b"\x07\0\0\x01a,1\nb,2\n";
+pub(crate) const BEGIN_LOAD: &[u8] = b"\x07\0\0\x01a,1\nb,2\n";
 
 /// Events were lost.
-const INCIDENT: &[u8] = b"\x01\0\x0cgap \xff in log";
+pub(crate) const INCIDENT: &[u8] = b"\x01\0\x0cgap \xff in log";
 
 /// A statement behind the byte that means nothing.
 const ROWS_QUERY: &[u8] = b"\x05insert into t values (1)";

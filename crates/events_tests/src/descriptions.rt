@@ -2,7 +2,6 @@
 
 use crate::worked::{DESCRIPTION, changed};
 use events_frames::{BinlogEventFooter, EventError, EventParts, FormatDescriptionEvent};
-use linked_list_allocator::LocalHeap;
 use rows_consts::{BinlogChecksumAlg, BinlogVersion, EventType};
 use std::alloc::{AllocError, Global};
 use std::borrow::CowSlice;
@@ -20,7 +19,7 @@ fn description(alloc: Global, event: &[u8]) -> Result<FormatDescriptionEvent<'_>
 }
 
 /// A description of server 5.6.1 that names CRC-32, with these post-header lengths.
-fn made(lengths: &[u8]) -> FormatDescriptionEvent<'_> {
+pub(crate) fn made(lengths: &[u8]) -> FormatDescriptionEvent<'_> {
     let crc = BinlogEventFooter::new(BinlogChecksumAlg::BINLOG_CHECKSUM_ALG_CRC32);
     FormatDescriptionEvent::new(BinlogVersion::Version4)
         .with_server_version(CowSlice::Borrowed(b"5.6.1"))
@@ -182,59 +181,25 @@ fn has_lengths(description: &FormatDescriptionEvent<'_>, lengths: [u8; 4]) -> bo
         && description.get_event_type_header_length(EventType::WRITE_ROWS_EVENT) == lengths[3]
 }
 
+/// The post-header length of a type by a description that has these.
+fn length_of(lengths: &[u8], event_type: EventType) -> u8 {
+    made(lengths).get_event_type_header_length(event_type)
+}
+
+/// Whether the description that is worked out, and one that names two lengths, give the others those of servers today.
+fn fill_lengths(alloc: Global) -> bool {
+    let two = made(&[56, 12]);
+    match description(alloc, DESCRIPTION) {
+        Ok(read) => has_lengths(&read, [0, 13, 8, 10]) && has_lengths(&two, [56, 12, 8, 10]),
+        Err(_) => false,
+    }
+}
+
 #[test]
 fn post_header_lengths(rt: HostRuntime) {
-    let worked = match description(rt.alloc(), DESCRIPTION) {
-        Ok(read) => has_lengths(&read, [0, 13, 8, 10]),
-        Err(_) => false,
-    };
     assert!(rt;
-        worked
-            && has_lengths(&made(&[56, 12]), [56, 12, 8, 10])
-            && made(&[56, 12]).get_event_type_header_length(EventType::UNKNOWN_EVENT) == 0
-            && made(&[7; 19]).get_event_type_header_length(EventType::TABLE_MAP_EVENT) == 7
+        fill_lengths(rt.alloc())
+            && length_of(&[56, 12], EventType::UNKNOWN_EVENT) == 0
+            && length_of(&[7; 19], EventType::TABLE_MAP_EVENT) == 7
     );
-}
-
-/// What comes of a description behind two bytes where memory is for so many bytes, and how many bytes stand there then;
-/// none where not even the two find a place.
-fn written_in(
-    alloc: Global,
-    description: &FormatDescriptionEvent<'_>,
-    size: usize,
-) -> (Result<(), WireFault>, usize) {
-    let Ok(heap) = LocalHeap::new(alloc, size) else {
-        return (Ok(()), 0);
-    };
-    let mut out = Vec::new(&heap);
-    let Ok(()) = out.extend_from_slice(b"ab") else {
-        return (Ok(()), 0);
-    };
-    (description.serialize(&mut out), out.len())
-}
-
-/// In how many of the memories of up to so many bytes the description is written, in how many it is refused and what
-/// stood there stands, and in how many neither.
-fn outcomes(
-    alloc: Global,
-    description: &FormatDescriptionEvent<'_>,
-    sizes: usize,
-) -> (usize, usize, usize) {
-    let (mut written, mut refused, mut wrong) = (0usize, 0usize, 0usize);
-    for size in 1..=sizes {
-        match written_in(alloc, description, size) {
-            (Ok(()), 0) => {}
-            (Ok(()), 61) => written = written.wrapping_add(1),
-            (Err(WireFault::Memory), 2) => refused = refused.wrapping_add(1),
-            _ => wrong = wrong.wrapping_add(1),
-        }
-    }
-    (written, refused, wrong)
-}
-
-// Memory of each size is used up at another request.
-#[test]
-fn description_without_memory(rt: HostRuntime) {
-    let (written, refused, wrong) = outcomes(rt.alloc(), &made(&[56, 13]), 512);
-    assert!(rt; written > 0 && refused > 0 && wrong == 0);
 }

@@ -17,7 +17,7 @@ const PLAIN: &[u8] = &[
 
 /// The same with the flag and each optional field: the clock 6 and 7, the commit times 3 and 2, the length 300, the
 /// server versions 80036 and 80023, the ticket 9, and two bytes behind them.
-const FULL: &[u8] = &[
+pub(crate) const FULL: &[u8] = &[
     1, 1, 2, 3, 4, 5, 6, 7, 8, 9, 10, 11, 12, 13, 14, 15, 16, 5, 0, 0, 0, 0, 0, 0, 0, 2, 6, 0, 0,
     0, 0, 0, 0, 0, 7, 0, 0, 0, 0, 0, 0, 0, 3, 0, 0, 0, 0, 0, 128, 2, 0, 0, 0, 0, 0, 0, 252, 44, 1,
     164, 56, 1, 128, 151, 56, 1, 0, 9, 0, 0, 0, 0, 0, 0, 0, 170, 187,

@@ -9,6 +9,8 @@ mod descriptions;
 #[cfg(test)]
 mod devices;
 #[cfg(test)]
+mod event_data;
+#[cfg(test)]
 mod event_types;
 #[cfg(test)]
 mod example;

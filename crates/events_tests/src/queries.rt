@@ -10,14 +10,14 @@ use wire_buf::MySerialize;
 
 /// `drop table t` in the schema `test`, which the thread 9 ran in 1 second with the error 1051, with its options and
 /// its character sets.
-const QUERY: &[u8] =
+pub(crate) const QUERY: &[u8] =
     b"\x09\0\0\0\x01\0\0\0\x04\x1b\x04\x0c\0\0\0\0\0\0\x04\x21\0\x21\0\x08\0test\0drop table t";
 
 /// The status variables of both.
 const VARS: &[u8] = b"\0\0\0\0\0\x04\x21\0\x21\0\x08\0";
 
 /// A statement for the file 7, whose name stands in it from byte 10 to byte 14, and whose rows replace others.
-const LOAD: &[u8] =
+pub(crate) const LOAD: &[u8] =
     b"\x09\0\0\0\x01\0\0\0\x04\x1b\x04\x0c\0\x07\0\0\0\x0a\0\0\0\x0e\0\0\0\x02\0\0\0\0\0\x04\x21\0\x21\0\x08\0test\0LOAD DATA 'a' REPLACE";
 
 /// The text of that statement.

@@ -6,12 +6,13 @@ use events_rows::{RowsEventData, WriteRowsEvent};
 use rows_consts::{BinlogVersion, EventType};
 use rows_events::RowsEventType;
 use rows_meta::TableMapEvent;
-use std::alloc::Global;
+use rows_owned::BinlogRow;
+use std::alloc::{AllocError, Global};
 use wire_buf::MySerialize;
 
 /// Table 7, the flag of a statement's end and no extra data; two columns, of which the image before the change has the
 /// first and the one after it both.
-const UPDATE: &[u8] = b"\x07\0\0\0\0\0\x01\0\x02\0\x02\x01\x03rows";
+pub(crate) const UPDATE: &[u8] = b"\x07\0\0\0\0\0\x01\0\x02\0\x02\x01\x03rows";
 
 /// Reads the body of a rows event, where a description says no post-header lengths.
 fn read<'a>(
@@ -40,65 +41,122 @@ fn is_insert(event: &WriteRowsEvent<'_>) -> bool {
         && BinlogStruct::len(event, BinlogVersion::Version4) == 17
 }
 
-#[test]
-fn a_write_event(rt: HostRuntime) {
-    let alloc = rt.alloc();
-    let in_force = FormatDescriptionEvent::new(BinlogVersion::Version4);
-    let ctx = BinlogCtx::new(17, &in_force, 30);
-    let by_struct = read_struct::<WriteRowsEvent<'_>>(alloc, ctx, &INSERT[19..]);
-    let by_type = read(alloc, &in_force, RowsEventType::WriteRows, &INSERT[19..]);
-    match (by_struct, by_type) {
-        (Ok(first), Ok(RowsEventData::WriteRowsEvent(second))) => {
-            assert!(rt; is_insert(&first) && is_insert(&second) && first == second);
-        }
-        _ => assert!(rt; false),
+/// The inserted row, read as the struct of its type.
+fn by_struct<'a>(
+    alloc: Global,
+    in_force: &'a FormatDescriptionEvent<'a>,
+) -> Result<WriteRowsEvent<'a>, EventError> {
+    read_struct(alloc, BinlogCtx::new(17, in_force, 30), &INSERT[19..])
+}
+
+/// Whether the two are equal, and say the one inserted row.
+fn are_inserts(first: &WriteRowsEvent<'_>, second: &WriteRowsEvent<'_>) -> bool {
+    is_insert(first) && is_insert(second) && first == second
+}
+
+/// Whether the event is one of inserted rows that equals this one.
+fn is_same_insert(event: &RowsEventData<'_>, insert: &WriteRowsEvent<'_>) -> bool {
+    match event {
+        RowsEventData::WriteRowsEvent(event) => are_inserts(event, insert),
+        _ => false,
     }
 }
 
-/// Whether the event says the update, and is written as it was read.
-fn is_update(alloc: Global, event: RowsEventData<'_>) -> bool {
-    let (Some(before), Some(after)) = (event.columns_before_image(), event.columns_after_image())
-    else {
-        return false;
-    };
-    let bits = before.get(0) == Some(true)
-        && before.get(1) == Some(false)
-        && after.get(0) == Some(true)
-        && after.get(1) == Some(true);
-    let fields = event.table_id() == 7
+/// Whether the event is read by its type as this one.
+fn reads_insert(
+    alloc: Global,
+    in_force: &FormatDescriptionEvent<'_>,
+    insert: &WriteRowsEvent<'_>,
+) -> bool {
+    match read(alloc, in_force, RowsEventType::WriteRows, &INSERT[19..]) {
+        Ok(event) => is_same_insert(&event, insert),
+        Err(_) => false,
+    }
+}
+
+/// Whether the event is read as one by its struct and by its type.
+fn reads_both(alloc: Global, in_force: &FormatDescriptionEvent<'_>) -> bool {
+    match by_struct(alloc, in_force) {
+        Ok(insert) => reads_insert(alloc, in_force, &insert),
+        Err(_) => false,
+    }
+}
+
+#[test]
+fn a_write_event(rt: HostRuntime) {
+    let in_force = FormatDescriptionEvent::new(BinlogVersion::Version4);
+    assert!(rt; reads_both(rt.alloc(), &in_force));
+}
+
+/// Whether the images before the change have the first column, and those after it both.
+fn has_images(event: &RowsEventData<'_>) -> bool {
+    match (event.columns_before_image(), event.columns_after_image()) {
+        (Some(before), Some(after)) => {
+            before.get(0) == Some(true)
+                && before.get(1) == Some(false)
+                && after.get(0) == Some(true)
+                && after.get(1) == Some(true)
+        }
+        _ => false,
+    }
+}
+
+/// Whether the event says the update, as one of this type.
+fn is_update(event: &RowsEventData<'_>, event_type: EventType) -> bool {
+    event.event_type() == event_type
+        && event.table_id() == 7
         && event.num_columns() == 2
-        && event.rows_data() == b"rows".as_slice();
-    let Ok(owned) = event.into_owned(alloc) else {
-        return false;
-    };
+        && event.rows_data() == b"rows".as_slice()
+        && has_images(event)
+}
+
+/// Whether the event is written as the update.
+fn is_written(alloc: Global, event: &RowsEventData<'_>) -> bool {
     let mut out = Vec::new(alloc);
-    let Ok(()) = owned.serialize(&mut out) else {
-        return false;
-    };
-    bits && fields && out.as_slice() == UPDATE && owned.len() == UPDATE.len()
+    event.serialize(&mut out).is_ok() && out.as_slice() == UPDATE && event.len() == UPDATE.len()
+}
+
+/// The same event, borrowed from nothing.
+fn owned(alloc: Global, event: RowsEventData<'_>) -> Result<RowsEventData<'static>, AllocError> {
+    event.into_owned(alloc)
+}
+
+/// Whether the event says the update and is written as it, where it borrows nothing.
+fn is_kept(alloc: Global, event: RowsEventData<'_>, event_type: EventType) -> bool {
+    match owned(alloc, event) {
+        Ok(event) => is_update(&event, event_type) && is_written(alloc, &event),
+        Err(_) => false,
+    }
+}
+
+/// Whether the update is read as an event of this type, and written as it was read.
+fn keeps_update(alloc: Global, event_type: RowsEventType, named: EventType) -> bool {
+    let in_force = FormatDescriptionEvent::new(BinlogVersion::Version4);
+    match read(alloc, &in_force, event_type, UPDATE) {
+        Ok(event) => is_kept(alloc, event, named),
+        Err(_) => false,
+    }
 }
 
 #[test]
 fn updates_and_partial_updates(rt: HostRuntime) {
     let alloc = rt.alloc();
-    let in_force = FormatDescriptionEvent::new(BinlogVersion::Version4);
-    match read(alloc, &in_force, RowsEventType::UpdateRows, UPDATE) {
-        Ok(event) => {
-            assert!(rt;
-                event.event_type() == EventType::UPDATE_ROWS_EVENT && is_update(alloc, event)
-            );
-        }
-        Err(_) => assert!(rt; false),
-    }
-    match read(alloc, &in_force, RowsEventType::PartialUpdateRows, UPDATE) {
-        Ok(event) => {
-            assert!(rt;
-                event.event_type() == EventType::PARTIAL_UPDATE_ROWS_EVENT
-                    && is_update(alloc, event)
-            );
-        }
-        Err(_) => assert!(rt; false),
-    }
+    assert!(rt;
+        keeps_update(
+            alloc,
+            RowsEventType::UpdateRows,
+            EventType::UPDATE_ROWS_EVENT
+        ) && keeps_update(
+            alloc,
+            RowsEventType::PartialUpdateRows,
+            EventType::PARTIAL_UPDATE_ROWS_EVENT
+        )
+    );
+}
+
+/// The type and the number of columns of an event.
+fn said(event: &RowsEventData<'_>) -> (EventType, u64) {
+    (event.event_type(), event.num_columns())
 }
 
 /// The type and the number of columns that are read, or why none is.
@@ -108,8 +166,10 @@ fn columns(
     body: &[u8],
 ) -> Result<(EventType, u64), EventError> {
     let in_force = FormatDescriptionEvent::new(BinlogVersion::Version4);
-    let event = read(alloc, &in_force, event_type, body)?;
-    Ok((event.event_type(), event.num_columns()))
+    match read(alloc, &in_force, event_type, body) {
+        Ok(event) => Ok(said(&event)),
+        Err(fault) => Err(fault),
+    }
 }
 
 // Events of version 1 have no extra data, so that its size of 2 is taken for the number of columns.
@@ -136,24 +196,54 @@ fn types_and_refusals(rt: HostRuntime) {
     );
 }
 
+/// Whether the row was inserted, and has one column.
+fn is_inserted(pair: &(Option<BinlogRow>, Option<BinlogRow>)) -> bool {
+    match pair {
+        (None, Some(row)) => row.len() == 1,
+        _ => false,
+    }
+}
+
+/// Whether the event gives one inserted row, and then nothing more.
+fn gives_one_row(alloc: Global, map: &TableMapEvent<'_>, event: &RowsEventData<'_>) -> bool {
+    let mut rows = event.rows(alloc, map);
+    let is_given = match rows.next() {
+        Some(Ok(pair)) => is_inserted(&pair),
+        _ => false,
+    };
+    is_given && rows.next().is_none()
+}
+
+/// The map of the row's table.
+fn table_map<'a>(
+    alloc: Global,
+    in_force: &'a FormatDescriptionEvent<'a>,
+) -> Result<TableMapEvent<'a>, EventError> {
+    read_struct(alloc, BinlogCtx::new(18, in_force, 19), &TABLE_MAP[19..])
+}
+
+/// Whether the inserted row is read by this table map.
+fn reads_row(
+    alloc: Global,
+    in_force: &FormatDescriptionEvent<'_>,
+    map: &TableMapEvent<'_>,
+) -> bool {
+    match read(alloc, in_force, RowsEventType::WriteRows, &INSERT[19..]) {
+        Ok(event) => gives_one_row(alloc, map, &event),
+        Err(_) => false,
+    }
+}
+
+/// Whether the inserted row is read by its table map.
+fn reads_mapped_row(alloc: Global, in_force: &FormatDescriptionEvent<'_>) -> bool {
+    match table_map(alloc, in_force) {
+        Ok(map) => reads_row(alloc, in_force, &map),
+        Err(_) => false,
+    }
+}
+
 #[test]
 fn the_inserted_row(rt: HostRuntime) {
-    let alloc = rt.alloc();
     let in_force = FormatDescriptionEvent::new(BinlogVersion::Version4);
-    let ctx = BinlogCtx::new(18, &in_force, 19);
-    let map = read_struct::<TableMapEvent<'_>>(alloc, ctx, &TABLE_MAP[19..]);
-    let event = read(alloc, &in_force, RowsEventType::WriteRows, &INSERT[19..]);
-    let (Ok(map), Ok(event)) = (map, event) else {
-        assert!(rt; false);
-        return;
-    };
-    let mut rows = event.rows(alloc, &map);
-    match rows.next() {
-        Some(Ok(pair)) => {
-            let (before, after) = pair;
-            assert!(rt; before.is_none() && after.is_some_and(|row| row.len() == 1));
-        }
-        _ => assert!(rt; false),
-    }
-    assert!(rt; rows.next().is_none());
+    assert!(rt; reads_mapped_row(rt.alloc(), &in_force));
 }

@@ -1,6 +1,6 @@
 //! Status variables: each key's value, and how a block of them ends.
 
-use events_queries::{StatusVarVal, StatusVars, StatusVarsIterator};
+use events_queries::{StatusVar, StatusVarVal, StatusVars, StatusVarsIterator};
 use rows_consts::StatusVarKey as Key;
 use std::alloc::Global;
 use std::borrow::CowSlice;
@@ -10,16 +10,29 @@ use wire_seqs::Seq;
 /// The options 0, the character sets 33, 33 and 8, and a key that is never written.
 const BLOCK: &[u8] = b"\0\0\0\0\0\x04\x21\0\x21\0\x08\0\x0e\0";
 
+/// Whether the variable says this value.
+fn is_value(alloc: Global, var: &StatusVar<'_>, value: &StatusVarVal<'_>) -> bool {
+    match var.get_value(alloc) {
+        Ok(given) => given == *value,
+        Err(_) => false,
+    }
+}
+
 /// Whether the block's first variable has this key, stands as all the bytes behind it, and says this value.
-fn says(alloc: Global, block: &[u8], key: Key, value: StatusVarVal<'_>) -> bool {
+fn is_first(alloc: Global, block: &[u8], key: Key, value: &StatusVarVal<'_>) -> bool {
     match StatusVarsIterator::new(block).next() {
         Some(var) => {
             var.key() == key
                 && block.get(1..) == Some(var.value_raw())
-                && var.get_value(alloc) == Ok(value)
+                && is_value(alloc, &var, value)
         }
         None => false,
     }
+}
+
+/// Whether the block says this value of its one variable, which has the key.
+fn says(alloc: Global, block: &[u8], key: Key, value: StatusVarVal<'_>) -> bool {
+    is_first(alloc, block, key, &value)
 }
 
 /// Whether the next variable has this key and these bytes.

@@ -9,7 +9,7 @@ use std::alloc::Global;
 use wire_consts::{ItemResult, UnknownItemResultType};
 
 /// `@n`, an unsigned integer, 300.
-const UNSIGNED: &[u8] = b"\x01\0\0\0n\0\x02\x3f\0\0\0\x08\0\0\0\x2c\x01\0\0\0\0\0\0\x01";
+pub(crate) const UNSIGNED: &[u8] = b"\x01\0\0\0n\0\x02\x3f\0\0\0\x08\0\0\0\x2c\x01\0\0\0\0\0\0\x01";
 
 /// `@name`, the text `ab` in utf8mb4, of a server that writes no flags.
 const TEXT: &[u8] = b"\x04\0\0\0name\0\0\xff\0\0\0\x02\0\0\0ab";
