@@ -25,5 +25,6 @@ pub use events_rows::laws::{
 };
 pub use events_stream::laws::{
     events_are_taken_in_one_way, files_end_once, files_give_few_items,
-    table_maps_change_no_reading, taken_events_have_no_fault, whole_events_are_refused_as_too_short,
+    table_maps_change_no_reading, taken_events_have_no_fault,
+    whole_events_are_refused_as_too_short,
 };
