@@ -9,7 +9,7 @@ use crate::worked::{DESCRIPTION, INSERT, TABLE_MAP};
 use events_data::EventData;
 use events_frames::{BinlogCtx, EventError, FormatDescriptionEvent};
 use rows_consts::{BinlogVersion, EventType};
-use std::alloc::{AllocError, Global};
+use std::alloc::Global;
 use wire_buf::{MySerialize, WireFault};
 
 /// The body of an event of the type, where a description says no post-header lengths.
@@ -115,44 +115,68 @@ fn are_kept(
 }
 
 /// The same event, borrowed from nothing.
-fn owned(alloc: Global, event: EventData<'_>) -> Result<EventData<'static>, AllocError> {
-    event.into_owned(alloc)
+fn owned(alloc: Global, event: EventData<'_>) -> Result<EventData<'static>, EventError> {
+    Ok(event.into_owned(alloc)?)
 }
 
-/// Whether the event has this form and is written as the bytes, and one that is owned equals it.
-fn is_owned(
+/// The event of the type, borrowed from nothing.
+fn read_owned(
     alloc: Global,
-    event: &EventData<'_>,
-    again: EventData<'_>,
-    kept: Option<EventType>,
-    bytes: &[u8],
-) -> bool {
-    match owned(alloc, again) {
-        Ok(again) => are_kept(alloc, event, &again, kept, bytes),
-        Err(_) => false,
+    event_type: EventType,
+    body: &[u8],
+) -> Result<EventData<'static>, EventError> {
+    let in_force = FormatDescriptionEvent::new(BinlogVersion::Version4);
+    match read(alloc, &in_force, event_type, body) {
+        Ok(event) => owned(alloc, event),
+        Err(fault) => Err(fault),
     }
 }
 
-/// Whether the body is read once more as this event, also where it borrows nothing.
-fn is_read_again(
+/// The same as `are_kept`, of an event that is dropped then.
+fn is_same(
     alloc: Global,
-    event: &EventData<'_>,
+    first: EventData<'_>,
+    second: &EventData<'_>,
+    kept: Option<EventType>,
+    bytes: &[u8],
+) -> bool {
+    let are_kept = are_kept(alloc, &first, second, kept, bytes);
+    drop(first);
+    are_kept
+}
+
+/// Whether the body is read as this event, which has the form and is written as it was read.
+fn is_read(
+    alloc: Global,
+    owned: &EventData<'_>,
     event_type: EventType,
     kept: Option<EventType>,
     body: &[u8],
 ) -> bool {
     let in_force = FormatDescriptionEvent::new(BinlogVersion::Version4);
     match read(alloc, &in_force, event_type, body) {
-        Ok(again) => is_owned(alloc, event, again, kept, body),
+        Ok(event) => is_same(alloc, event, owned, kept, body),
         Err(_) => false,
     }
 }
 
+/// The same as `is_read`, of an event that is dropped then.
+fn is_read_once_more(
+    alloc: Global,
+    owned: EventData<'_>,
+    event_type: EventType,
+    kept: Option<EventType>,
+    body: &[u8],
+) -> bool {
+    let is_read = is_read(alloc, &owned, event_type, kept, body);
+    drop(owned);
+    is_read
+}
+
 /// Whether the body is read in this form and written as it was read, also where it borrows nothing.
 fn is_kept(alloc: Global, event_type: EventType, kept: Option<EventType>, body: &[u8]) -> bool {
-    let in_force = FormatDescriptionEvent::new(BinlogVersion::Version4);
-    match read(alloc, &in_force, event_type, body) {
-        Ok(event) => is_read_again(alloc, &event, event_type, kept, body),
+    match read_owned(alloc, event_type, body) {
+        Ok(event) => is_read_once_more(alloc, event, event_type, kept, body),
         Err(_) => false,
     }
 }

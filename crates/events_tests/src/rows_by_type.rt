@@ -4,7 +4,7 @@ use crate::worked::{INSERT, TABLE_MAP, changed};
 use events_frames::{BinlogCtx, BinlogStruct, EventError, FormatDescriptionEvent, read_struct};
 use events_rows::{RowsEventData, WriteRowsEvent};
 use rows_consts::{BinlogVersion, EventType};
-use rows_events::RowsEventType;
+use rows_events::{RowsEventRows, RowsEventType};
 use rows_meta::TableMapEvent;
 use rows_owned::BinlogRow;
 use std::alloc::{AllocError, Global};
@@ -62,6 +62,13 @@ fn is_same_insert(event: &RowsEventData<'_>, insert: &WriteRowsEvent<'_>) -> boo
     }
 }
 
+/// The same of an event that is dropped then.
+fn is_one_insert(event: RowsEventData<'_>, insert: &WriteRowsEvent<'_>) -> bool {
+    let is_same = is_same_insert(&event, insert);
+    drop(event);
+    is_same
+}
+
 /// Whether the event is read by its type as this one.
 fn reads_insert(
     alloc: Global,
@@ -69,7 +76,7 @@ fn reads_insert(
     insert: &WriteRowsEvent<'_>,
 ) -> bool {
     match read(alloc, in_force, RowsEventType::WriteRows, &INSERT[19..]) {
-        Ok(event) => is_same_insert(&event, insert),
+        Ok(event) => is_one_insert(event, insert),
         Err(_) => false,
     }
 }
@@ -121,10 +128,17 @@ fn owned(alloc: Global, event: RowsEventData<'_>) -> Result<RowsEventData<'stati
     event.into_owned(alloc)
 }
 
-/// Whether the event says the update and is written as it, where it borrows nothing.
+/// Whether the event says the update and is written as it.
+fn is_one_update(alloc: Global, event: RowsEventData<'_>, event_type: EventType) -> bool {
+    let is_one = is_update(&event, event_type) && is_written(alloc, &event);
+    drop(event);
+    is_one
+}
+
+/// The same of the event where it borrows nothing.
 fn is_kept(alloc: Global, event: RowsEventData<'_>, event_type: EventType) -> bool {
     match owned(alloc, event) {
-        Ok(event) => is_update(&event, event_type) && is_written(alloc, &event),
+        Ok(event) => is_one_update(alloc, event, event_type),
         Err(_) => false,
     }
 }
@@ -159,6 +173,13 @@ fn said(event: &RowsEventData<'_>) -> (EventType, u64) {
     (event.event_type(), event.num_columns())
 }
 
+/// The same of an event that is dropped then.
+fn said_once(event: RowsEventData<'_>) -> (EventType, u64) {
+    let said = said(&event);
+    drop(event);
+    said
+}
+
 /// The type and the number of columns that are read, or why none is.
 fn columns(
     alloc: Global,
@@ -167,7 +188,7 @@ fn columns(
 ) -> Result<(EventType, u64), EventError> {
     let in_force = FormatDescriptionEvent::new(BinlogVersion::Version4);
     match read(alloc, &in_force, event_type, body) {
-        Ok(event) => Ok(said(&event)),
+        Ok(event) => Ok(said_once(event)),
         Err(fault) => Err(fault),
     }
 }
@@ -204,14 +225,24 @@ fn is_inserted(pair: &(Option<BinlogRow>, Option<BinlogRow>)) -> bool {
     }
 }
 
-/// Whether the event gives one inserted row, and then nothing more.
-fn gives_one_row(alloc: Global, map: &TableMapEvent<'_>, event: &RowsEventData<'_>) -> bool {
-    let mut rows = event.rows(alloc, map);
-    let is_given = match rows.next() {
+/// Whether a row comes next that was inserted and has one column.
+fn gives_row(rows: &mut RowsEventRows<'_>) -> bool {
+    match rows.next() {
         Some(Ok(pair)) => is_inserted(&pair),
         _ => false,
-    };
-    is_given && rows.next().is_none()
+    }
+}
+
+/// Whether one inserted row comes, and then nothing more.
+fn gives_one_row(rows: &mut RowsEventRows<'_>) -> bool {
+    gives_row(rows) && rows.next().is_none()
+}
+
+/// Whether the event has one inserted row alone, by this table map.
+fn has_one_row(alloc: Global, map: &TableMapEvent<'_>, event: RowsEventData<'_>) -> bool {
+    let has_one = gives_one_row(&mut event.rows(alloc, map));
+    drop(event);
+    has_one
 }
 
 /// The map of the row's table.
@@ -229,7 +260,7 @@ fn reads_row(
     map: &TableMapEvent<'_>,
 ) -> bool {
     match read(alloc, in_force, RowsEventType::WriteRows, &INSERT[19..]) {
-        Ok(event) => gives_one_row(alloc, map, &event),
+        Ok(event) => has_one_row(alloc, map, event),
         Err(_) => false,
     }
 }
