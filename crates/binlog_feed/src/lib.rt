@@ -11,6 +11,6 @@ mod wire;
 pub use feed::follower::Follower;
 pub use feed::reporting::report;
 pub use feed::request::{RequestError, request};
-pub use feed_text::{put_value, quote};
 pub use feed_rules::{Verdict, name_of, status};
+pub use feed_text::{put_value, quote};
 pub use wire_streams::{MAX_READS, Watched};

@@ -1,6 +1,7 @@
 pub mod ReaderLemmas
 pub mod BodyLemmas
 pub mod PartLemmas
+pub mod DescriptionLemmas
 pub mod RuleLemmas
 pub mod KindLemmas
 pub mod BetweenLemmas

@@ -7,12 +7,13 @@ ghost use Rattle.rows_events.specs.RowsEvents.{RowsBody, IsRowsEvent};
 ghost use Rattle.rows_events.specs.declared.rows_event_ctx.RowsEventCtx.{RowsEventCtx};
 ghost use Rattle.events_bodies.specs.Bodies.{IsRotate, IsXid};
 ghost use Rattle.events_frames.specs.Events.{size_of};
-ghost use Rattle.events_frames.specs.EventParts.{Parts, IsEvent, least_behind};
+ghost use Rattle.events_frames.specs.EventParts.{Parts, IsEvent, Describes, least_behind};
+ghost use Rattle.events_frames.specs.Descriptions.{Description};
 ghost use Rattle.events_frames.specs.Footers.{Footer};
 ghost use Rattle.events_queries.specs.Queries.{IsQuery};
 ghost use Rattle.feed_rules.specs.Readers.{IsBodyOf};
 ghost use Rattle.feed_rules.specs.Bodies.{query_in, rotate_in, xid_in, table_map_in, rows_event_in};
-ghost use Rattle.feed_rules.specs.Events.{Event, header_of, content, parts, in_force};
+ghost use Rattle.feed_rules.specs.Events.{Event, header_of, content, parts, description_by, in_force};
 ghost use Rattle.feed_rules.specs.Rows.{texts_of_rows, rows_result, rows_in};
 ghost use Rattle.feed_rules.specs.Kinds.{Kind, is_inside, kinds};
 ghost use Rattle.feed_rules.specs.Checks.{fault_of};
@@ -35,6 +36,11 @@ pub fn bodies_are_read()
 pub fn parts_are_those_of_events()
     ensures one { (f : Footer) (e : Event) (p : Parts) → IsEvent f p e → p ≡ parts f e }
     ensures whole { (f : Footer) (e : Event) → size_of e ≡ length e → 19 + least_behind f (header_of e) (content e) ≤ length e → IsEvent f (parts f e) e }
+{}
+
+/// What a description says is computed as its grammar says it.
+pub fn descriptions_are_read()
+    ensures { (d : Description) (p : Parts) → Describes d p → d ≡ description_by p }
 {}
 
 /// What the first of some events show is the first of what all of them show, whatever the rules.
