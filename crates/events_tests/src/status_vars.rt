@@ -44,7 +44,7 @@ fn gives(vars: &mut StatusVarsIterator<'_>, key: Key, bytes: &[u8]) -> bool {
 }
 
 #[test]
-fn variables_of_a_block(rt: HostRuntime) {
+fn status_variables(rt: HostRuntime) {
     let vars = StatusVars::new(CowSlice::Borrowed(BLOCK));
     let mut iter = vars.iter();
     assert!(rt;
