@@ -30,16 +30,33 @@ fn read<'a>(
     Ok((value, buf.len()))
 }
 
+/// The value at the front of the bytes, borrowed from nothing, and how many bytes follow it.
+fn read_owned(
+    alloc: Global,
+    column: BinlogValueCtx<'_>,
+    bytes: &[u8],
+) -> Result<(BinlogValue<'static>, usize), RowsError> {
+    let (value, left) = read(alloc, column, bytes)?;
+    Ok((value.into_owned(alloc)?, left))
+}
+
+/// The plain value that the value is, or why it is none.
+fn plain(value: BinlogValue<'static>) -> Result<Value, BinlogValueToValueError> {
+    Value::try_from(value)
+}
+
+/// Whether the value is this plain one.
+fn is_this(value: BinlogValue<'static>, wanted: &Value) -> bool {
+    match plain(value) {
+        Ok(plain) => plain == *wanted,
+        Err(_) => false,
+    }
+}
+
 /// Whether the bytes begin with this plain value, before one byte, and it stays so when it is made owned.
 fn is_plain(alloc: Global, column: BinlogValueCtx<'_>, bytes: &[u8], wanted: &Value) -> bool {
-    let Ok((value, left)) = read(alloc, column, bytes) else {
-        return false;
-    };
-    let Ok(owned) = value.into_owned(alloc) else {
-        return false;
-    };
-    match Value::try_from(owned) {
-        Ok(plain) => left == 1 && plain == *wanted,
+    match read_owned(alloc, column, bytes) {
+        Ok((value, left)) => is_this(value, wanted) && left == 1,
         Err(_) => false,
     }
 }
@@ -47,7 +64,10 @@ fn is_plain(alloc: Global, column: BinlogValueCtx<'_>, bytes: &[u8], wanted: &Va
 /// Why the bytes are refused, or none where they aren't.
 fn refusal(alloc: Global, column: BinlogValueCtx<'_>, bytes: &[u8]) -> Option<RowsError> {
     match read(alloc, column, bytes) {
-        Ok(_) => None,
+        Ok(read) => {
+            drop(read);
+            None
+        }
         Err(fault) => Some(fault),
     }
 }
@@ -145,23 +165,27 @@ fn refused_cells_as_fields(rt: HostRuntime) {
     );
 }
 
-/// Whether the bytes are a JSON column's cell with this number, which no plain value is.
-fn is_document(alloc: Global, bytes: &[u8], wanted: i16) -> bool {
-    let Ok((value, 0)) = read(alloc, column(ColumnType::MYSQL_TYPE_JSON, b"\x04"), bytes) else {
-        return false;
-    };
-    let Ok(owned) = value.into_owned(alloc) else {
-        return false;
-    };
-    let is_number = match &owned {
+/// Whether the value is a document with this number.
+fn has_number(value: &BinlogValue<'static>, wanted: i16) -> bool {
+    match value {
         BinlogValue::Jsonb(JsonbValue::I16(number)) => *number == wanted,
         _ => false,
-    };
-    is_number
-        && match Value::try_from(owned) {
-            Ok(_) => false,
-            Err(refused) => refused == BinlogValueToValueError::ToJson,
-        }
+    }
+}
+
+/// Whether the value is a document with this number, which no plain value is.
+fn is_number(value: BinlogValue<'static>, wanted: i16) -> bool {
+    let has_number = has_number(&value, wanted);
+    plain(value).err() == Some(BinlogValueToValueError::ToJson) && has_number
+}
+
+/// Whether the bytes are a JSON column's cell with this number, which no plain value is.
+fn is_document(alloc: Global, bytes: &[u8], wanted: i16) -> bool {
+    let json = column(ColumnType::MYSQL_TYPE_JSON, b"\x04");
+    match read_owned(alloc, json, bytes) {
+        Ok((value, left)) => is_number(value, wanted) && left == 0,
+        Err(_) => false,
+    }
 }
 
 #[test]
@@ -169,19 +193,9 @@ fn documents_as_fields(rt: HostRuntime) {
     assert!(rt; is_document(rt.alloc(), b"\x03\0\0\0\x05\x02\x01", 258));
 }
 
-/// Whether the bytes are a partial JSON column's cell with two changes, a removal last, which no plain value is.
-fn are_changes(alloc: Global, bytes: &[u8]) -> bool {
-    let partial = BinlogValueCtx {
-        is_partial: true,
-        ..column(ColumnType::MYSQL_TYPE_JSON, b"\x04")
-    };
-    let Ok((value, 0)) = read(alloc, partial, bytes) else {
-        return false;
-    };
-    let Ok(owned) = value.into_owned(alloc) else {
-        return false;
-    };
-    let are_two = match &owned {
+/// Whether the value is two changes, a removal last.
+fn has_changes(value: &BinlogValue<'static>) -> bool {
+    match value {
         BinlogValue::JsonDiff(changes) => match changes.as_slice() {
             [first, last] => first.path() == b"$.a".as_slice()
                 && first.value() == Some(&JsonbValue::I16(1))
@@ -190,12 +204,25 @@ fn are_changes(alloc: Global, bytes: &[u8]) -> bool {
             _ => false,
         },
         _ => false,
+    }
+}
+
+/// Whether the value is two changes, a removal last, which no plain value is.
+fn are_two(value: BinlogValue<'static>) -> bool {
+    let has_changes = has_changes(&value);
+    plain(value).err() == Some(BinlogValueToValueError::JsonDiff) && has_changes
+}
+
+/// Whether the bytes are a partial JSON column's cell with two changes, a removal last, which no plain value is.
+fn are_changes(alloc: Global, bytes: &[u8]) -> bool {
+    let partial = BinlogValueCtx {
+        is_partial: true,
+        ..column(ColumnType::MYSQL_TYPE_JSON, b"\x04")
     };
-    are_two
-        && match Value::try_from(owned) {
-            Ok(_) => false,
-            Err(refused) => refused == BinlogValueToValueError::JsonDiff,
-        }
+    match read_owned(alloc, partial, bytes) {
+        Ok((value, left)) => are_two(value) && left == 0,
+        Err(_) => false,
+    }
 }
 
 #[test]

@@ -2,7 +2,7 @@
 
 use mysql_binlog_rows::{
     BinlogRow, BinlogRowCtx, BinlogValue, Bits, ColumnPlan, RowsError, RowsEvent, RowsEventCtx,
-    RowsEventType, TableMapEvent, Value,
+    RowsEventRows, RowsEventType, TableMapEvent, Value,
 };
 use std::alloc::Global;
 use std::test::Fail;
@@ -74,58 +74,155 @@ fn is_null(row: &BinlogRow, index: usize) -> bool {
     }
 }
 
+/// Whether the row has two values: the number, and the bytes or NULL.
+fn has_two(row: &BinlogRow, number: i64, bytes: Option<&[u8]>) -> bool {
+    let is_second = match bytes {
+        Some(bytes) => is_bytes(row, 1, bytes),
+        None => is_null(row, 1),
+    };
+    is_second && is_int(row, 0, number) && row.len() == 2
+}
+
+/// Whether the row of one value is at this place, by a column of this name in the table `t` of `d`.
+fn has_one_at(row: &BinlogRow, place: usize, name: &[u8]) -> bool {
+    match row.columns_ref() {
+        [column] => row.len() == 1
+            && row.place(0) == place
+            && column.name_ref() == name
+            && column.schema_ref() == b"d".as_slice()
+            && column.table_ref() == b"t".as_slice(),
+        _ => false,
+    }
+}
+
+/// Whether the rows are those before and after the update.
+fn is_update(pair: &(Option<BinlogRow>, Option<BinlogRow>)) -> bool {
+    match pair {
+        (Some(before), Some(after)) => has_two(before, 5, Some(b"ab")) && has_two(after, 6, None),
+        _ => false,
+    }
+}
+
+/// Whether the fault comes next.
+fn gives_fault(rows: &mut RowsEventRows<'_>, fault: RowsError) -> bool {
+    match rows.next() {
+        Some(Err(given)) => given == fault,
+        _ => false,
+    }
+}
+
+/// Whether the update comes, then the fault, and then nothing more.
+fn give_update(rows: RowsEventRows<'_>) -> bool {
+    let mut rows = rows;
+    let is_given = match rows.next() {
+        Some(Ok(pair)) => is_update(&pair),
+        _ => false,
+    };
+    is_given && gives_fault(&mut rows, RowsError::EndOfBody) && rows.next().is_none()
+}
+
+/// Whether the event of the update gives it by the map.
+fn is_updated(alloc: Global, map: &TableMapEvent<'_>) -> bool {
+    match event_of(alloc, RowsEventType::UpdateRows, UPDATE) {
+        Ok(event) => give_update(event.rows(alloc, map)),
+        Err(_) => false,
+    }
+}
+
 // Each row of an update is a pair; the one that isn't whole is the one fault, and nothing follows it.
 #[test]
-fn update_pairs_and_one_fault(rt: HostRuntime) -> Result<(), Fail> {
+fn update_pairs_and_one_fault(rt: HostRuntime) {
     let alloc = rt.alloc();
+    assert!(rt;
+        match map_of(alloc, MAP) {
+            Ok(map) => is_updated(alloc, &map),
+            Err(_) => false,
+        }
+    );
+}
+
+/// Whether the row was inserted, and is the second column's value alone.
+fn is_insert(pair: &(Option<BinlogRow>, Option<BinlogRow>)) -> bool {
+    match pair {
+        (None, Some(after)) => is_bytes(after, 0, b"xyz") && has_one_at(after, 1, b"@1"),
+        _ => false,
+    }
+}
+
+/// Whether the inserted row comes, and then nothing more.
+fn give_insert(rows: RowsEventRows<'_>) -> bool {
+    let mut rows = rows;
+    let is_given = match rows.next() {
+        Some(Ok(pair)) => is_insert(&pair),
+        _ => false,
+    };
+    is_given && rows.next().is_none()
+}
+
+/// The plan of the table.
+fn plan(alloc: Global) -> Result<ColumnPlan, RowsError> {
     let map = map_of(alloc, MAP)?;
-    let event = event_of(alloc, RowsEventType::UpdateRows, UPDATE)?;
-    let mut rows = event.rows(alloc, &map);
-    let (before, after) = rows.next().unwrap_or(Err(RowsError::Memory))?;
-    let before = before.expect(&rt, "a row before the update");
-    let after = after.expect(&rt, "a row after the update");
-    assert!(rt; is_int(&before, 0, 5) && is_bytes(&before, 1, b"ab") && before.len() == 2);
-    assert!(rt; is_int(&after, 0, 6) && is_null(&after, 1) && after.len() == 2);
-    assert!(rt; rows.next().and_then(|row| row.err()) == Some(RowsError::EndOfBody));
-    assert!(rt; rows.next().is_none());
-    Ok(())
+    Ok(ColumnPlan::new(alloc, &map)?)
+}
+
+/// Whether the event of the insert gives it by the plan.
+fn is_inserted(alloc: Global, plan: &ColumnPlan) -> bool {
+    match event_of(alloc, RowsEventType::WriteRows, INSERT) {
+        Ok(event) => give_insert(event.rows_by(alloc, plan)),
+        Err(_) => false,
+    }
 }
 
 // A value's index in the row isn't its place in the table where the image lacks columns.
 #[test]
-fn inserted_row_by_a_plan(rt: HostRuntime) -> Result<(), Fail> {
+fn inserted_row_by_a_plan(rt: HostRuntime) {
     let alloc = rt.alloc();
-    let map = map_of(alloc, MAP)?;
-    let plan = ColumnPlan::new(alloc, &map)?;
-    let event = event_of(alloc, RowsEventType::WriteRows, INSERT)?;
-    let mut rows = event.rows_by(alloc, &plan);
-    let (before, after) = rows.next().unwrap_or(Err(RowsError::Memory))?;
-    assert!(rt; before.is_none());
-    let after = after.expect(&rt, "an inserted row");
-    assert!(rt; is_bytes(&after, 0, b"xyz") && after.len() == 1);
-    assert!(rt; after.place(0) == 1);
-    let columns = after.columns_ref();
-    assert!(rt; columns.len() == 1);
-    assert!(rt; columns[0].name_ref() == b"@1".as_slice());
-    assert!(rt; columns[0].schema_ref() == b"d".as_slice());
-    assert!(rt; columns[0].table_ref() == b"t".as_slice());
-    assert!(rt; rows.next().is_none());
-    Ok(())
+    assert!(rt;
+        match plan(alloc) {
+            Ok(plan) => is_inserted(alloc, &plan),
+            Err(_) => false,
+        }
+    );
+}
+
+/// Whether the fault of the metadata comes, and then nothing more.
+fn give_fault(rows: RowsEventRows<'_>) -> bool {
+    let mut rows = rows;
+    gives_fault(&mut rows, RowsError::UnknownNumber) && rows.next().is_none()
+}
+
+/// Whether the event of the insert gives the fault of the map.
+fn is_faulty(alloc: Global, map: &TableMapEvent<'_>) -> bool {
+    match event_of(alloc, RowsEventType::WriteRows, INSERT) {
+        Ok(event) => give_fault(event.rows(alloc, map)),
+        Err(_) => false,
+    }
+}
+
+/// Whether nothing comes.
+fn give_nothing(rows: RowsEventRows<'_>) -> bool {
+    let mut rows = rows;
+    rows.next().is_none()
+}
+
+/// Whether the event without rows gives nothing by the map.
+fn is_empty(alloc: Global, map: &TableMapEvent<'_>) -> bool {
+    match event_of(alloc, RowsEventType::WriteRows, EMPTY) {
+        Ok(event) => give_nothing(event.rows(alloc, map)),
+        Err(_) => false,
+    }
 }
 
 // Where the table has no plan, that is the one fault; an event without rows doesn't ask for one.
 #[test]
-fn rows_without_a_plan(rt: HostRuntime) -> Result<(), Fail> {
+fn rows_without_a_plan(rt: HostRuntime) {
     let alloc = rt.alloc();
-    let map = map_of(alloc, BROKEN_MAP)?;
-    let event = event_of(alloc, RowsEventType::WriteRows, INSERT)?;
-    let mut rows = event.rows(alloc, &map);
-    assert!(rt; rows.next().and_then(|row| row.err()) == Some(RowsError::UnknownNumber));
-    assert!(rt; rows.next().is_none());
-    let empty = event_of(alloc, RowsEventType::WriteRows, EMPTY)?;
-    let mut rows = empty.rows(alloc, &map);
-    assert!(rt; rows.next().is_none());
-    Ok(())
+    assert!(rt;
+        match map_of(alloc, BROKEN_MAP) {
+            Ok(map) => is_faulty(alloc, &map) && is_empty(alloc, &map),
+            Err(_) => false,
+        }
+    );
 }
 
 /// Whether the value at the index is one change of a document.
@@ -155,34 +252,69 @@ fn is_refused(alloc: Global, ctx: BinlogRowCtx<'_>, bytes: &[u8], fault: RowsErr
     ParseBuf(bytes).parse::<BinlogRow>(alloc, ctx).err() == Some(fault)
 }
 
+/// The row at the front of the bytes.
+fn row<'a>(
+    alloc: Global,
+    ctx: BinlogRowCtx<'a>,
+    buf: &mut ParseBuf<'a>,
+) -> Result<BinlogRow, RowsError> {
+    Ok(buf.parse::<BinlogRow>(alloc, ctx)?)
+}
+
+/// Whether the row at the front has two values: the number, and the bytes or NULL.
+fn is_two<'a>(
+    alloc: Global,
+    ctx: BinlogRowCtx<'a>,
+    buf: &mut ParseBuf<'a>,
+    number: i64,
+    bytes: Option<&[u8]>,
+) -> bool {
+    match row(alloc, ctx, buf) {
+        Ok(row) => has_two(&row, number, bytes),
+        Err(_) => false,
+    }
+}
+
+/// Whether the images of the update are read one by one, and the one that isn't whole is refused.
+fn are_images(alloc: Global, ctx: BinlogRowCtx<'_>) -> bool {
+    let mut buf = ParseBuf(b"\x00\x05\0\0\0\x02ab\x02\x06\0\0\0\x00\x07");
+    is_two(alloc, ctx, &mut buf, 5, Some(b"ab"))
+        && is_two(alloc, ctx, &mut buf, 6, None)
+        && buf.len() == 2
+        && is_refused(alloc, ctx, buf.0, RowsError::EndOfBody)
+}
+
 // The images of an update one by one, each as a field: the next one follows it.
 #[test]
-fn row_as_a_field(rt: HostRuntime) -> Result<(), Fail> {
+fn row_as_a_field(rt: HostRuntime) {
     let alloc = rt.alloc();
-    let map = map_of(alloc, MAP)?;
-    let ctx = ctx_of(&map, Bits::lowest(b"\x03", 2), false);
-    let mut buf = ParseBuf(b"\x00\x05\0\0\0\x02ab\x02\x06\0\0\0\x00\x07");
-    let before = buf.parse::<BinlogRow>(alloc, ctx)?;
-    assert!(rt; is_int(&before, 0, 5) && is_bytes(&before, 1, b"ab") && before.len() == 2);
-    let after = buf.parse::<BinlogRow>(alloc, ctx)?;
-    assert!(rt; is_int(&after, 0, 6) && is_null(&after, 1) && after.len() == 2);
-    assert!(rt; buf.len() == 2 && is_refused(alloc, ctx, buf.0, RowsError::EndOfBody));
-    Ok(())
+    assert!(rt;
+        match map_of(alloc, MAP) {
+            Ok(map) => are_images(alloc, ctx_of(&map, Bits::lowest(b"\x03", 2), false)),
+            Err(_) => false,
+        }
+    );
+}
+
+/// Whether the image of the partial update is read as one change, before one byte.
+fn is_partial(alloc: Global, ctx: BinlogRowCtx<'_>) -> bool {
+    let mut buf = ParseBuf(PARTIAL_IMAGE);
+    match row(alloc, ctx, &mut buf) {
+        Ok(row) => is_change(&row, 0) && has_one_at(&row, 2, b"@2") && buf.len() == 1,
+        Err(_) => false,
+    }
 }
 
 // The null bits are over the columns in the image alone, and stand behind the part that its cells share.
 #[test]
-fn partial_row_as_a_field(rt: HostRuntime) -> Result<(), Fail> {
+fn partial_row_as_a_field(rt: HostRuntime) {
     let alloc = rt.alloc();
-    let map = map_of(alloc, JSON_MAP)?;
-    let ctx = ctx_of(&map, Bits::lowest(b"\x04", 3), true);
-    let mut buf = ParseBuf(PARTIAL_IMAGE);
-    let row = buf.parse::<BinlogRow>(alloc, ctx)?;
-    assert!(rt; is_change(&row, 0) && row.len() == 1 && row.place(0) == 2 && buf.len() == 1);
-    let columns = row.columns_ref();
-    assert!(rt; columns.len() == 1);
-    assert!(rt; columns[0].name_ref() == b"@2".as_slice());
-    Ok(())
+    assert!(rt;
+        match map_of(alloc, JSON_MAP) {
+            Ok(map) => is_partial(alloc, ctx_of(&map, Bits::lowest(b"\x04", 3), true)),
+            Err(_) => false,
+        }
+    );
 }
 
 // The context must have a bit for each column, the map these columns, and its optional metadata must be whole.

@@ -3,7 +3,7 @@
 use mysql_binlog_rows::jsonb::Value as JsonbValue;
 use mysql_binlog_rows::{
     BinlogRow, BinlogRowToRowError, BinlogValue, BinlogValueToValueError, CellForm, Column,
-    ImageColumn, Value, Width,
+    ImageColumn, Row, Value, Width,
 };
 use std::alloc::{AllocError, Global};
 use std::rc::RcSlice;
@@ -30,7 +30,7 @@ fn document(number: i16) -> Option<BinlogValue<'static>> {
 }
 
 /// A row of three values, the one in the middle as it is given.
-fn row(alloc: Global, middle: Option<BinlogValue<'static>>) -> Result<BinlogRow, Fail> {
+fn row(alloc: Global, middle: Option<BinlogValue<'static>>) -> Result<BinlogRow, AllocError> {
     let values = Vec::from_array(alloc, [number(1), middle, number(3)])?;
     Ok(BinlogRow::new(values, columns(alloc, 3)?))
 }
@@ -43,57 +43,127 @@ fn is_number(value: Option<&BinlogValue<'static>>, wanted: i64) -> bool {
     }
 }
 
-#[test]
-fn values_of_rows(rt: HostRuntime) -> Result<(), Fail> {
-    let row = row(rt.alloc(), number(2))?;
-    assert!(rt; row.len() == 3 && !row.is_empty());
-    assert!(rt;
-        is_number(row.as_ref(0), 1)
-            && is_number(row.as_ref(1), 2)
-            && is_number(row.as_ref(2), 3)
-            && row.as_ref(3).is_none()
-    );
-    Ok(())
+/// Whether the row has the numbers 1, 2 and 3.
+fn has_numbers(row: &BinlogRow) -> bool {
+    row.len() == 3
+        && !row.is_empty()
+        && is_number(row.as_ref(0), 1)
+        && is_number(row.as_ref(1), 2)
+        && is_number(row.as_ref(2), 3)
+        && row.as_ref(3).is_none()
 }
 
 #[test]
-fn empty_rows(rt: HostRuntime) -> Result<(), Fail> {
+fn values_of_rows(rt: HostRuntime) {
+    assert!(rt;
+        match row(rt.alloc(), number(2)) {
+            Ok(row) => has_numbers(&row),
+            Err(_) => false,
+        }
+    );
+}
+
+#[test]
+fn empty_rows(rt: HostRuntime) -> Result<(), AllocError> {
     let alloc = rt.alloc();
     let row = BinlogRow::new(Vec::new(alloc), columns(alloc, 0)?);
     assert!(rt; row.len() == 0 && row.is_empty() && row.as_ref(0).is_none());
     Ok(())
 }
 
-#[test]
-fn columns_in_common(rt: HostRuntime) -> Result<(), Fail> {
-    let row = row(rt.alloc(), number(2))?;
-    let shared = row.columns()?;
-    assert!(rt; row.columns_ref().len() == 3 && shared.as_slice() == row.columns_ref());
-    Ok(())
+/// Whether the row gives its columns, which both then have in common.
+fn shares_columns(row: &BinlogRow) -> bool {
+    match row.columns() {
+        Ok(shared) => row.columns_ref().len() == 3 && shared.as_slice() == row.columns_ref(),
+        Err(_) => false,
+    }
 }
 
 #[test]
-fn taken_values(rt: HostRuntime) -> Result<(), Fail> {
-    let mut row = row(rt.alloc(), number(2))?;
-    assert!(rt; is_number(row.take(1).as_ref(), 2));
-    assert!(rt; row.take(1).is_none() && row.take(3).is_none());
+fn columns_in_common(rt: HostRuntime) {
     assert!(rt;
-        row.len() == 3
-            && is_number(row.as_ref(0), 1)
-            && row.as_ref(1).is_none()
-            && is_number(row.as_ref(2), 3)
+        match row(rt.alloc(), number(2)) {
+            Ok(row) => shares_columns(&row),
+            Err(_) => false,
+        }
     );
-    Ok(())
+}
+
+/// Takes the value at the index.
+fn take(row: &mut BinlogRow, index: usize) -> Option<BinlogValue<'static>> {
+    row.take(index)
+}
+
+/// Whether the value that is taken at the index is this number.
+fn takes_number(row: &mut BinlogRow, index: usize, wanted: i64) -> bool {
+    let value = take(row, index);
+    let is_wanted = is_number(value.as_ref(), wanted);
+    drop(value);
+    is_wanted
+}
+
+/// Whether there is no value to take at the index.
+fn takes_none(row: &mut BinlogRow, index: usize) -> bool {
+    let value = take(row, index);
+    let is_none = value.is_none();
+    drop(value);
+    is_none
+}
+
+/// Whether the number 2 is taken from the middle once, and the row keeps its length and its other values.
+fn gives_middle(row: BinlogRow) -> bool {
+    let mut row = row;
+    takes_number(&mut row, 1, 2)
+        && takes_none(&mut row, 1)
+        && takes_none(&mut row, 3)
+        && row.len() == 3
+        && is_number(row.as_ref(0), 1)
+        && row.as_ref(1).is_none()
+        && is_number(row.as_ref(2), 3)
 }
 
 #[test]
-fn equal_rows(rt: HostRuntime) -> Result<(), Fail> {
+fn taken_values(rt: HostRuntime) {
+    assert!(rt;
+        match row(rt.alloc(), number(2)) {
+            Ok(row) => gives_middle(row),
+            Err(_) => false,
+        }
+    );
+}
+
+/// Whether the row is equal to one with this value in the middle, or unequal, as it is wanted.
+fn compares(
+    alloc: Global,
+    first: &BinlogRow,
+    middle: Option<BinlogValue<'static>>,
+    wanted: bool,
+) -> bool {
+    match row(alloc, middle) {
+        Ok(second) => (*first == second) == wanted && (*first != second) != wanted,
+        Err(_) => false,
+    }
+}
+
+/// Whether the row is compared by its values, before the one in the middle is taken and then.
+fn is_compared(alloc: Global, taken: BinlogRow) -> bool {
+    let mut taken = taken;
+    compares(alloc, &taken, number(2), true)
+        && compares(alloc, &taken, document(2), false)
+        && takes_number(&mut taken, 1, 2)
+        && compares(alloc, &taken, None, true)
+        && compares(alloc, &taken, number(2), false)
+}
+
+#[test]
+fn equal_rows(rt: HostRuntime) {
     let alloc = rt.alloc();
-    let mut taken = row(alloc, number(2))?;
-    assert!(rt; taken == row(alloc, number(2))? && taken != row(alloc, document(2))?);
-    let _value = taken.take(1);
-    assert!(rt; taken == row(alloc, None)? && taken != row(alloc, number(2))?);
-    Ok(())
+    assert!(rt;
+        match row(alloc, number(2)) {
+            Ok(row) => is_compared(alloc, row),
+            Err(_) => false,
+        }
+    );
 }
 
 /// The place of the value at the index; None where the row has none.
@@ -105,6 +175,24 @@ fn place(row: &BinlogRow, index: usize) -> Option<usize> {
     }
 }
 
+/// Whether the places of the row's three values are their indices.
+fn has_plain_places(row: &BinlogRow) -> bool {
+    place(row, 0) == Some(0)
+        && place(row, 1) == Some(1)
+        && place(row, 2) == Some(2)
+        && place(row, 3).is_none()
+}
+
+#[test]
+fn places_without_an_image(rt: HostRuntime) {
+    assert!(rt;
+        match row(rt.alloc(), None) {
+            Ok(row) => has_plain_places(&row),
+            Err(_) => false,
+        }
+    );
+}
+
 /// A column that has this place in the table.
 fn column_at(place: u32) -> ImageColumn {
     ImageColumn {
@@ -114,105 +202,149 @@ fn column_at(place: u32) -> ImageColumn {
     }
 }
 
-#[test]
-fn places_of_values(rt: HostRuntime) -> Result<(), Fail> {
-    let alloc = rt.alloc();
-    let plain = row(alloc, None)?;
-    assert!(rt;
-        place(&plain, 0) == Some(0)
-            && place(&plain, 1) == Some(1)
-            && place(&plain, 2) == Some(2)
-            && place(&plain, 3).is_none()
-    );
+/// A row of a number and no value, whose columns have the places 0 and 5.
+fn row_of_image(alloc: Global) -> Result<BinlogRow, AllocError> {
     let values = Vec::from_array(alloc, [number(1), None])?;
     let image = RcSlice::from_vec(Vec::from_array(alloc, [column_at(0), column_at(5)])?)?;
-    let mut row = BinlogRow::of_image(values, columns(alloc, 2)?, image);
-    assert!(rt; place(&row, 0) == Some(0) && place(&row, 1) == Some(5));
-    let _value = row.take(0);
-    assert!(rt; row.len() == 2 && place(&row, 0) == Some(0) && place(&row, 1) == Some(5));
-    Ok(())
+    Ok(BinlogRow::of_image(values, columns(alloc, 2)?, image))
 }
 
-/// The values of a row that has these two.
+/// Whether the row has the places 0 and 5, also once its first value is taken.
+fn keeps_places(row: BinlogRow) -> bool {
+    let mut row = row;
+    place(&row, 0) == Some(0)
+        && place(&row, 1) == Some(5)
+        && takes_number(&mut row, 0, 1)
+        && row.len() == 2
+        && place(&row, 0) == Some(0)
+        && place(&row, 1) == Some(5)
+}
+
+#[test]
+fn places_of_values(rt: HostRuntime) {
+    assert!(rt;
+        match row_of_image(rt.alloc()) {
+            Ok(row) => keeps_places(row),
+            Err(_) => false,
+        }
+    );
+}
+
+/// The values of a row of a number and a document.
 fn unwrapped(
     alloc: Global,
-    first: BinlogValue<'static>,
-    last: BinlogValue<'static>,
-) -> Result<Vec<BinlogValue<'static>>, Fail> {
+    first: i64,
+    last: i16,
+) -> Result<Vec<BinlogValue<'static>>, AllocError> {
     let mut values = Vec::new(alloc);
-    values.push(Some(first))?;
-    values.push(Some(last))?;
-    Ok(BinlogRow::new(values, columns(alloc, 2)?).unwrap(alloc)?)
+    values.push(Some(BinlogValue::Value(Value::Int(first))))?;
+    values.push(Some(BinlogValue::Jsonb(JsonbValue::I16(last))))?;
+    BinlogRow::new(values, columns(alloc, 2)?).unwrap(alloc)
+}
+
+/// Whether the value is this document.
+fn is_document(value: Option<&BinlogValue<'static>>, wanted: i16) -> bool {
+    match value {
+        Some(BinlogValue::Jsonb(JsonbValue::I16(number))) => *number == wanted,
+        _ => false,
+    }
 }
 
 #[test]
-fn unwrapped_rows(rt: HostRuntime) -> Result<(), Fail> {
-    let values = unwrapped(
-        rt.alloc(),
-        BinlogValue::Value(Value::Int(1)),
-        BinlogValue::Jsonb(JsonbValue::I16(2)),
-    )?;
+fn unwrapped_rows(rt: HostRuntime) {
     assert!(rt;
-        values.len() == 2 && is_number(values.get(0), 1) && values.get(1) == document(2).as_ref()
+        match unwrapped(rt.alloc(), 1, 2) {
+            Ok(values) => values.len() == 2
+                && is_number(values.get(0), 1)
+                && is_document(values.get(1), 2),
+            Err(_) => false,
+        }
     );
-    Ok(())
+}
+
+/// The row of plain values that a row is turned into.
+fn plain_row(alloc: Global, row: BinlogRow) -> Result<Row, BinlogRowToRowError> {
+    row.into_row(alloc)
+}
+
+/// Whether the value is this number.
+fn is_plain_number(value: Option<&Value>, wanted: i64) -> bool {
+    match value {
+        Some(Value::Int(number)) => *number == wanted,
+        _ => false,
+    }
+}
+
+/// Whether the row has three values and columns, the numbers 1 and 3 around one.
+fn is_plain(row: &Row) -> bool {
+    row.len() == 3
+        && row.columns_ref().len() == 3
+        && is_plain_number(row.as_ref(0), 1)
+        && is_plain_number(row.as_ref(2), 3)
+}
+
+/// Whether the row is turned into one of the numbers 1, 2 and 3.
+fn becomes_plain(alloc: Global, row: BinlogRow) -> bool {
+    match plain_row(alloc, row) {
+        Ok(plain) => is_plain(&plain) && is_plain_number(plain.as_ref(1), 2),
+        Err(_) => false,
+    }
 }
 
 #[test]
-fn rows_of_plain_values(rt: HostRuntime) -> Result<(), Fail> {
+fn rows_of_plain_values(rt: HostRuntime) {
     let alloc = rt.alloc();
-    let plain = row(alloc, number(2))?.into_row(alloc)?;
     assert!(rt;
-        plain.len() == 3
-            && plain.columns_ref().len() == 3
-            && plain.as_ref(0) == Some(&Value::Int(1))
-            && plain.as_ref(1) == Some(&Value::Int(2))
-            && plain.as_ref(2) == Some(&Value::Int(3))
+        match row(alloc, number(2)) {
+            Ok(row) => becomes_plain(alloc, row),
+            Err(_) => false,
+        }
     );
-    Ok(())
+}
+
+/// Whether the row, once the value in the middle is taken, is turned into one that has none there.
+fn becomes_plain_without_middle(alloc: Global, row: BinlogRow) -> bool {
+    let mut row = row;
+    drop(take(&mut row, 1));
+    match plain_row(alloc, row) {
+        Ok(plain) => is_plain(&plain) && plain.as_ref(1).is_none(),
+        Err(_) => false,
+    }
 }
 
 #[test]
-fn taken_values_stay_none(rt: HostRuntime) -> Result<(), Fail> {
+fn taken_values_stay_none(rt: HostRuntime) {
     let alloc = rt.alloc();
-    let mut row = row(alloc, document(2))?;
-    let _value = row.take(1);
-    let plain = row.into_row(alloc)?;
     assert!(rt;
-        plain.len() == 3
-            && plain.as_ref(0) == Some(&Value::Int(1))
-            && plain.as_ref(1).is_none()
-            && plain.as_ref(2) == Some(&Value::Int(3))
+        match row(alloc, document(2)) {
+            Ok(row) => becomes_plain_without_middle(alloc, row),
+            Err(_) => false,
+        }
     );
-    Ok(())
 }
 
 /// Why a row with this value in the middle is no row of plain values.
-fn refusal(
-    alloc: Global,
-    middle: Option<BinlogValue<'static>>,
-) -> Result<Option<BinlogRowToRowError>, Fail> {
-    Ok(row(alloc, middle)?.into_row(alloc).err())
+fn refusal(alloc: Global, middle: Option<BinlogValue<'static>>) -> Option<BinlogRowToRowError> {
+    match row(alloc, middle) {
+        Ok(row) => plain_row(alloc, row).err(),
+        Err(_) => None,
+    }
+}
+
+/// That the value in the middle is no plain one.
+fn in_the_middle(error: BinlogValueToValueError) -> Option<BinlogRowToRowError> {
+    Some(BinlogRowToRowError {
+        column_offset: 1,
+        error,
+    })
 }
 
 #[test]
-fn refused_values(rt: HostRuntime) -> Result<(), Fail> {
+fn refused_values(rt: HostRuntime) {
     let alloc = rt.alloc();
-    assert!(rt;
-        refusal(alloc, document(2))?
-            == Some(BinlogRowToRowError {
-                column_offset: 1,
-                error: BinlogValueToValueError::ToJson,
-            })
-    );
-    assert!(rt;
-        refusal(alloc, Some(BinlogValue::JsonDiff(Vec::new(alloc))))?
-            == Some(BinlogRowToRowError {
-                column_offset: 1,
-                error: BinlogValueToValueError::JsonDiff,
-            })
-    );
-    Ok(())
+    let changes = Some(BinlogValue::JsonDiff(Vec::new(alloc)));
+    assert!(rt; refusal(alloc, changes) == in_the_middle(BinlogValueToValueError::JsonDiff));
+    assert!(rt; refusal(alloc, document(2)) == in_the_middle(BinlogValueToValueError::ToJson));
 }
 
 #[test]
