@@ -1,5 +1,7 @@
 pub mod ReaderLemmas
 pub mod BodyLemmas
+pub mod BodyKindLemmas
+pub mod KindReadLemmas
 pub mod PartLemmas
 pub mod DescriptionLemmas
 pub mod RuleLemmas

@@ -4,6 +4,7 @@ pub mod Bodies
 pub mod Events
 pub mod Rows
 pub mod Kinds
+pub mod KindViews
 pub mod Checks
 pub mod Transactions
 pub mod Rules

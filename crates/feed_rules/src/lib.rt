@@ -2,8 +2,10 @@
 //! why.
 #![tactic(auto)]
 
+mod event_kind;
 pub mod laws;
 mod verdict;
 pub mod worked;
 
+pub use event_kind::{EventKind, Gtid};
 pub use verdict::{Verdict, name_of, status};
