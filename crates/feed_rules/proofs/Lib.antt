@@ -9,3 +9,4 @@ pub mod KindLemmas
 pub mod BetweenLemmas
 pub mod WholeLemmas
 pub mod LineLemmas
+pub mod RowLineLemmas

@@ -3,6 +3,7 @@ pub mod Readers
 pub mod Bodies
 pub mod Events
 pub mod Rows
+pub mod RowLines
 pub mod Kinds
 pub mod KindViews
 pub mod Checks

@@ -63,13 +63,13 @@ row_texts (row ∷ rows) = do
   more ← row_texts rows
   Ok (texts ∷ more)
 
+abbrev pub value_or_none : {A : Type 0} → Reading A → Option A
+value_or_none (Ok x) = Some x
+value_or_none (Err e) = None
+
 -- the texts of all rows, where all can be read
 abbrev pub walked_texts : Walked (List (List PlacedValue)) → Option (List (List (List ℕ)))
-walked_texts w = elim w.fault [ None ↦ found (row_texts w.items) | Some e ↦ None ]
-  where
-    found : Reading (List (List (List ℕ))) → Option (List (List (List ℕ)))
-    found (Ok texts) = Some texts
-    found (Err e) = None
+walked_texts w = elim w.fault [ None ↦ value_or_none (row_texts w.items) | Some e ↦ None ]
 
 -- the texts of the rows of an event under a table map
 unfoldable pub texts_of_rows : RowsBody → TableMap → Option (List (List (List ℕ)))

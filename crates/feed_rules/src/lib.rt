@@ -3,9 +3,11 @@
 #![tactic(auto)]
 
 mod event_kind;
+mod lines;
 pub mod laws;
 mod verdict;
 pub mod worked;
 
 pub use event_kind::{EventKind, Gtid};
+pub use lines::put_lines;
 pub use verdict::{Verdict, name_of, status};

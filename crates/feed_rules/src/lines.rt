@@ -1,0 +1,101 @@
+//! The lines of rows.
+
+ghost use Rattle.std.specs.Prelude.{◌≡◌, ◌++◌, IfOk, IfErr, OnOk};
+ghost use Rattle.rows_cells.specs.ImageViews.{image_shape};
+ghost use Rattle.rows_cells.specs.RowViews.{row_shape};
+ghost use Rattle.feed_text.specs.Buffers.{text_in};
+ghost use Rattle.feed_rules.specs.RowLines.{row_verdict, IsRowRefused, image_text_at, images_texts_at, row_texts_at, rows_texts_at, PutsImage, PutsImages, PutsRow, PutsLines, IsLinesRefused};
+
+use crate::verdict::Verdict;
+use feed_text::TextBuffer;
+use rows_cells::{ImageCells, ImagePlan, RowPlan};
+use rows_values::RowsError;
+use std::alloc::{Allocator, Global};
+
+/// What a fault of rows is to the feed.
+fn row_verdict(fault: RowsError) -> Verdict
+    ensures { result ≡ row_verdict fault }
+{
+    match fault {
+        RowsError::Memory => Verdict::Memory,
+        _ => Verdict::Row,
+    }
+}
+
+/// Appends the text of the image at the front of the bytes, and answers what follows it.
+fn put_image<'a, A: Allocator>(
+    alloc: Global,
+    plan: ImagePlan<'_>,
+    bytes: &'a [u8],
+    text: &mut TextBuffer<A>,
+) -> Result<&'a [u8], Verdict>
+    ensures ok { IfOk result (λ rest. PutsImage (image_shape plan.entry) bytes.now rest.now (text_in text.old) (text_in text.new)) }
+    ensures err { IfErr result (IsRowRefused (image_text_at (image_shape plan.entry) bytes.now)) }
+{
+    let mut cells = match ImageCells::of(plan, bytes) {
+        Ok(cells) => cells,
+        Err(fault) => return Err(row_verdict(fault)),
+    };
+    match text.put_cells(alloc, &mut cells) {
+        Ok(()) => Ok(cells.rest()),
+        Err(fault) => Err(row_verdict(fault)),
+    }
+}
+
+/// Appends the texts of the images of a row, with ` to` between two, and answers what follows them.
+fn put_images<'a, A: Allocator>(
+    alloc: Global,
+    plan: RowPlan<'_>,
+    bytes: &'a [u8],
+    text: &mut TextBuffer<A>,
+) -> Result<&'a [u8], Verdict>
+    ensures ok { IfOk result (λ rest. PutsImages (row_shape plan.entry) bytes.now rest.now (text_in text.old) (text_in text.new)) }
+    ensures err { IfErr result (IsRowRefused (images_texts_at (row_shape plan.entry) bytes.now)) }
+{
+    let rest = put_image(alloc, plan.first, bytes, text)?;
+    let Some(second) = plan.second else {
+        return Ok(rest);
+    };
+    text.put_text(b" to")?;
+    put_image(alloc, second, rest, text)
+}
+
+/// Appends the text of the row at the front, and answers what follows it.
+fn put_row<'a, A: Allocator>(
+    alloc: Global,
+    plan: RowPlan<'_>,
+    bytes: &'a [u8],
+    text: &mut TextBuffer<A>,
+) -> Result<&'a [u8], Verdict>
+    ensures ok { IfOk result (λ rest. PutsRow (row_shape plan.entry) bytes.now rest.now (text_in text.old) (text_in text.new)) }
+    ensures err { IfErr result (IsRowRefused (row_texts_at (row_shape plan.entry) bytes.now)) }
+{
+    let rest = put_images(alloc, plan, bytes, text)?;
+    if rest.len() >= bytes.len() {
+        return Err(Verdict::Row);
+    }
+    Ok(rest)
+}
+
+/// Appends a line for each row, each of which begins so: the rows that the bytes are, to their end.
+///
+/// `Row` where a row can't be read, or has no text, or takes no bytes, and `Memory` for want of memory; some of the lines are
+/// put then.
+pub fn put_lines<A: Allocator>(
+    alloc: Global,
+    plan: RowPlan<'_>,
+    start: &[u8],
+    rows_data: &[u8],
+    text: &mut TextBuffer<A>,
+) -> Result<(), Verdict>
+    ensures ok { OnOk result (PutsLines (row_shape plan.entry) start.now rows_data.now (text_in text.old) (text_in text.new)) }
+    ensures err { IfErr result (IsLinesRefused (rows_texts_at (row_shape plan.entry) rows_data.now)) }
+{
+    let mut rest = rows_data;
+    while !rest.is_empty() {
+        text.put_text(start)?;
+        rest = put_row(alloc, plan, rest, text)?;
+        text.put(b'\n')?;
+    }
+    Ok(())
+}
