@@ -1,7 +1,7 @@
 -- The text of rows, put image after image, is that of the rows as the definitions say it.
 use Rattle.std.proofs.Common.{◌≡◌, ◌⊎◌, inl, inr, ◌≤◌, ◌<◌, ℕ, zero, suc, Bool, true, false, List, [], ◌∷◌, ◌++◌, length, Option, Some, None, Ok, Err, refl, sym, ap, subst, ◌∙◌, append_assoc, arith}
 use Rattle.std.specs.Borrow.{Bor}
-use Rattle.std.specs.Prelude.{codes, nat_lt, option_map, if◌then◌else◌, IfOk, IfErr, Result}
+use Rattle.std.specs.Prelude.{codes, nat_lt, option_map, if◌then◌else◌, IfOk, IfErr, OnOk, Result}
 use Rattle.std.proofs.lemmas.Bool.Decides.{nat_tests}
 use Rattle.std.specs.List.{flat_map}
 use Rattle.std.proofs.lemmas.Bool.{lt-ltb}
@@ -10,18 +10,22 @@ use Rattle.rows_cells.specs.Images.{PlacedValue, ImageShape, image_at}
 use Rattle.rows_cells.specs.EventRows.{images_at, some_taken, row_at}
 use Rattle.rows_cells.specs.ImageViews.{cells_left}
 use Rattle.rows_cells.specs.declared.image.ImageCells.{ImageCells}
-use Rattle.rows_jsonb.specs.Items.{Walked, item_before, walk}
+use Rattle.rows_jsonb.specs.Items.{Walked, item_before, walk, items_at}
 use Rattle.rows_jsonb.specs.JsonParsing.{IsNone, Parses}
 use Rattle.rows_jsonb.specs.JsonbValues.{Reading, ◌>>=◌}
 use Rattle.rows_jsonb.proofs.ItemLemmas.{walk_on, walk_done}
 use Rattle.rows_values.specs.declared.fault.RowsError.{RowsError}
 use Rattle.rows_values.specs.declared.fault.RowsError.TheVariants as fault
+use Rattle.std.specs.Bool.{⊤}
+use Rattle.rows_plan.specs.ImageShapes.{TablePlan}
+use Rattle.rows_events.specs.EventShapes.{event_shapes, row_read}
+use Rattle.rows_events.specs.RowsEvents.{RowsBody}
 use Rattle.feed_text.specs.CellText.{cell_text}
 use Rattle.feed_text.specs.ImageText.{cells_text, Cells, behind, PutsCells, StopsAt, IsCellsRefused}
 use Rattle.feed_rules.specs.declared.verdict.Verdict.{Verdict}
 use Rattle.feed_rules.specs.declared.verdict.Verdict.TheVariants as verdicts
-use Rattle.feed_rules.specs.Rows.{image_texts, row_texts, value_or_none, walked_texts}
-use Rattle.feed_rules.specs.RowLines.{row_verdict, IsRowRefused, with_text, image_text_at, with_texts, images_texts_at, row_texts_at, PutsImage, PutsImages, PutsRow, PutsLines, IsLinesRefused, line_of}
+use Rattle.feed_rules.specs.Rows.{image_texts, row_texts, value_or_none, walked_texts, event_texts}
+use Rattle.feed_rules.specs.RowLines.{row_verdict, IsRowRefused, with_text, image_text_at, with_texts, images_texts_at, row_texts_at, PutsImage, PutsImages, PutsRow, PutsLines, PutsRows, IsLinesRefused, line_of}
 use Rattle.feed_rules.specs.Texts.{images_text}
 
 -- ---- readings without a value
@@ -295,3 +299,52 @@ second_not_put s t bytes mid before first (Err v) p q = second_refused s t bytes
 
 pub not_shorter : (n m : ℕ) → m ≤ n → nat_lt n m ≡ false
 not_shorter n m h = grind (arith, nat_tests)
+
+-- ---- the rows of an event
+
+pub no_rows : (r : RowsBody) (p : TablePlan) (start before : List ℕ) → length r.rows_data ≡ 0 → PutsRows r p start before before
+unfolding row_texts
+no_rows r p start before e = record { texts = []; are = of r.rows_data e; appended = sym (append-nil before) }
+  where
+    of : (x : List ℕ) → length x ≡ 0 → walked_texts (items_at (row_read r p) x) ≡ Some []
+    of [] e = ap walked_texts (walk_done (row_read r p) 0)
+    of (b ∷ x) e = absurd (omega (arith, e))
+
+-- the columns of its images have no plan
+pub rows_unread : (r : RowsBody) (p : TablePlan) (e : RowsError) → 0 < length r.rows_data → event_shapes r p ≡ Err e → event_texts r p ≡ None
+rows_unread r p e some h = of (length r.rows_data) refl
+  where
+    of : (n : ℕ) → n ≡ length r.rows_data → walked_texts (walk (row_read r p) n r.rows_data) ≡ None
+    of zero same = absurd (omega (arith, same, some))
+    of (suc n) same =
+        let read : row_read r p r.rows_data ≡ Err e = ap (λ (o : Reading (List ImageShape)). o >>= λ shapes. row_at shapes r.rows_data) h in
+        ap walked_texts (walk_on (row_read r p) n r.rows_data (Err e) some (omega (arith, same)) read)
+
+texts_by : (r : RowsBody) (p : TablePlan) (shapes : List ImageShape) → event_shapes r p ≡ Ok shapes → event_texts r p ≡ walked_texts (items_at (row_at shapes) r.rows_data)
+texts_by r p shapes h = ap (λ (o : Reading (List ImageShape)). walked_texts (items_at (λ bytes. o >>= λ s. row_at s bytes) r.rows_data)) h
+
+pub rows_put : (r : RowsBody) (p : TablePlan) (shapes : List ImageShape) (start before after : List ℕ) → event_shapes r p ≡ Ok shapes → PutsLines shapes start r.rows_data before after → PutsRows r p start before after
+rows_put r p shapes start before after h l = record { texts = l.texts; are = texts_by r p shapes h ∙ l.are; appended = l.appended }
+
+pub rows_refused : (r : RowsBody) (p : TablePlan) (shapes : List ImageShape) (v : Verdict) → event_shapes r p ≡ Ok shapes → IsLinesRefused (walked_texts (items_at (row_at shapes) r.rows_data)) v → IsLinesRefused (event_texts r p) v
+rows_refused r p shapes v h l = subst (λ (o : Option (List (List (List ℕ)))). IsLinesRefused o v) (sym (texts_by r p shapes h)) l
+
+-- a fault of the columns is one of rows
+pub columns_refused : (r : RowsBody) (p : TablePlan) (e : RowsError) (v : Verdict) → v ≡ row_verdict e → 0 < length r.rows_data → (e ≡ fault.Memory) ⊎ (event_shapes r p ≡ Err e) → IsLinesRefused (event_texts r p) v
+columns_refused r p e v is some (inl m) = rw (is, m) (inr refl)
+columns_refused r p e v is some (inr h) =
+    elim (refused_by (event_shapes r p) e (inr (rw h tt))) as (λ _. IsLinesRefused (event_texts r p) v) [
+      | inl row ↦ rw is (inl (row.0, rows_unread r p e some h))
+      | inr m ↦ rw is (inr m)
+    ]
+
+-- what the code's call answers
+pub lines_put_or_not : (r : RowsBody) (p : TablePlan) (shapes : List ImageShape) (a : Result ⊤ Verdict) → event_shapes r p ≡ Ok shapes → IfErr a (IsLinesRefused (walked_texts (items_at (row_at shapes) r.rows_data)))
+    → IfErr a (IsLinesRefused (event_texts r p))
+lines_put_or_not r p shapes (Ok x) h l = tt
+lines_put_or_not r p shapes (Err v) h l = rows_refused r p shapes v h l
+
+pub lines_put : (r : RowsBody) (p : TablePlan) (shapes : List ImageShape) (start bytes before after : List ℕ) (a : Result ⊤ Verdict) → event_shapes r p ≡ Ok shapes → bytes ≡ r.rows_data → OnOk a (PutsLines shapes start bytes before after)
+    → OnOk a (PutsRows r p start before after)
+lines_put r p shapes start bytes before after (Ok x) h e l = rows_put r p shapes start before after h (subst (λ (b : List ℕ). PutsLines shapes start b before after) e l)
+lines_put r p shapes start bytes before after (Err v) h e l = tt

@@ -8,10 +8,12 @@ use Rattle.rows_jsonb.specs.JsonParsing.{IsNone}
 use Rattle.rows_jsonb.specs.JsonbValues.{Reading, ◌>>=◌}
 use Rattle.rows_values.specs.declared.fault.RowsError.{RowsError}
 use Rattle.rows_values.specs.declared.fault.RowsError.TheVariants as fault
+use Rattle.rows_plan.specs.ImageShapes.{TablePlan}
+use Rattle.rows_events.specs.RowsEvents.{RowsBody}
 use Rattle.feed_text.specs.ImageText.{cells_text}
 use Rattle.feed_rules.specs.declared.verdict.Verdict.{Verdict}
 use Rattle.feed_rules.specs.declared.verdict.Verdict.TheVariants as verdicts
-use Rattle.feed_rules.specs.Rows.{image_texts, walked_texts}
+use Rattle.feed_rules.specs.Rows.{image_texts, walked_texts, event_texts}
 use Rattle.feed_rules.specs.Texts.{ended, images_text}
 
 -- what a fault of rows is to the feed
@@ -81,3 +83,9 @@ pub record PutsLines (shapes : List ImageShape) (start bytes before after : List
 
 abbrev pub IsLinesRefused : Option (List (List (List ℕ))) → Verdict → Type 0
 IsLinesRefused texts v = ((v ≡ verdicts.Row) × (texts ≡ None)) ⊎ (v ≡ verdicts.Memory)
+
+-- the lines of an event's rows were put, by the plan of its table
+pub record PutsRows (r : RowsBody) (p : TablePlan) (start before after : List ℕ) : Type 0 where
+  pub texts : List (List (List ℕ))
+  pub are : event_texts r p ≡ Some texts
+  pub appended : after ≡ before ++ flat_map (line_of start) texts

@@ -71,9 +71,13 @@ value_or_none (Err e) = None
 abbrev pub walked_texts : Walked (List (List PlacedValue)) → Option (List (List (List ℕ)))
 walked_texts w = elim w.fault [ None ↦ value_or_none (row_texts w.items) | Some e ↦ None ]
 
--- the texts of the rows of an event under a table map
+-- the texts of the rows of an event by the plan of a table
+abbrev pub event_texts : RowsBody → TablePlan → Option (List (List (List ℕ)))
+event_texts r p = walked_texts (event_rows r p)
+
+-- the same under a table map
 unfoldable pub texts_of_rows : RowsBody → TableMap → Option (List (List (List ℕ)))
-texts_of_rows r t = walked_texts (event_rows r (plan_by t))
+texts_of_rows r t = event_texts r (plan_by t)
 
 abbrev pub rows_by : RowsBody → TableMap → Option (List (List (List ℕ))) → Result (List Row) Verdict
 rows_by r t None = Err verdicts.Row

@@ -9,5 +9,5 @@ mod verdict;
 pub mod worked;
 
 pub use event_kind::{EventKind, Gtid};
-pub use lines::put_lines;
+pub use lines::put_rows;
 pub use verdict::{Verdict, name_of, status};

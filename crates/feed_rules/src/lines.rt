@@ -4,13 +4,43 @@ ghost use Rattle.std.specs.Prelude.{◌≡◌, ◌++◌, IfOk, IfErr, OnOk};
 ghost use Rattle.rows_cells.specs.ImageViews.{image_shape};
 ghost use Rattle.rows_cells.specs.RowViews.{row_shape};
 ghost use Rattle.feed_text.specs.Buffers.{text_in};
-ghost use Rattle.feed_rules.specs.RowLines.{row_verdict, IsRowRefused, image_text_at, images_texts_at, row_texts_at, rows_texts_at, PutsImage, PutsImages, PutsRow, PutsLines, IsLinesRefused};
+ghost use Rattle.feed_rules.specs.RowLines.{row_verdict, IsRowRefused, image_text_at, images_texts_at, row_texts_at, rows_texts_at, PutsImage, PutsImages, PutsRow, PutsLines, PutsRows, IsLinesRefused};
+ghost use Rattle.feed_rules.specs.Rows.{event_texts};
+ghost use Rattle.rows_plan.specs.ImageShapes.{table_plan};
+ghost use Rattle.rows_events.specs.Views.{body_of};
 
 use crate::verdict::Verdict;
 use feed_text::TextBuffer;
 use rows_cells::{ImageCells, ImagePlan, RowPlan};
+use rows_events::{EventColumns, RowsEvent};
+use rows_plan::ColumnPlan;
 use rows_values::RowsError;
 use std::alloc::{Allocator, Global};
+
+/// Appends a line for each row of an event, by the plan of its table. Each line begins with `start`: what happened to the row,
+/// and the names of its table. `columns` is a buffer for the columns of the event's images.
+///
+/// `Row` where a row can't be read, or has no text, or takes no bytes, and `Memory` for want of memory; some of the lines are
+/// put then. An event without rows data has no lines, and its columns aren't looked at.
+pub fn put_rows<A: Allocator>(
+    alloc: Global,
+    event: &RowsEvent<'_>,
+    plan: &ColumnPlan,
+    start: &[u8],
+    columns: &mut EventColumns,
+    text: &mut TextBuffer<A>,
+) -> Result<(), Verdict>
+    ensures ok { OnOk result (PutsRows (body_of event.now) (table_plan plan.now) start.now (text_in text.old) (text_in text.new)) }
+    ensures err { IfErr result (IsLinesRefused (event_texts (body_of event.now) (table_plan plan.now))) }
+{
+    if event.rows_data().is_empty() {
+        return Ok(());
+    }
+    if let Err(fault) = columns.fill(event, plan) {
+        return Err(row_verdict(fault));
+    }
+    put_lines(alloc, columns.row_plan(), start, event.rows_data(), text)
+}
 
 /// What a fault of rows is to the feed.
 fn row_verdict(fault: RowsError) -> Verdict
@@ -78,10 +108,7 @@ fn put_row<'a, A: Allocator>(
 }
 
 /// Appends a line for each row, each of which begins so: the rows that the bytes are, to their end.
-///
-/// `Row` where a row can't be read, or has no text, or takes no bytes, and `Memory` for want of memory; some of the lines are
-/// put then.
-pub fn put_lines<A: Allocator>(
+fn put_lines<A: Allocator>(
     alloc: Global,
     plan: RowPlan<'_>,
     start: &[u8],
