@@ -326,9 +326,6 @@ texts_by r p shapes h = ap (λ (o : Reading (List ImageShape)). walked_texts (it
 pub rows_put : (r : RowsBody) (p : TablePlan) (shapes : List ImageShape) (start before after : List ℕ) → event_shapes r p ≡ Ok shapes → PutsLines shapes start r.rows_data before after → PutsRows r p start before after
 rows_put r p shapes start before after h l = record { texts = l.texts; are = texts_by r p shapes h ∙ l.are; appended = l.appended }
 
-pub rows_refused : (r : RowsBody) (p : TablePlan) (shapes : List ImageShape) (v : Verdict) → event_shapes r p ≡ Ok shapes → IsLinesRefused (walked_texts (items_at (row_at shapes) r.rows_data)) v → IsLinesRefused (event_texts r p) v
-rows_refused r p shapes v h l = subst (λ (o : Option (List (List (List ℕ)))). IsLinesRefused o v) (sym (texts_by r p shapes h)) l
-
 -- a fault of the columns is one of rows
 pub columns_refused : (r : RowsBody) (p : TablePlan) (e : RowsError) (v : Verdict) → v ≡ row_verdict e → 0 < length r.rows_data → (e ≡ fault.Memory) ⊎ (event_shapes r p ≡ Err e) → IsLinesRefused (event_texts r p) v
 columns_refused r p e v is some (inl m) = rw (is, m) (inr refl)
@@ -339,11 +336,6 @@ columns_refused r p e v is some (inr h) =
     ]
 
 -- what the code's call answers
-pub lines_put_or_not : (r : RowsBody) (p : TablePlan) (shapes : List ImageShape) (a : Result ⊤ Verdict) → event_shapes r p ≡ Ok shapes → IfErr a (IsLinesRefused (walked_texts (items_at (row_at shapes) r.rows_data)))
-    → IfErr a (IsLinesRefused (event_texts r p))
-lines_put_or_not r p shapes (Ok x) h l = tt
-lines_put_or_not r p shapes (Err v) h l = rows_refused r p shapes v h l
-
 pub lines_put : (r : RowsBody) (p : TablePlan) (shapes : List ImageShape) (start bytes before after : List ℕ) (a : Result ⊤ Verdict) → event_shapes r p ≡ Ok shapes → bytes ≡ r.rows_data → OnOk a (PutsLines shapes start bytes before after)
     → OnOk a (PutsRows r p start before after)
 lines_put r p shapes start bytes before after (Ok x) h e l = rows_put r p shapes start before after h (subst (λ (b : List ℕ). PutsLines shapes start b before after) e l)

@@ -3,6 +3,11 @@
 ghost use Rattle.std.specs.Prelude.{◌≡◌, ◌<◌, ◌≤◌, ◌+◌, ℕ, List, [], ◌++◌, Some, true, false, codes, length, nat_eq};
 ghost use Rattle.std.specs.List.{starts_with};
 ghost use Rattle.rows_meta.specs.TableMaps.{TableMap, IsTableMap};
+ghost use Rattle.rows_meta.specs.MapViews.{map_of};
+ghost use Rattle.rows_meta.specs.declared.table_map.TableMapEvent.{TableMapEvent};
+ghost use Rattle.rows_plan.specs.ImageShapes.{table_plan};
+ghost use Rattle.rows_plan.specs.PlanViews.{IsPlanOf};
+ghost use Rattle.rows_plan.specs.declared.plan.ColumnPlan.{ColumnPlan};
 ghost use Rattle.rows_events.specs.RowsEvents.{RowsBody, IsRowsEvent};
 ghost use Rattle.rows_events.specs.declared.rows_event_ctx.RowsEventCtx.{RowsEventCtx};
 ghost use Rattle.events_bodies.specs.Bodies.{IsRotate, IsXid};
@@ -14,7 +19,7 @@ ghost use Rattle.events_queries.specs.Queries.{IsQuery};
 ghost use Rattle.feed_rules.specs.Readers.{IsBodyOf};
 ghost use Rattle.feed_rules.specs.Bodies.{query_in, rotate_in, xid_in, table_map_in, rows_event_in};
 ghost use Rattle.feed_rules.specs.Events.{Event, header_of, content, parts, description_by, in_force};
-ghost use Rattle.feed_rules.specs.Rows.{texts_of_rows, rows_result, rows_in};
+ghost use Rattle.feed_rules.specs.Rows.{plan_by, texts_of_rows, rows_result, rows_in};
 ghost use Rattle.feed_rules.specs.Kinds.{Kind, is_inside, kinds};
 ghost use Rattle.feed_rules.specs.Checks.{fault_of};
 ghost use Rattle.feed_rules.specs.Transactions.{Line, Transaction};
@@ -67,6 +72,11 @@ pub fn shown_transactions_are_whole()
 pub fn what_came_before_does_not_matter()
     ensures fault { (f : List ℕ → ℕ) (p q l : List Event) → in_force p ≡ in_force q → IsBetween (kinds p) → IsBetween (kinds q) → fault_after (fault_of f) p l ≡ fault_after (fault_of f) q l }
     ensures shown { (f : List ℕ → ℕ) (p q l : List Event) → in_force p ≡ in_force q → IsBetween (kinds p) → IsBetween (kinds q) → shown_after (rules f) p (up_to_fault (fault_of f) p l) ≡ shown_after (rules f) q (up_to_fault (fault_of f) q l) }
+{}
+
+/// The plan that a table map says is that of the code's plan of the map.
+pub fn plans_are_those_of_maps()
+    ensures { (plan : ColumnPlan) (map : TableMapEvent) → IsPlanOf plan map → table_plan plan ≡ plan_by (map_of map) }
 {}
 
 /// A rows event that is shown has as many lines as rows.

@@ -3,8 +3,8 @@
 #![tactic(auto)]
 
 mod event_kind;
-mod lines;
 pub mod laws;
+mod lines;
 mod verdict;
 pub mod worked;
 

@@ -5,7 +5,7 @@ use Rattle.rows_plan.specs.ImageShapes.{table_plan}
 use Rattle.rows_events.specs.EventShapes.{event_shapes}
 use Rattle.rows_events.specs.Views.{body_of}
 use Rattle.feed_text.specs.Buffers.{text_in}
-use Rattle.feed_rules.proofs.RowLineLemmas.{no_rows, lines_put, lines_put_or_not, columns_refused}
+use Rattle.feed_rules.proofs.RowLineLemmas.{no_rows, lines_put, columns_refused}
 use Rattle.feed_rules.proofs.lines.put_rows.Goals as goal
 
 pub returns-then-is_empty-clause-ok : goal.returns-then-is_empty-clause-ok
@@ -22,4 +22,3 @@ pub returns-clause-ok : goal.returns-clause-ok
 returns-clause-ok g c =
     let shapes : event_shapes (body_of c.args.event.now) (table_plan c.args.plan.now) ≡ Ok (row_shape c.row_plan.result) = c.in_default.ensures.ok ∙ ap (λ (s : List ImageShape). Ok s) (sym c.row_plan.ensures) in
     lines_put (body_of c.args.event.now) (table_plan c.args.plan.now) (row_shape c.row_plan.result) c.args.start.now c.rows_data-2.result.now (text_in c.args.text.now) _ _ shapes c.rows_data-2.ensures c.put_lines.ensures.ok
-
