@@ -102,7 +102,11 @@ fn write_request<P: Print + Eprint>(
 }
 
 /// Follows the packets of a reader, and writes each transaction as soon as it is committed.
-fn follow<P: Print, R: Read + Drop>(rt: &P, alloc: Global, mut reader: R) -> Verdict {
+fn follow_into<R: Read + Drop, W: Write + Drop>(
+    alloc: Global,
+    mut reader: R,
+    mut out: W,
+) -> Verdict {
     let Ok((mut follower, _request)) = Follower::start(
         alloc,
         FIRST_PLACE,
@@ -111,9 +115,6 @@ fn follow<P: Print, R: Read + Drop>(rt: &P, alloc: Global, mut reader: R) -> Ver
         PACKET_LIMIT,
         crc32,
     ) else {
-        return Verdict::Memory;
-    };
-    let Ok(mut out) = BufWriter::with_capacity(alloc, BUFFER_LEN, io::writer(rt)) else {
         return Verdict::Memory;
     };
     let mut piece = [0u8; PIECE_LEN];
@@ -132,6 +133,14 @@ fn follow<P: Print, R: Read + Drop>(rt: &P, alloc: Global, mut reader: R) -> Ver
         }
     }
     Verdict::Read
+}
+
+/// The same, to standard output.
+fn follow<P: Print, R: Read + Drop>(rt: &P, alloc: Global, reader: R) -> Verdict {
+    match BufWriter::with_capacity(alloc, BUFFER_LEN, io::writer(rt)) {
+        Ok(out) => follow_into(alloc, reader, out),
+        Err(_) => Verdict::Memory,
+    }
 }
 
 /// One or more decimal digits and nothing else, at most 4,294,967,295.

@@ -10,3 +10,9 @@ pub mod BetweenLemmas
 pub mod WholeLemmas
 pub mod LineLemmas
 pub mod RowLineLemmas
+pub mod TextLemmas
+pub mod KnownBodyLemmas
+pub mod GtidFieldLemmas
+pub mod StandingLemmas
+pub mod SoundLemmas
+pub mod TakingLemmas

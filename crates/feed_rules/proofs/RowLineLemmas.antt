@@ -23,7 +23,6 @@ use Rattle.rows_events.specs.RowsEvents.{RowsBody}
 use Rattle.feed_text.specs.CellText.{cell_text}
 use Rattle.feed_text.specs.ImageText.{cells_text, Cells, behind, PutsCells, StopsAt, IsCellsRefused}
 use Rattle.feed_rules.specs.declared.verdict.Verdict.{Verdict}
-use Rattle.feed_rules.specs.declared.verdict.Verdict.TheVariants as verdicts
 use Rattle.feed_rules.specs.Rows.{image_texts, row_texts, value_or_none, walked_texts, event_texts}
 use Rattle.feed_rules.specs.RowLines.{row_verdict, IsRowRefused, with_text, image_text_at, with_texts, images_texts_at, row_texts_at, PutsImage, PutsImages, PutsRow, PutsLines, PutsRows, IsLinesRefused, line_of}
 use Rattle.feed_rules.specs.Texts.{images_text}

@@ -10,6 +10,9 @@ pub mod Checks
 pub mod Transactions
 pub mod Rules
 pub mod Texts
+pub mod Sums
+pub mod Standing
+pub mod Sound
 pub mod Laws
 pub mod WorkedEvents
 pub mod Verdicts

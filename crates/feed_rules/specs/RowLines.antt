@@ -1,5 +1,5 @@
 -- The text of rows as it is put, image after image.
-use Rattle.std.specs.Prelude.{◌≡◌, ◌⊎◌, ◌<◌, ℕ, List, [], ◌∷◌, ◌++◌, length, Option, Some, None, Ok}
+use Rattle.std.specs.Prelude.{◌≡◌, ◌⊎◌, ◌<◌, ℕ, List, ◌++◌, length, Option, Some, None, Ok}
 use Rattle.std.specs.List.{flat_map}
 use Rattle.rows_cells.specs.Images.{PlacedValue, ImageShape, image_at}
 use Rattle.rows_cells.specs.EventRows.{images_at, row_at}

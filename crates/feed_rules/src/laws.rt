@@ -1,6 +1,6 @@
 //! The laws of the rules, each the contract of a function that does nothing.
 
-ghost use Rattle.std.specs.Prelude.{◌≡◌, ◌<◌, ◌≤◌, ◌+◌, ℕ, List, [], ◌++◌, Some, true, false, codes, length, nat_eq};
+ghost use Rattle.std.specs.Prelude.{◌≡◌, ◌↔◌, ◌<◌, ◌≤◌, ◌+◌, ℕ, List, [], ◌++◌, Some, true, false, codes, length, nat_eq};
 ghost use Rattle.std.specs.List.{starts_with};
 ghost use Rattle.rows_meta.specs.TableMaps.{TableMap, IsTableMap};
 ghost use Rattle.rows_meta.specs.MapViews.{map_of};
@@ -13,11 +13,12 @@ ghost use Rattle.rows_events.specs.declared.rows_event_ctx.RowsEventCtx.{RowsEve
 ghost use Rattle.events_bodies.specs.Bodies.{IsRotate, IsXid};
 ghost use Rattle.events_frames.specs.Events.{size_of};
 ghost use Rattle.events_frames.specs.EventParts.{Parts, IsEvent, Describes, least_behind};
-ghost use Rattle.events_frames.specs.Descriptions.{Description};
+ghost use Rattle.events_frames.specs.Descriptions.{Description, IsDescription};
 ghost use Rattle.events_frames.specs.Footers.{Footer};
+ghost use Rattle.events_gtids.specs.Gtids.{Gtid, IsGtid};
 ghost use Rattle.events_queries.specs.Queries.{IsQuery};
 ghost use Rattle.feed_rules.specs.Readers.{IsBodyOf};
-ghost use Rattle.feed_rules.specs.Bodies.{query_in, rotate_in, xid_in, table_map_in, rows_event_in};
+ghost use Rattle.feed_rules.specs.Bodies.{query_in, rotate_in, xid_in, table_map_in, rows_event_in, gtid_in, is_description_body};
 ghost use Rattle.feed_rules.specs.Events.{Event, header_of, content, parts, description_by, in_force};
 ghost use Rattle.feed_rules.specs.Rows.{plan_by, texts_of_rows, rows_result, rows_in};
 ghost use Rattle.feed_rules.specs.Kinds.{Kind, is_inside, kinds};
@@ -46,6 +47,14 @@ pub fn parts_are_those_of_events()
 /// What a description says is computed as its grammar says it.
 pub fn descriptions_are_read()
     ensures { (d : Description) (p : Parts) → Describes d p → d ≡ description_by p }
+{}
+
+/// A body is taken for that of a GTID event exactly where it is in its grammar, and its uuid and its number are those that the
+/// grammar says; and a body is taken for a description's exactly where it is in that grammar.
+pub fn gtids_are_read()
+    ensures gtid { (g : Gtid) (body : List ℕ) → IsGtid g body [] → gtid_in body ≡ Some (g.sid, g.gno) }
+    ensures taken { (body : List ℕ) (x : List ℕ × ℕ) → gtid_in body ≡ Some x → (g : Gtid) × IsGtid g body [] }
+    ensures description { (body : List ℕ) → (is_description_body body ≡ true) ↔ ((d : Description) × IsDescription d body []) }
 {}
 
 /// What the first of some events show is the first of what all of them show, whatever the rules.

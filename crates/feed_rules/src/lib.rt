@@ -5,9 +5,14 @@
 mod event_kind;
 pub mod laws;
 mod lines;
+mod open_transaction;
+mod sound_parts;
+mod texts;
+mod transactions;
 mod verdict;
 pub mod worked;
 
 pub use event_kind::{EventKind, Gtid};
 pub use lines::put_rows;
+pub use transactions::Transactions;
 pub use verdict::{Verdict, name_of, status};

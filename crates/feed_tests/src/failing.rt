@@ -1,7 +1,8 @@
 //! Readers and writers that fail, and in what order they are asked.
 
-use crate::samples::{BEGIN, MAP, Pieces, ROWS, TEXT, XID, file_of, no_checksum};
+use crate::samples::{BEGIN, MAP, Pieces, ROWS, TEXT, XID, file_of};
 use binlog_feed::{Verdict, Watched, report};
+use crc32::crc32;
 use std::alloc::{AllocError, Global};
 use std::cell::Cell;
 use std::io::{self, ErrorKind, Read, Write};
@@ -88,7 +89,7 @@ fn transaction_is_written_before_more_is_asked_for(rt: HostRuntime) -> Result<()
         asked: &asked,
         notes: Vec::new(rt.alloc()),
     });
-    let verdict = report(rt.alloc(), &mut reader, &no_checksum, &mut writer);
+    let verdict = report(rt.alloc(), &mut reader, &crc32, &mut writer);
     assert_eq!(rt; verdict, Verdict::End);
     let notes = writer.into_inner().notes;
     assert_eq!(rt; notes.len(), 2 * TEXT.len());
@@ -109,7 +110,7 @@ fn report_with_a_failing_reader(rt: HostRuntime) -> Result<(), Fail> {
             fails: true,
         });
         let mut writer = Watched::new(Vec::new(rt.alloc()));
-        let verdict = report(rt.alloc(), &mut reader, &no_checksum, &mut writer);
+        let verdict = report(rt.alloc(), &mut reader, &crc32, &mut writer);
         assert_eq!(rt; verdict, Verdict::Read);
         assert!(rt; reader.failed());
         assert!(rt; !writer.failed());
@@ -134,7 +135,7 @@ fn report_with_a_failing_writer(rt: HostRuntime) -> Result<(), Fail> {
             taken: Vec::new(rt.alloc()),
             room,
         });
-        let verdict = report(rt.alloc(), &mut reader, &no_checksum, &mut writer);
+        let verdict = report(rt.alloc(), &mut reader, &crc32, &mut writer);
         let is_whole = room == TEXT.len();
         assert_eq!(rt;
             verdict,

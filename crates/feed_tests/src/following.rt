@@ -1,7 +1,8 @@
 //! Worked streams of packets.
 
-use crate::samples::{BEGIN, MAP, ROWS, TEXT, XID, no_checksum};
+use crate::samples::{BEGIN, MAP, ROWS, TEXT, XID, checksummed, description};
 use binlog_feed::{Follower, RequestError, Verdict, Watched};
+use crc32::crc32;
 use std::alloc::{AllocError, Global};
 use std::process::Abort;
 use std::test::*;
@@ -32,6 +33,26 @@ fn whole_answer(alloc: Global) -> Result<Vec<u8>, AllocError> {
     Ok(answer)
 }
 
+/// Appends the packet of an event, with this number.
+fn put_packet(stream: &mut Vec<u8>, number: u8, event: &[u8]) -> Result<(), AllocError> {
+    let len = event.len().saturating_add(1).to_le_bytes();
+    stream.extend_from_slice(&len[..3])?;
+    stream.extend_from_slice(&[number, 0])?;
+    stream.extend_from_slice(event)
+}
+
+/// A server's answer of a log of one transaction with checksums, with its closing packet, 269 bytes.
+fn checksummed_answer(alloc: Global) -> Result<Vec<u8>, AllocError> {
+    let mut answer = Vec::new(alloc);
+    put_packet(&mut answer, 1, &description(alloc, 1)?)?;
+    put_packet(&mut answer, 2, &checksummed(alloc, 2, 127, &BEGIN[19..])?)?;
+    put_packet(&mut answer, 3, &checksummed(alloc, 19, 168, &MAP[19..])?)?;
+    put_packet(&mut answer, 4, &checksummed(alloc, 30, 208, &ROWS[19..])?)?;
+    put_packet(&mut answer, 5, &checksummed(alloc, 16, 239, &XID[19..])?)?;
+    answer.extend_from_slice(&[0x05, 0x00, 0x00, 0x06, 0xfe, 0x00, 0x00, 0x02, 0x00])?;
+    Ok(answer)
+}
+
 /// Feeds a stream in pieces, and finishes.
 fn followed(
     alloc: Global,
@@ -39,7 +60,7 @@ fn followed(
     limit: usize,
     pieces: &[usize],
 ) -> Result<(Vec<u8>, Verdict), RequestError> {
-    let (mut follower, _request) = Follower::start(alloc, 4, 1, b"", limit, no_checksum)?;
+    let (mut follower, _request) = Follower::start(alloc, 4, 1, b"", limit, crc32)?;
     let mut writer = Watched::new(Vec::new(alloc));
     let mut rest = stream;
     for piece in pieces {
@@ -77,6 +98,20 @@ fn stream_in_single_bytes(rt: HostRuntime) -> Result<(), Fail> {
     let answer = whole_answer(rt.alloc())?;
     assert_eq!(rt; answer.len(), 167);
     expect(&rt, rt.alloc(), &answer, LIMIT, TEXT, Verdict::End)?;
+    Ok(())
+}
+
+#[test]
+fn codec_framings_and_crc(rt: HostRuntime) -> Result<(), Fail> {
+    let answer = checksummed_answer(rt.alloc())?;
+    assert_eq!(rt; answer.len(), 269);
+    let text = "begin -\ninsert 'd' 't' 0=5\ncommit 239\n";
+    let cuttings: [&[usize]; 3] = [&[], &[7; 39], &[4096]];
+    for pieces in cuttings {
+        let (written, verdict) = followed(rt.alloc(), &answer, LIMIT, pieces)?;
+        assert_eq!(rt; written.as_slice(), text.as_bytes());
+        assert_eq!(rt; verdict, Verdict::End);
+    }
     Ok(())
 }
 
@@ -145,7 +180,7 @@ fn bytes_after_the_closing_packet(rt: HostRuntime) -> Result<(), Fail> {
 #[test]
 fn nothing_taken_after_closed(rt: HostRuntime) -> Result<(), Fail> {
     let alloc = rt.alloc();
-    let (mut follower, _request) = Follower::start(alloc, 4, 1, b"", LIMIT, no_checksum)?;
+    let (mut follower, _request) = Follower::start(alloc, 4, 1, b"", LIMIT, crc32)?;
     let mut writer = Watched::new(Vec::new(alloc));
     assert_eq!(rt; follower.finish(), Verdict::Closed);
     let answer = whole_answer(alloc)?;
@@ -166,7 +201,7 @@ fn stream_without_closing_packet(rt: HostRuntime) -> Result<(), Fail> {
 fn answer_at_each_piece(rt: HostRuntime) -> Result<(), Fail> {
     let answer = whole_answer(rt.alloc())?;
     let committed = 158;
-    let (mut follower, _request) = Follower::start(rt.alloc(), 4, 1, b"", LIMIT, no_checksum)?;
+    let (mut follower, _request) = Follower::start(rt.alloc(), 4, 1, b"", LIMIT, crc32)?;
     let mut written = Vec::new(rt.alloc());
     for (index, byte) in answer.iter().enumerate() {
         let found = follower.feed(&[*byte], &mut Watched::new(&mut written));

@@ -1,5 +1,5 @@
-//! Tests of the change feed through its public calls: worked binary logs and streams, requests, names, readers and writers
-//! that fail, and checksums.
+//! Tests of the change feed through its public calls: worked binary logs with events of each kind, worked streams, requests,
+//! names, readers and writers that fail, and checksums.
 #![tactic(auto)]
 
 #[cfg(test)]
@@ -9,9 +9,13 @@ mod failing;
 #[cfg(test)]
 mod following;
 #[cfg(test)]
+mod kinds;
+#[cfg(test)]
 mod reporting;
 #[cfg(test)]
 mod requesting;
+#[cfg(test)]
+mod rows;
 #[cfg(test)]
 mod samples;
 #[cfg(test)]

@@ -1,7 +1,7 @@
 //! The request for a binary log.
 
-use crate::samples::no_checksum;
 use binlog_feed::{Follower, RequestError, request};
+use crc32::crc32;
 use std::test::*;
 
 #[test]
@@ -14,7 +14,7 @@ fn dump_request(rt: HostRuntime) -> Result<(), Fail> {
     let name = b"master-bin.000002";
     let packet = request(rt.alloc(), 4, 1, name)?;
     assert_eq!(rt; packet.as_slice(), wanted.as_slice());
-    let (_follower, question) = Follower::start(rt.alloc(), 4, 1, name, 100, no_checksum)?;
+    let (_follower, question) = Follower::start(rt.alloc(), 4, 1, name, 100, crc32)?;
     assert_eq!(rt; question.as_slice(), wanted.as_slice());
     Ok(())
 }

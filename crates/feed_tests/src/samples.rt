@@ -1,5 +1,6 @@
-//! A small binary log and its report, and a reader that gives it in pieces.
+//! A small binary log and its report, events of any kind, and a reader that gives a log in pieces.
 
+use crc32::crc32;
 use std::alloc::{AllocError, Global};
 use std::io::{self, ErrorKind, Read};
 
@@ -36,9 +37,80 @@ pub const XID: [u8; 27] = [
 /// The report of the mark and these events.
 pub const TEXT: &str = "begin -\ninsert 'd' 't' 0=5\ncommit 142\n";
 
-/// A checksum function that answers 0.
-pub fn no_checksum(_bytes: &[u8]) -> u32 {
-    0
+/// The header and the body of an event of server 1, behind which stand so many bytes more.
+fn front_of_event(
+    alloc: Global,
+    event_type: u8,
+    flags: u16,
+    log_pos: u32,
+    body: &[u8],
+    more: usize,
+) -> Result<Vec<u8>, AllocError> {
+    let size = body
+        .len()
+        .saturating_add(19)
+        .saturating_add(more)
+        .to_le_bytes();
+    let mut front = Vec::from_slice(alloc, &[0, 0, 0, 0, event_type, 1, 0, 0, 0])?;
+    front.extend_from_slice(&size[..4])?;
+    front.extend_from_slice(&log_pos.to_le_bytes())?;
+    front.extend_from_slice(&flags.to_le_bytes())?;
+    front.extend_from_slice(body)?;
+    Ok(front)
+}
+
+/// An event of server 1 without a checksum.
+pub fn event(
+    alloc: Global,
+    event_type: u8,
+    flags: u16,
+    log_pos: u32,
+    body: &[u8],
+) -> Result<Vec<u8>, AllocError> {
+    front_of_event(alloc, event_type, flags, log_pos, body, 0)
+}
+
+/// An event of server 1 with its checksum.
+pub fn checksummed(
+    alloc: Global,
+    event_type: u8,
+    log_pos: u32,
+    body: &[u8],
+) -> Result<Vec<u8>, AllocError> {
+    let mut event = front_of_event(alloc, event_type, 0, log_pos, body, 4)?;
+    let checksum = crc32(&event);
+    event.extend_from_slice(&checksum.to_le_bytes())?;
+    Ok(event)
+}
+
+/// FORMAT_DESCRIPTION_EVENT of server 5.6.1 with this checksum algorithm, to position 85.
+pub fn description(alloc: Global, algorithm: u8) -> Result<Vec<u8>, AllocError> {
+    let mut body = Vec::from_slice(alloc, b"\x04\x005.6.1")?;
+    body.resize(56, 0)?;
+    body.extend_from_slice(&[19, algorithm])?;
+    checksummed(alloc, 15, 85, &body)
+}
+
+/// QUERY_EVENT without status variables.
+pub fn query(
+    alloc: Global,
+    log_pos: u32,
+    schema: &[u8],
+    text: &[u8],
+) -> Result<Vec<u8>, AllocError> {
+    let schema_len = schema.len().to_le_bytes();
+    let mut body = Vec::from_slice(alloc, &[1, 0, 0, 0, 0, 0, 0, 0])?;
+    body.extend_from_slice(&schema_len[..1])?;
+    body.extend_from_slice(&[0; 4])?;
+    body.extend_from_slice(schema)?;
+    body.push(0)?;
+    body.extend_from_slice(text)?;
+    event(alloc, 2, 0, log_pos, &body)
+}
+
+/// XID_EVENT.
+pub fn xid(alloc: Global, log_pos: u32) -> Result<Vec<u8>, AllocError> {
+    event(alloc, 16, 0, log_pos, &[11, 0, 0, 0, 0, 0, 0, 0])
 }
 
 /// A mark and events.

@@ -7,6 +7,7 @@
 
 mod buffer;
 mod buffer_cells;
+mod buffer_text;
 mod cells;
 mod decimals;
 mod diffs;

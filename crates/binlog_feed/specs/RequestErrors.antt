@@ -1,8 +1,0 @@
--- The names that the program prints of errors of a request.
-use Rattle.std.specs.Prelude.{ℕ, List, codes}
-use Rattle.binlog_feed.specs.declared.feed.request.RequestError.{RequestError}
-use Rattle.binlog_feed.specs.declared.feed.request.RequestError.TheVariants.{NameTooLong, Memory}
-
-abbrev pub request_error_name : RequestError → List ℕ
-request_error_name NameTooLong = codes "NameTooLong"
-request_error_name Memory = codes "Memory"

@@ -1,3 +1,0 @@
-//! The lowest layer: numbers and fields in bytes.
-
-pub mod fields;

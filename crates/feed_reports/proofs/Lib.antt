@@ -1,0 +1,5 @@
+pub mod EventLemmas
+pub mod WritingLemmas
+pub mod ReportLemmas
+pub mod MarkLemmas
+pub mod FrontLemmas

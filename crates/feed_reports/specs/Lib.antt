@@ -1,0 +1,5 @@
+pub mod Events
+pub mod Writing
+pub mod Marks
+pub mod Reports
+pub mod WorkedReports

@@ -1,0 +1,10 @@
+//! The report of a binary log: the text of its committed transactions, and a verdict.
+#![tactic(auto)]
+
+pub mod laws;
+mod reporting;
+pub mod worked;
+mod writing;
+
+pub use reporting::report;
+pub use writing::put_shown;

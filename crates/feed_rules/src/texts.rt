@@ -1,0 +1,126 @@
+//! The text of the lines of transactions.
+
+ghost use Rattle.std.specs.Prelude.{◌≡◌, ◌++◌, ◌∷◌, OnOk, Some};
+ghost use Rattle.hex.specs.Hex.{encode_lower};
+ghost use Rattle.events_queries.specs.QueryViews.{query_of};
+ghost use Rattle.feed_writers.specs.Quoting.{quoted};
+ghost use Rattle.feed_text.specs.Buffers.{text_in};
+ghost use Rattle.feed_rules.specs.KindViews.{gtid_seen};
+ghost use Rattle.feed_rules.specs.Rows.{change_by};
+ghost use Rattle.feed_rules.specs.Transactions.{Stated};
+ghost use Rattle.feed_rules.specs.Texts.{change_word, commit_line, gtid_text, line_text, uuid_text};
+
+use crate::event_kind::Gtid;
+use events_queries::QueryEvent;
+use feed_text::TextBuffer;
+use rows_events::RowImages;
+use std::alloc::{AllocError, Allocator};
+
+/// Appends the text of an identifier: `-`, the uuid and the number, or the body of a tagged one.
+///
+/// Some of it may be appended where memory is refused.
+pub(crate) fn put_gtid<A: Allocator>(
+    gtid: &Gtid<'_>,
+    text: &mut TextBuffer<A>,
+) -> Result<(), AllocError>
+    ensures ok { OnOk result (text_in text.new ≡ text_in text.old ++ gtid_text (Some (gtid_seen gtid.now))) }
+{
+    match gtid {
+        Gtid::Anonymous => text.put(b'-'),
+        Gtid::Numbered { uuid, number } => {
+            put_uuid(uuid, text)?;
+            text.put(b':')?;
+            text.put_number(*number)
+        }
+        Gtid::Tagged(body) => {
+            text.put_text(b"tagged ")?;
+            text.put_quoted(body)
+        }
+    }
+}
+
+/// Appends the line of a statement: its schema and its text between quotes.
+///
+/// Some of it may be appended where memory is refused.
+pub(crate) fn put_statement<A: Allocator>(
+    query: &QueryEvent<'_>,
+    text: &mut TextBuffer<A>,
+) -> Result<(), AllocError>
+    ensures ok { OnOk result (text_in text.new ≡ text_in text.old ++ line_text (Stated (query_of query.now))) }
+{
+    text.put_text(b"statement ")?;
+    put_two_quoted(query.schema_raw(), query.query_raw(), text)?;
+    text.put(b'\n')
+}
+
+/// Appends the line of a commit: the position behind it in its log.
+///
+/// Some of it may be appended where memory is refused.
+pub(crate) fn put_commit<A: Allocator>(
+    log_pos: u32,
+    text: &mut TextBuffer<A>,
+) -> Result<(), AllocError>
+    ensures ok { OnOk result (text_in text.new ≡ text_in text.old ++ commit_line log_pos) }
+{
+    text.put_text(b"commit ")?;
+    text.put_number(u64::from(log_pos))?;
+    text.put(b'\n')
+}
+
+/// Appends what the line of a row begins with: what happened to the row, its database and its table.
+///
+/// Some of it may be appended where memory is refused.
+pub(crate) fn put_row_start<A: Allocator>(
+    images: RowImages,
+    database: &[u8],
+    table: &[u8],
+    text: &mut TextBuffer<A>,
+) -> Result<(), AllocError>
+    ensures ok { OnOk result (text_in text.new ≡ text_in text.old ++ (change_word (change_by images) ++ quoted database.now ++ 32 ∷ quoted table.now)) }
+{
+    text.put_text(change_word(images))?;
+    put_two_quoted(database, table, text)
+}
+
+/// What an event whose rows have these images does to them, and a blank.
+fn change_word(images: RowImages) -> &'static [u8]
+    ensures { result.now ≡ change_word (change_by images) }
+{
+    match images {
+        RowImages::Before => b"delete ",
+        RowImages::After => b"insert ",
+        RowImages::BeforeAndAfter | RowImages::BeforeAndPartialAfter => b"update ",
+    }
+}
+
+/// Appends two strings between quotes, with a blank between them.
+fn put_two_quoted<A: Allocator>(
+    first: &[u8],
+    second: &[u8],
+    text: &mut TextBuffer<A>,
+) -> Result<(), AllocError>
+    ensures ok { OnOk result (text_in text.new ≡ text_in text.old ++ (quoted first.now ++ 32 ∷ quoted second.now)) }
+{
+    text.put_quoted(first)?;
+    text.put(b' ')?;
+    text.put_quoted(second)
+}
+
+/// Appends a uuid in hexadecimal digits, in five groups.
+fn put_uuid<A: Allocator>(uuid: &[u8; 16], text: &mut TextBuffer<A>) -> Result<(), AllocError>
+    ensures ok { OnOk result (text_in text.new ≡ text_in text.old ++ uuid_text uuid.now) }
+{
+    text.put_hexadecimal(&uuid[..4])?;
+    put_group(&uuid[4..6], text)?;
+    put_group(&uuid[6..8], text)?;
+    put_group(&uuid[8..10], text)?;
+    put_group(&uuid[10..], text)
+}
+
+/// Appends a hyphen and a group of hexadecimal digits.
+fn put_group<A: Allocator>(bytes: &[u8], text: &mut TextBuffer<A>) -> Result<(), AllocError>
+    ensures ok { OnOk result (text_in text.new ≡ text_in text.old ++ 45 ∷ encode_lower bytes.now) }
+{
+    text.put(b'-')?;
+    text.put_hexadecimal(bytes)
+}

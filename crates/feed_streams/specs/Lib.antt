@@ -1,0 +1,6 @@
+pub mod Words
+pub mod Streams
+pub mod Requests
+pub mod RequestErrors
+pub mod Following
+pub mod WorkedStreams

@@ -1,0 +1,76 @@
+-- Worked streams: a server's packets, what a follower makes of them, and the request that asks for them.
+use Rattle.std.specs.Prelude.{ℕ, ◌+◌, List, [], ◌∷◌, ◌++◌, length, take, codes}
+use Rattle.feed_rules.specs.declared.verdict.Verdict.{Verdict}
+use Rattle.feed_rules.specs.Events.{Event}
+use Rattle.feed_rules.specs.Rules.{rules}
+use Rattle.feed_rules.specs.WorkedEvents.{zeros, begin_event, map_event, write_event, one_insert_events, with_checksum, checksummed_with}
+use Rattle.feed_reports.specs.Reports.{Printed, printed}
+use Rattle.feed_streams.specs.Streams.{Form, Plain, SemiSync, payload_of, stream_report}
+
+-- what a stream prints, by the rules under the checksum function that is 0 of everything
+abbrev pub stream_prints : Form → ℕ → List ℕ → Printed
+stream_prints form limit s = printed (stream_report (rules (λ bytes. 0)) form limit s)
+
+abbrev pub prints : List ℕ → Verdict → Printed
+prints text v = record { text = text; verdict = v }
+
+-- a small packet with this number and payload
+abbrev pub packet : ℕ → List ℕ → List ℕ
+packet number payload = length payload ∷ 0 ∷ 0 ∷ number ∷ payload
+
+-- the packet of an event
+abbrev pub packet_of : ℕ → Event → List ℕ
+packet_of number e = packet number (payload_of Plain e)
+
+-- the packets of events, numbered on
+abbrev pub packets_from : Form → ℕ → List Event → List ℕ
+packets_from form number [] = []
+packets_from form number (e ∷ l) = packet number (payload_of form e) ++ packets_from form (number + 1) l
+
+-- the packet that closes an answer
+abbrev pub closing_packet : ℕ → List ℕ
+closing_packet number = packet number (254 ∷ 0 ∷ 0 ∷ 2 ∷ 0 ∷ [])
+
+-- an answer of one transaction, without and with its closing packet
+abbrev pub open_answer : List ℕ
+open_answer = packets_from Plain 1 one_insert_events
+
+abbrev pub whole_answer : List ℕ
+whole_answer = open_answer ++ closing_packet 5
+
+-- the same of a log with checksums, and with payloads that ask for acknowledgements
+abbrev pub checksummed_answer : List ℕ
+checksummed_answer = packets_from Plain 1 (checksummed_with (with_checksum (zeros 4) 168 map_event)) ++ closing_packet 6
+
+abbrev pub semi_synchronous_answer : List ℕ
+semi_synchronous_answer = packets_from SemiSync 1 one_insert_events ++ closing_packet 5
+
+-- its second packet has number 3
+abbrev pub misnumbered_answer : List ℕ
+misnumbered_answer = packet_of 1 begin_event ++ packet_of 3 map_event ++ packet_of 3 write_event
+
+-- the same, cut short within that packet
+abbrev pub misnumbered_front : List ℕ
+misnumbered_front = take 80 misnumbered_answer
+
+-- no event: nothing; 0xfe and eight more bytes; a zero byte and 18 bytes
+abbrev pub empty_payload : List ℕ
+empty_payload = packet 1 []
+
+abbrev pub long_closing_payload : List ℕ
+long_closing_payload = packet 1 (254 ∷ 0 ∷ 0 ∷ 2 ∷ 0 ∷ 0 ∷ 0 ∷ 0 ∷ 0 ∷ [])
+
+abbrev pub short_event_payload : List ℕ
+short_event_payload = packet 1 (0 ∷ take 18 begin_event)
+
+-- a server's error
+abbrev pub error_packet : List ℕ
+error_packet = packet 1 (255 ∷ 1 ∷ 0 ∷ [])
+
+-- the limit of the program
+abbrev pub program_limit : ℕ
+program_limit = 1073741824
+
+-- the request for master-bin.000002 from 4 on, by server 1
+abbrev pub worked_request : List ℕ
+worked_request = 28 ∷ 0 ∷ 0 ∷ 0 ∷ 18 ∷ 4 ∷ 0 ∷ 0 ∷ 0 ∷ 1 ∷ 0 ∷ 1 ∷ 0 ∷ 0 ∷ 0 ∷ codes "master-bin.000002"

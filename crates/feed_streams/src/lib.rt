@@ -1,0 +1,10 @@
+//! A follower of a server's packets: it asks for a binary log, and writes the transactions of the answer as they come.
+#![tactic(auto)]
+
+mod follower;
+pub mod laws;
+mod requests;
+pub mod worked;
+
+pub use follower::Follower;
+pub use requests::{RequestError, request};

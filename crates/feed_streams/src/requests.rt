@@ -1,0 +1,84 @@
+//! The request for a binary log.
+
+ghost use Rattle.std.specs.Prelude.{◌≡◌, ◌↔◌, ◌<◌, IfOk, IsErrOf, length};
+ghost use Rattle.feed_streams.specs.Requests.{dump_request, dump_payload as payload_of};
+ghost use Rattle.feed_streams.specs.declared.requests.RequestError.TheVariants.{Memory};
+
+use bytes::BytesMut;
+use std::alloc::{AllocError, Global};
+use thiserror::Error;
+use wire_packets::packet_to_chunks;
+
+/// COM_BINLOG_DUMP.
+const COM_BINLOG_DUMP: u8 = 0x12;
+
+/// BINLOG_DUMP_NON_BLOCK: the answer ends where the binary log ends.
+const BINLOG_DUMP_NON_BLOCK: u16 = 1;
+
+/// The greatest length of a binary log's name in bytes.
+const MAX_NAME_LEN: usize = 511;
+
+/// Why a request can't be made.
+#[derive(Clone, Copy, Debug, PartialEq, Eq, Error)]
+pub enum RequestError {
+    /// The binary log's name is longer than 511 bytes.
+    #[error("the binary log's name is longer than 511 bytes")]
+    NameTooLong,
+    /// A growth was refused.
+    #[error("out of memory")]
+    Memory,
+}
+
+impl RequestError {
+    ghost use Rattle.feed_streams.specs.RequestErrors.{request_error_name};
+
+    /// The error's name, as the program prints it.
+    pub fn name(&self) -> &'static str
+        ensures { result.now ≡ request_error_name self.now }
+    {
+        match self {
+            RequestError::NameTooLong => "NameTooLong",
+            RequestError::Memory => "Memory",
+        }
+    }
+}
+
+impl From<AllocError> for RequestError {
+    ghost from_gives = { λ _ e. e ≡ Memory };
+
+    fn from(_error: AllocError) -> RequestError {
+        RequestError::Memory
+    }
+}
+
+/// The payload of COM_BINLOG_DUMP.
+fn dump_payload(alloc: Global, place: u32, server: u32, name: &[u8]) -> Result<Vec<u8>, AllocError>
+    ensures { IfOk result (λ payload. payload.items ≡ payload_of place server name.now) }
+{
+    let mut payload = Vec::new(alloc);
+    payload.extend_from_slice(&[COM_BINLOG_DUMP])?;
+    payload.extend_from_slice(&place.to_le_bytes())?;
+    payload.extend_from_slice(&BINLOG_DUMP_NON_BLOCK.to_le_bytes())?;
+    payload.extend_from_slice(&server.to_le_bytes())?;
+    payload.extend_from_slice(name)?;
+    Ok(payload)
+}
+
+/// The packet that asks a server for the events of the binary log `name` from `place` on, by a replica with
+/// the id `server`: COM_BINLOG_DUMP with the flag BINLOG_DUMP_NON_BLOCK, framed from number 0. Refused with
+/// `NameTooLong` exactly where the name is longer than 511 bytes, and with `Memory`.
+#[tactic(auto, unfolding(crate::specs::Requests::dump_request))]
+pub fn request(alloc: Global, place: u32, server: u32, name: &[u8]) -> Result<Vec<u8>, RequestError>
+    ensures packet { IfOk result (λ packet. packet.items ≡ dump_request place server name.now) }
+    ensures too_long { IsErrOf result RequestError.NameTooLong ↔ (511 < length name.now) }
+{
+    if name.len() > MAX_NAME_LEN {
+        return Err(RequestError::NameTooLong);
+    }
+    let payload = dump_payload(alloc, place, server, name)?;
+    let mut packet = BytesMut::new(alloc);
+    if let Err(_) = packet_to_chunks(0, &payload, &mut packet) {
+        return Err(RequestError::Memory);
+    }
+    Ok(Vec::from_slice(alloc, packet.as_slice())?)
+}

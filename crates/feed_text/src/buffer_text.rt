@@ -1,0 +1,62 @@
+//! Bytes between quotes, numbers and hexadecimal digits in a buffer with room.
+
+ghost use Rattle.std.specs.Prelude.{◌≡◌, ◌++◌, OnOk, OnErr};
+ghost use Rattle.std.specs.Fmt.{decimal};
+ghost use Rattle.hex.specs.Hex.{encode_lower};
+ghost use Rattle.feed_writers.specs.Quoting.{quoted};
+
+use crate::buffer::TextBuffer;
+use feed_writers::{put_number, put_quoted};
+use hex::encode_to_slice;
+use std::alloc::{AllocError, Allocator};
+
+/// The most digits of a number of 64 bits.
+const MOST_DIGITS: usize = 20;
+
+impl<A: Allocator> TextBuffer<A> {
+    ghost use Rattle.feed_text.specs.Buffers.{text_in};
+
+    /// Appends bytes between single quotes, as [`quote`](crate::quote) does. Room for three times the bytes is asked for
+    /// once. Want of memory leaves the text as it was.
+    pub fn put_quoted(&mut self, bytes: &[u8]) -> Result<(), AllocError>
+        ensures ok { OnOk result (text_in self.new ≡ text_in self.old ++ quoted bytes.now) }
+        ensures err { OnErr result (text_in self.new ≡ text_in self.old) }
+    {
+        let Some(escaped) = bytes.len().checked_mul(3) else {
+            return Err(AllocError);
+        };
+        let Some(most) = escaped.checked_add(2) else {
+            return Err(AllocError);
+        };
+        self.reserve(most)?;
+        self.len = put_quoted(self.bytes.as_mut_slice(), self.len, bytes);
+        Ok(())
+    }
+
+    /// Appends a number in decimal. Want of memory leaves the text as it was.
+    pub fn put_number(&mut self, number: u64) -> Result<(), AllocError>
+        ensures ok { OnOk result (text_in self.new ≡ text_in self.old ++ decimal number) }
+        ensures err { OnErr result (text_in self.new ≡ text_in self.old) }
+    {
+        self.reserve(MOST_DIGITS)?;
+        self.len = put_number(self.bytes.as_mut_slice(), self.len, number);
+        Ok(())
+    }
+
+    /// Appends the two lower case hexadecimal digits of each byte. Want of memory leaves the text as it was.
+    pub fn put_hexadecimal(&mut self, bytes: &[u8]) -> Result<(), AllocError>
+        ensures ok { OnOk result (text_in self.new ≡ text_in self.old ++ encode_lower bytes.now) }
+        ensures err { OnErr result (text_in self.new ≡ text_in self.old) }
+    {
+        let Some(digits) = bytes.len().checked_mul(2) else {
+            return Err(AllocError);
+        };
+        self.reserve(digits)?;
+        let end = self.len + digits;
+        let Ok(()) = encode_to_slice(bytes, &mut self.bytes[self.len..end]) else {
+            unreachable!()
+        };
+        self.len = end;
+        Ok(())
+    }
+}
