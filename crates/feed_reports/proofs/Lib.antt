@@ -1,5 +1,6 @@
 pub mod EventLemmas
 pub mod WritingLemmas
 pub mod ReportLemmas
+pub mod WholeReports
 pub mod MarkLemmas
 pub mod FrontLemmas

@@ -13,6 +13,7 @@ pub mod RowLineLemmas
 pub mod TextLemmas
 pub mod KnownBodyLemmas
 pub mod GtidFieldLemmas
+pub mod TableLemmas
 pub mod StandingLemmas
 pub mod SoundLemmas
 pub mod TakingLemmas

@@ -11,8 +11,7 @@ use Rattle.feed_rules.specs.Kinds.{Kind, Format, NamesNext, Begin, Commit, Rollb
 use Rattle.feed_rules.specs.Checks.{outer_fault, inner_fault, fault_of}
 use Rattle.feed_rules.specs.Transactions.{Transaction, Line, Changed, Stated, committed, kind_shows, shown_by, lines_of}
 use Rattle.feed_rules.specs.Rules.{up_to_fault, shown_after, rules}
-use Rattle.feed_rules.specs.Texts.{ended, change_word, images_text, line_text}
-use Rattle.feed_writers.specs.Quoting.{quoted}
+use Rattle.feed_rules.specs.Texts.{ended, change_word, names_text, images_text, line_text}
 use Rattle.feed_rules.specs.Laws.{IsStretch, IsWhole, IsOf, replayed, Each}
 use Rattle.feed_rules.proofs.KindLemmas.{inside-open}
 
@@ -95,12 +94,12 @@ all-whole f past (e ∷ l) =
     either f past e (up_to_fault (fault_of f) (e ∷ past) l) (fault_of f past e) (one-of f past e (up_to_fault (fault_of f) (e ∷ past) l)) (all-whole f (e ∷ past) l)
 
 -- a line of a row begins with the word for its change
-no-opening : (c : Change) (database table : List ℕ) (images : List (List ℕ)) → starts_with nat_eq (ended (change_word c ++ quoted database ++ 32 ∷ quoted table ++ images_text images)) (codes "begin ") ≡ false
+no-opening : (c : Change) (database table : List ℕ) (images : List (List ℕ)) → starts_with nat_eq (ended (change_word c ++ names_text database table ++ images_text images)) (codes "begin ") ≡ false
 no-opening Insert d t i = refl
 no-opening Update d t i = refl
 no-opening Delete d t i = refl
 
-no-closing : (c : Change) (database table : List ℕ) (images : List (List ℕ)) → starts_with nat_eq (ended (change_word c ++ quoted database ++ 32 ∷ quoted table ++ images_text images)) (codes "commit ") ≡ false
+no-closing : (c : Change) (database table : List ℕ) (images : List (List ℕ)) → starts_with nat_eq (ended (change_word c ++ names_text database table ++ images_text images)) (codes "commit ") ≡ false
 no-closing Insert d t i = refl
 no-closing Update d t i = refl
 no-closing Delete d t i = refl

@@ -11,6 +11,7 @@ pub mod Transactions
 pub mod Rules
 pub mod Texts
 pub mod Sums
+pub mod Tables
 pub mod Standing
 pub mod Sound
 pub mod Laws

@@ -7,6 +7,7 @@ pub mod laws;
 mod lines;
 mod open_transaction;
 mod sound_parts;
+mod tables;
 mod texts;
 mod transactions;
 mod verdict;

@@ -67,19 +67,18 @@ pub(crate) fn put_commit<A: Allocator>(
     text.put(b'\n')
 }
 
-/// Appends what the line of a row begins with: what happened to the row, its database and its table.
+/// Appends what the line of a row begins with: what happened to the row, and the names of its table.
 ///
 /// Some of it may be appended where memory is refused.
 pub(crate) fn put_row_start<A: Allocator>(
     images: RowImages,
-    database: &[u8],
-    table: &[u8],
+    names: &[u8],
     text: &mut TextBuffer<A>,
 ) -> Result<(), AllocError>
-    ensures ok { OnOk result (text_in text.new ≡ text_in text.old ++ (change_word (change_by images) ++ quoted database.now ++ 32 ∷ quoted table.now)) }
+    ensures ok { OnOk result (text_in text.new ≡ text_in text.old ++ (change_word (change_by images) ++ names.now)) }
 {
     text.put_text(change_word(images))?;
-    put_two_quoted(database, table, text)
+    text.put_text(names)
 }
 
 /// What an event whose rows have these images does to them, and a blank.
@@ -94,7 +93,7 @@ fn change_word(images: RowImages) -> &'static [u8]
 }
 
 /// Appends two strings between quotes, with a blank between them.
-fn put_two_quoted<A: Allocator>(
+pub(crate) fn put_two_quoted<A: Allocator>(
     first: &[u8],
     second: &[u8],
     text: &mut TextBuffer<A>,

@@ -1,7 +1,10 @@
 //! The checksum of bytes: published and zlib's values, and each short length bit by bit.
 
 use crate::samples::{BEGIN, MAP, ROWS, XID};
+use bytes::BytesMut;
 use crc32::crc32;
+use std::alloc::Global;
+use wire_packets::PacketCodec;
 
 /// The CRC-32 of bytes, bit by bit.
 fn bit_by_bit(bytes: &[u8]) -> u32 {
@@ -18,6 +21,23 @@ fn bit_by_bit(bytes: &[u8]) -> u32 {
         }
     }
     !register
+}
+
+/// Whether a new codec frames the payload as the bytes.
+fn frames(alloc: Global, payload: &[u8], bytes: &[u8]) -> bool {
+    let mut codec = PacketCodec::default();
+    let mut framed = BytesMut::new(alloc);
+    codec.encode(payload, &mut framed).is_ok() && framed.as_slice() == bytes
+}
+
+#[test]
+fn codec_framings_and_crc(rt: HostRuntime) {
+    let alloc = rt.alloc();
+    assert!(rt;
+        frames(alloc, b"123", &[3, 0, 0, 0, 0x31, 0x32, 0x33])
+            && frames(alloc, b"", &[0, 0, 0, 0])
+            && crc32(b"123456789") == 0xcbf4_3926
+    );
 }
 
 #[test]

@@ -102,7 +102,7 @@ fn stream_in_single_bytes(rt: HostRuntime) -> Result<(), Fail> {
 }
 
 #[test]
-fn codec_framings_and_crc(rt: HostRuntime) -> Result<(), Fail> {
+fn checksummed_answer_in_pieces(rt: HostRuntime) -> Result<(), Fail> {
     let answer = checksummed_answer(rt.alloc())?;
     assert_eq!(rt; answer.len(), 269);
     let text = "begin -\ninsert 'd' 't' 0=5\ncommit 239\n";

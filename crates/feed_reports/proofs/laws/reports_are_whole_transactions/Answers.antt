@@ -1,0 +1,5 @@
+use Rattle.feed_reports.proofs.WholeReports.{whole_reports}
+use Rattle.feed_reports.proofs.laws.reports_are_whole_transactions.Goals as goal
+
+pub returns : goal.returns
+returns c = whole_reports
