@@ -1,9 +1,11 @@
 -- Bytes between quotes, some at a time.
-use Rattle.std.proofs.Common.{◌≡◌, ℕ, zero, suc, ◌+◌, ◌≤◌, List, [], ◌∷◌, ◌++◌, length, take, drop, refl, sym, ap, ap₂, ◌∙◌, append_assoc, arith}
-use Rattle.std.proofs.lemmas.List.{append-nil, take_all, take-take, length-take-le}
+use Rattle.std.proofs.Common.{◌≡◌, ℕ, zero, suc, ◌+◌, ◌≤◌, ◌/◌, ◌%◌, true, false, List, [], ◌∷◌, ◌++◌, length, take, drop, refl, sym, ap, ap₂, ◌∙◌, append_assoc, arith}
+use Rattle.std.specs.Prelude.{if◌then◌else◌}
+use Rattle.std.specs.Fmt.{digit_glyph}
+use Rattle.std.proofs.lemmas.List.{append-nil, take_all, take_at, take-take, length-take-le}
 use Rattle.std.proofs.Math.Seq.{take-add, take-append_seam, drop-append_seam}
 use Rattle.std.specs.List.{flat_map}
-use Rattle.feed_writers.specs.Quoting.{quoted_byte, quoted}
+use Rattle.feed_writers.specs.Quoting.{is_plain_byte, quoted_byte, quoted}
 use Rattle.feed_writers.specs.PlainBytes.{PlainTo}
 
 -- plain bytes at the front stand for themselves
@@ -53,3 +55,15 @@ plain_quoted s r len base one two new d few plain long first end second fits thi
     stand s zero h le = refl
     stand [] (suc n) h le = refl
     stand (x ∷ s) (suc n) h le = rw (h 0 (omega arith)) (ap (λ (t : List ℕ). x ∷ t) (stand s n (λ k q. h (suc k) (omega arith)) (omega arith)))
+
+-- what was written at a place leaves what stands before it
+front_stays : (n k : ℕ) (one two more : List ℕ) → n ≤ length one → take (n + k) two ≡ take n one ++ more → take n two ≡ take n one
+front_stays n k one two more fits is = sym (take-take n (n + k) two (omega arith)) ∙ ap (take n) is ∙ take_at (take n one) more n (length-take-le n one fits)
+
+-- a plain byte was written, and digits behind it that don't count
+pub plain_counts : (n k b x : ℕ) (base one two more : List ℕ) → is_plain_byte b ≡ true → x ≡ (if is_plain_byte b then b else 92) → n ≤ length one → take n one ≡ base ++ x ∷ [] → take (n + k) two ≡ take n one ++ more → take n two ≡ base ++ quoted_byte b
+plain_counts n k b x base one two more plain is fits first second = front_stays n k one two more fits second ∙ first ∙ rw (is, plain) refl
+
+-- a backslash was written and the digits of a byte
+pub escape_counts : (n k b x : ℕ) (base one two : List ℕ) → is_plain_byte b ≡ false → x ≡ (if is_plain_byte b then b else 92) → take n one ≡ base ++ x ∷ [] → take k two ≡ take n one ++ digit_glyph false (b / 16) ∷ digit_glyph false (b % 16) ∷ [] → take k two ≡ base ++ quoted_byte b
+escape_counts n k b x base one two plain is first second = second ∙ rw (first, is, plain) (simp append_assoc)

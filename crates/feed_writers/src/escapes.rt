@@ -1,6 +1,7 @@
 //! Bytes that don't stand for themselves between quotes.
 
-ghost use Rattle.std.specs.Prelude.{◌≡◌, ◌≤◌, ◌+◌, ◌*◌, ◌++◌, length, take};
+ghost use Rattle.std.specs.Prelude.{◌≡◌, ◌≤◌, ◌+◌, ◌*◌, ◌/◌, ◌%◌, ◌∷◌, ◌++◌, [], length, take, false};
+ghost use Rattle.std.specs.Fmt.{digit_glyph};
 ghost use Rattle.std.specs.List.{flat_map};
 ghost use Rattle.feed_writers.specs.Quoting.{escape};
 
@@ -17,7 +18,17 @@ pub(crate) fn put_escape(text: &mut [u8], at: usize, byte: u8) -> usize
     ensures text { take result text.new ≡ take at text.old ++ escape byte }
 {
     let end = put_byte(text, at, b'\\');
-    let end = put_byte(text, end, DIGITS[usize::from(byte / 16)]);
+    put_hex(text, end, byte)
+}
+
+/// Writes the two lower case hexadecimal digits of a byte.
+#[inline(always)]
+pub(crate) fn put_hex(text: &mut [u8], at: usize, byte: u8) -> usize
+    requires { at + 2 ≤ length text.old }
+    ensures end { result ≡ at + 2 }
+    ensures text { take result text.new ≡ take at text.old ++ digit_glyph false (byte / 16) ∷ digit_glyph false (byte % 16) ∷ [] }
+{
+    let end = put_byte(text, at, DIGITS[usize::from(byte / 16)]);
     put_byte(text, end, DIGITS[usize::from(byte % 16)])
 }
 

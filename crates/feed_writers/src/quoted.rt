@@ -1,11 +1,11 @@
 //! Bytes between quotes, eight at a time.
 
-ghost use Rattle.std.specs.Prelude.{◌≡◌, ◌≤◌, ◌+◌, ◌*◌, ◌++◌, IfNone, IfSome, length, take};
+ghost use Rattle.std.specs.Prelude.{◌≡◌, ◌≤◌, ◌+◌, ◌*◌, ◌++◌, IfNone, IfSome, length, take, if◌then◌else◌};
 ghost use Rattle.std.specs.List.{flat_map};
-ghost use Rattle.feed_writers.specs.Quoting.{quoted, quoted_byte};
+ghost use Rattle.feed_writers.specs.Quoting.{is_plain_byte, quoted, quoted_byte};
 
 use crate::digits::{put_byte, put_bytes};
-use crate::escapes::put_escape;
+use crate::escapes::{put_escape, put_hex};
 use crate::plain::{are_eight_plain, are_four_plain, is_plain, sixteen_plain_len};
 
 /// Writes bytes between single quotes.
@@ -67,7 +67,42 @@ fn put_eight(text: &mut [u8], at: usize, bytes: &[u8]) -> usize
     if are_eight_plain(bytes) {
         return put_bytes(text, at, bytes);
     }
-    put_each(text, at, bytes)
+    put_mixed(text, at, bytes)
+}
+
+/// Writes each byte as it stands between quotes, by the same steps whatever the bytes are.
+#[inline(always)]
+fn put_mixed(text: &mut [u8], at: usize, bytes: &[u8]) -> usize
+    requires { at + 3 * length bytes.now ≤ length text.old }
+    ensures most { result ≤ at + 3 * length bytes.now }
+    ensures text { take result text.new ≡ take at text.old ++ flat_map quoted_byte bytes.now }
+{
+    let mut end = at;
+    for byte in bytes {
+        end = put_either(text, end, *byte);
+    }
+    end
+}
+
+/// Writes a byte as it stands between quotes. Its digits are written in any case, so that the processor needn't foresee
+/// whether they count.
+#[inline(always)]
+fn put_either(text: &mut [u8], at: usize, byte: u8) -> usize
+    requires { at + 3 ≤ length text.old }
+    ensures most { result ≤ at + 3 }
+    ensures text { take result text.new ≡ take at text.old ++ quoted_byte byte }
+{
+    let plain = put_byte(text, at, first_of(byte));
+    let escaped = put_hex(text, plain, byte);
+    if is_plain(byte) { plain } else { escaped }
+}
+
+/// What a byte begins with between quotes: itself, or a backslash.
+#[inline(always)]
+fn first_of(byte: u8) -> u8
+    ensures { result ≡ (if is_plain_byte byte then byte else 92) }
+{
+    if is_plain(byte) { byte } else { b'\\' }
 }
 
 /// Writes fewer than eight bytes as they stand between quotes.
