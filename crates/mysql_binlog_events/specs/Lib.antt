@@ -1,3 +1,4 @@
+pub mod ReadAgain
 pub use Rattle.events_bodies.specs.Bodies
 pub use Rattle.events_bodies.specs.BodyViews
 pub use Rattle.events_bodies.specs.BodySizes

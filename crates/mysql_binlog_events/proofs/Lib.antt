@@ -1,0 +1,6 @@
+mod OneWayLemmas
+mod PlainBodyLemmas
+mod DescriptionOneLemmas
+mod GtidOneLemmas
+mod RowsOneLemmas
+mod StatementOneLemmas
