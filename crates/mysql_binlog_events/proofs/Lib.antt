@@ -4,3 +4,4 @@ mod DescriptionOneLemmas
 mod GtidOneLemmas
 mod RowsOneLemmas
 mod StatementOneLemmas
+mod WrittenAgainLemmas

@@ -1,4 +1,5 @@
 pub mod ReadAgain
+pub mod WrittenAgain
 pub use Rattle.events_bodies.specs.Bodies
 pub use Rattle.events_bodies.specs.BodyViews
 pub use Rattle.events_bodies.specs.BodySizes

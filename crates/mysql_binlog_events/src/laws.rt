@@ -11,6 +11,8 @@ ghost use Rattle.events_bodies.specs.UserVars.{IsUserVar, user_var_spelling, wri
 ghost use Rattle.events_queries.specs.Queries.{IsQuery, query_spelling, written_query};
 ghost use Rattle.events_queries.specs.LoadQueries.{IsLoadQuery, load_query_spelling, written_load_query};
 ghost use Rattle.events_gtids.specs.Gtids.{IsGtid, gtid_spelling};
+ghost use Rattle.std.specs.Fn.{FnReturnsAt};
+ghost use Rattle.mysql_binlog_events.specs.WrittenAgain.{IsWrittenBack, IsReadWithSum};
 ghost use Rattle.mysql_binlog_events.specs.ReadAgain.{IsReadInOneWay, IsReadAgain, IsSameAgain, IsDescriptionReadAgain, IsDescriptionSameAgain, IsRowsReadAgain, IsRowsSameAgain, AtEnd, Anywhere};
 
 pub use events_bodies::laws::{
@@ -89,4 +91,16 @@ pub fn read_bodies_are_the_same_again()
     ensures load_query { IsSameAgain written_load_query load_query_spelling IsLoadQuery AtEnd }
     ensures table_map { IsSameAgain written_map table_map_spelling (IsTableMap (post_header_length [] TABLE_MAP_EVENT)) AtEnd }
     ensures rows { IsRowsSameAgain }
+{}
+
+/// An event that was read, and whose checksum is what the function answers for it, is written with its own bytes: so what is
+/// written for it is read again as the same event.
+pub fn events_are_written_back<F: Fn(&[u8]) -> u32>()
+    ensures { (checksum : F) → IsWrittenBack (FnReturnsAt F.Fn checksum) }
+{}
+
+/// What is written for an event that was read is read again with the same parts, save that its checksum, where it has one, is
+/// what the function answers for it.
+pub fn written_events_are_read_again<F: Fn(&[u8]) -> u32>()
+    ensures { (checksum : F) → IsReadWithSum (FnReturnsAt F.Fn checksum) }
 {}
