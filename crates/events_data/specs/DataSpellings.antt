@@ -1,18 +1,21 @@
 -- What an event of any type says, and the bytes that are written for it.
-use Rattle.std.specs.Prelude.{◌≡◌, ℕ, List, Option, Some}
+use Rattle.std.specs.Prelude.{◌≡◌, ℕ, List, [], Option, Some}
+use Rattle.wire_buf.specs.Spelling.{ByteForm}
+use Rattle.wire_forms.specs.Texts.{IsAll}
 use Rattle.wire_forms.specs.RawTexts.{text_of}
 use Rattle.rows_meta.specs.MapViews.{map_of}
-use Rattle.rows_meta.specs.TableMaps.{written_map, table_map_spelling}
-use Rattle.rows_events.specs.RowsEvents.{written_body, rows_event_spelling}
-use Rattle.events_frames.specs.Descriptions.{description_of, written_description, description_spelling}
-use Rattle.events_bodies.specs.Bodies.{rotate_spelling, xid_spelling, rand_spelling, intvar_spelling, begin_load_query_spelling, written_incident, incident_spelling, rows_query_spelling}
+use Rattle.rows_consts.specs.declared.event_type.EventType.TheVariants.{TABLE_MAP_EVENT}
+use Rattle.rows_meta.specs.TableMaps.{IsTableMap, written_map, table_map_spelling}
+use Rattle.rows_events.specs.RowsEvents.{IsRowsEvent, written_ctx, written_body, rows_event_spelling}
+use Rattle.events_frames.specs.Descriptions.{IsFields, description_of, post_header_length, written_description, description_spelling}
+use Rattle.events_bodies.specs.Bodies.{IsRotate, IsXid, IsRand, IsIntvar, IsBeginLoadQuery, IsIncident, IsRowsQuery, rotate_spelling, xid_spelling, rand_spelling, intvar_spelling, begin_load_query_spelling, written_incident, incident_spelling, rows_query_spelling}
 use Rattle.events_bodies.specs.BodyViews.{rotate_of, xid_of, rand_of, intvar_of, begin_load_query_of, incident_of, rows_query_of}
-use Rattle.events_bodies.specs.UserVars.{written_user_var, user_var_spelling}
+use Rattle.events_bodies.specs.UserVars.{IsUserVar, written_user_var, user_var_spelling}
 use Rattle.events_bodies.specs.UserVarViews.{user_var_of}
-use Rattle.events_queries.specs.Queries.{written_query, query_spelling}
-use Rattle.events_queries.specs.LoadQueries.{written_load_query, load_query_spelling}
+use Rattle.events_queries.specs.Queries.{IsQuery, written_query, query_spelling}
+use Rattle.events_queries.specs.LoadQueries.{IsLoadQuery, written_load_query, load_query_spelling}
 use Rattle.events_queries.specs.QueryViews.{query_of, load_query_of}
-use Rattle.events_gtids.specs.Gtids.{gtid_spelling}
+use Rattle.events_gtids.specs.Gtids.{IsGtid, gtid_spelling}
 use Rattle.events_gtids.specs.GtidViews.{gtid_of}
 use Rattle.events_rows.specs.RowsViews.{data_of}
 use Rattle.events_data.specs.declared.event_data.EventData.{EventData}
@@ -56,3 +59,22 @@ data_spelling (read.GtidEvent e) = gtid_spelling (gtid_of e)
 data_spelling (read.AnonymousGtidEvent e) = gtid_spelling (gtid_of e.0)
 data_spelling (read.RowsEvent e) = rows_event_spelling (written_body (data_of e))
 data_spelling (read.Raw t bytes) = Some (text_of bytes)
+
+-- the bytes spell what is written of an event, which is cut where a length doesn't fit its field; a table map and rows by the post-header lengths of servers today
+abbrev pub IsData : ByteForm EventData
+IsData (read.QueryEvent e) bytes rest = IsQuery (written_query (query_of e)) bytes rest
+IsData (read.RotateEvent e) bytes rest = IsRotate (rotate_of e) bytes rest
+IsData (read.IntvarEvent e) bytes rest = IsIntvar (intvar_of e) bytes rest
+IsData (read.RandEvent e) bytes rest = IsRand (rand_of e) bytes rest
+IsData (read.UserVarEvent e) bytes rest = IsUserVar (written_user_var (user_var_of e)) bytes rest
+IsData (read.FormatDescriptionEvent e) bytes rest = IsFields (written_description (description_of e)) bytes rest
+IsData (read.XidEvent e) bytes rest = IsXid (xid_of e) bytes rest
+IsData (read.BeginLoadQueryEvent e) bytes rest = IsBeginLoadQuery (begin_load_query_of e) bytes rest
+IsData (read.ExecuteLoadQueryEvent e) bytes rest = IsLoadQuery (written_load_query (load_query_of e)) bytes rest
+IsData (read.TableMapEvent e) bytes rest = IsTableMap (post_header_length [] TABLE_MAP_EVENT) (written_map (map_of e)) bytes rest
+IsData (read.IncidentEvent e) bytes rest = IsIncident (written_incident (incident_of e)) bytes rest
+IsData (read.RowsQueryEvent e) bytes rest = IsRowsQuery (rows_query_of e) bytes rest
+IsData (read.GtidEvent e) bytes rest = IsGtid (gtid_of e) bytes rest
+IsData (read.AnonymousGtidEvent e) bytes rest = IsGtid (gtid_of e.0) bytes rest
+IsData (read.RowsEvent e) bytes rest = IsRowsEvent (written_ctx (data_of e).event_type) (written_body (data_of e)) bytes rest
+IsData (read.Raw t raw) bytes rest = IsAll (text_of raw) bytes rest
