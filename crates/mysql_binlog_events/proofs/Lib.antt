@@ -5,3 +5,5 @@ mod GtidOneLemmas
 mod RowsOneLemmas
 mod StatementOneLemmas
 mod WrittenAgainLemmas
+mod DataAgainLemmas
+mod NewestLemmas

@@ -1,4 +1,6 @@
 pub mod ReadAgain
+pub mod Newest
+pub mod DataAgain
 pub mod WrittenAgain
 pub use Rattle.events_bodies.specs.Bodies
 pub use Rattle.events_bodies.specs.BodyViews

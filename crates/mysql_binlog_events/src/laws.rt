@@ -1,6 +1,6 @@
 //! Laws of the parts and of the whole, each proved as the contract of a function that does nothing.
 
-ghost use Rattle.std.specs.Prelude.{[], ℕ};
+ghost use Rattle.std.specs.Prelude.{◌≡◌, [], ℕ, List};
 ghost use Rattle.rows_consts.specs.declared.event_type.EventType.TheVariants.{TABLE_MAP_EVENT};
 ghost use Rattle.rows_meta.specs.TableMaps.{IsTableMap, table_map_spelling, written_map};
 ghost use Rattle.rows_events.specs.RowsEvents.{IsRowsEvent};
@@ -12,6 +12,9 @@ ghost use Rattle.events_queries.specs.Queries.{IsQuery, query_spelling, written_
 ghost use Rattle.events_queries.specs.LoadQueries.{IsLoadQuery, load_query_spelling, written_load_query};
 ghost use Rattle.events_gtids.specs.Gtids.{IsGtid, gtid_spelling};
 ghost use Rattle.std.specs.Fn.{FnReturnsAt};
+ghost use Rattle.mysql_binlog_events.specs.DataAgain.{IsDataSameAgain};
+ghost use Rattle.events_stream.specs.Readings.{Reading, Said, first_reading};
+ghost use Rattle.mysql_binlog_events.specs.Newest.{TakesAll, newest_description, newest_table_map};
 ghost use Rattle.mysql_binlog_events.specs.WrittenAgain.{IsWrittenBack, IsReadWithSum};
 ghost use Rattle.mysql_binlog_events.specs.ReadAgain.{IsReadInOneWay, IsReadAgain, IsSameAgain, IsDescriptionReadAgain, IsDescriptionSameAgain, IsRowsReadAgain, IsRowsSameAgain, AtEnd, Anywhere};
 
@@ -103,4 +106,17 @@ pub fn events_are_written_back<F: Fn(&[u8]) -> u32>()
 /// what the function answers for it.
 pub fn written_events_are_read_again<F: Fn(&[u8]) -> u32>()
     ensures { (checksum : F) → IsReadWithSum (FnReturnsAt F.Fn checksum) }
+{}
+
+/// The body of an event of any type that was read, written and read again is the same, by the post-header lengths of servers
+/// today. A description has no footer then, as when it was read.
+pub fn read_data_are_the_same_again()
+    ensures { IsDataSameAgain }
+{}
+
+/// Behind all events that a reader took, the description in force is that of the newest description, or the first one where
+/// there was none; and the table map of an id is the newest of this id, where no other file began behind it.
+pub fn readers_know_the_newest()
+    ensures description { (first r : Reading) (said : List Said) → TakesAll first said r → r.description ≡ newest_description first.description said }
+    ensures table_map { (version id : ℕ) (r : Reading) (said : List Said) → TakesAll (first_reading version) said r → r.table_map id ≡ newest_table_map id said }
 {}
