@@ -10,7 +10,7 @@ use events_data::EventData;
 use events_frames::{BinlogCtx, EventError, FormatDescriptionEvent};
 use rows_consts::{BinlogVersion, EventType};
 use std::alloc::Global;
-use wire_buf::{MySerialize, WireFault};
+use wire_buf::MySerialize;
 
 /// The body of an event of the type, where a description says no post-header lengths.
 fn read<'a>(
@@ -49,32 +49,10 @@ fn form(event: &EventData<'_>) -> Option<EventType> {
     })
 }
 
-/// Appends the bytes that are written for the event.
-fn put(event: &EventData<'_>, out: &mut Vec<u8>) -> Result<(), WireFault> {
-    match event {
-        EventData::QueryEvent(event) => event.serialize(out),
-        EventData::RotateEvent(event) => event.serialize(out),
-        EventData::IntvarEvent(event) => event.serialize(out),
-        EventData::RandEvent(event) => event.serialize(out),
-        EventData::UserVarEvent(event) => event.serialize(out),
-        EventData::FormatDescriptionEvent(event) => event.serialize(out),
-        EventData::XidEvent(event) => event.serialize(out),
-        EventData::BeginLoadQueryEvent(event) => event.serialize(out),
-        EventData::ExecuteLoadQueryEvent(event) => event.serialize(out),
-        EventData::TableMapEvent(event) => event.serialize(out),
-        EventData::IncidentEvent(event) => event.serialize(out),
-        EventData::RowsQueryEvent(event) => event.serialize(out),
-        EventData::GtidEvent(event) => event.serialize(out),
-        EventData::AnonymousGtidEvent(event) => event.serialize(out),
-        EventData::RowsEvent(event) => event.serialize(out),
-        EventData::Raw(_, bytes) => bytes.serialize(out),
-    }
-}
-
 /// Whether the event is written as the bytes, and says how many they are.
 fn is_written(alloc: Global, event: &EventData<'_>, bytes: &[u8]) -> bool {
     let mut out = Vec::new(alloc);
-    put(event, &mut out).is_ok() && out.as_slice() == bytes && event.len() == bytes.len()
+    event.serialize(&mut out).is_ok() && out.as_slice() == bytes && event.len() == bytes.len()
 }
 
 /// Whether two events are of one form and equal by `==`.
