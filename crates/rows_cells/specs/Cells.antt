@@ -1,5 +1,5 @@
 -- One cell: which bytes spell which value, and the cell at the front of bytes.
-use Rattle.std.specs.Prelude.{◌≡◌, ⊤, ◌++◌, ℕ, List, length}
+use Rattle.std.specs.Prelude.{◌≡◌, ⊤, ◌<◌, ◌++◌, ◌⊎◌, ℕ, List, length}
 use Rattle.std.specs.declared.result.Result.TheVariants.{Ok, Err}
 use Rattle.wire_buf.specs.Numbers.{IsLittle}
 use Rattle.rows_jsonb.specs.JsonbValues.{Reading, ◌>>=◌}
@@ -37,3 +37,7 @@ cell_at form bytes = do
   content ← content_at (size_of form) bytes
   value ← worth form content.0
   Ok (value, content.1)
+
+-- no cell of at most 16 bytes is at the front, behind a length of one byte, with 16 bytes or more behind the length
+abbrev pub LacksFew : List ℕ → Type 0
+LacksFew bytes = (content rest : List ℕ) → counted 1 bytes ≡ Ok (content, rest) → (16 < length content) ⊎ (length bytes < 17)

@@ -11,7 +11,7 @@ use Rattle.rows_cells.specs.declared.rows.RowPart.TheVariants as part
 use Rattle.rows_cells.specs.declared.rows.Stage.{Stage}
 use Rattle.rows_cells.specs.declared.rows.Stage.TheVariants.{Start, First, Second}
 use Rattle.rows_cells.specs.declared.rows.RowsCursor.{RowsCursor}
-use Rattle.rows_cells.specs.CellViews.{cell_value}
+use Rattle.rows_cells.specs.CellViews.{cell_value, IsReadable}
 use Rattle.rows_cells.specs.Images.{PlacedValue, ImageShape}
 use Rattle.rows_cells.specs.ImageViews.{image_shape, cells_left, cells_count}
 use Rattle.rows_cells.specs.EventRows.{images_at, row_at, some_taken}
@@ -77,9 +77,9 @@ abbrev pub with_cell : PlacedValue → List (List PlacedValue) → List (List Pl
 with_cell v [] = []
 with_cell v (cells ∷ images) = (v ∷ cells) ∷ images
 
--- the part that was given, before what is left of the row
+-- the part that was given, a cell that can be read among them, before what is left of the row
 abbrev pub GivesPart : RowsCursor → RowPart → RowsCursor → Type 0
-GivesPart old (part.Cell place cell) new = (row_left old ≡ (row_left new >>= λ x. Ok (with_cell (record { place = place; value = cell_value cell }) x.0, x.1))) × IsInRow new
+GivesPart old (part.Cell place cell) new = (row_left old ≡ (row_left new >>= λ x. Ok (with_cell (record { place = place; value = cell_value cell }) x.0, x.1))) × IsReadable cell × IsInRow new
 GivesPart old part.NextImage new = (row_left old ≡ (row_left new >>= λ x. Ok ([] ∷ x.0, x.1))) × IsInRow new
 GivesPart old part.EndOfRow new = (row_left old ≡ Ok ([] ∷ [], new.cells.rest.now)) × IsBetween new new.cells.rest.now
 

@@ -1,13 +1,13 @@
 //! The cell at the front of bytes.
 
-ghost use Rattle.std.specs.Prelude.{◌≡◌, ◌≤◌, IfOk, IfSome, Ok, length, take};
+ghost use Rattle.std.specs.Prelude.{◌≡◌, ◌≤◌, IfOk, IfSome, IfNone, Ok, length, take, drop};
 ghost use Rattle.rows_decimal.specs.Unpacked.{packed_text};
 ghost use Rattle.rows_jsonb.specs.JsonbViews.{shown};
 ghost use Rattle.rows_cells.specs.CellForms.{size_of, decimal_size};
 ghost use Rattle.rows_cells.specs.declared.form.Width.TheVariants.{One};
 ghost use Rattle.rows_cells.specs.declared.form.CellForm.TheVariants.{Signed, Unsigned, Counted, Datetime2, Time2};
 ghost use Rattle.rows_cells.specs.CellValues.{int, bytes as bytes_value, date_of, span_of, worth, decimal_value};
-ghost use Rattle.rows_cells.specs.Cells.{content_at, cell_at, IsSized};
+ghost use Rattle.rows_cells.specs.Cells.{content_at, cell_at, IsSized, LacksFew};
 ghost use Rattle.rows_cells.specs.CellViews.{cell_value, IsReadable};
 
 use crate::cell::CellRef;
@@ -78,6 +78,8 @@ pub fn few_bytes_front(bytes: &[u8]) -> Option<(&[u8], usize, &[u8])>
     ensures few { IfSome result (λ x. x.1 ≤ 16) }
     ensures sixteen { IfSome result (λ x. 16 ≤ length x.0.now) }
     ensures cell { IfSome result (λ x. cell_at (Counted One) bytes.now ≡ Ok (bytes_value (take x.1 x.0.now), x.2.now)) }
+    ensures behind { IfSome result (λ x. x.0.now ≡ drop 1 bytes.now) }
+    ensures none { IfNone result (LacksFew bytes.now) }
 {
     let Ok((size, after)) = split_front(bytes, 1) else {
         return None;

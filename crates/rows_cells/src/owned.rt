@@ -5,7 +5,7 @@ ghost use Rattle.std.specs.Fmt.{decimal};
 ghost use Rattle.rows_values.specs.TimeTexts.{padded};
 ghost use Rattle.rows_decimal.specs.Unpacked.{packed_text};
 ghost use Rattle.rows_cells.specs.CellValues.{new_date as new_date_value, old_time as old_time_value, old_datetime as old_datetime_value, timestamp_text as timestamp_text_of, micros_text};
-ghost use Rattle.rows_cells.specs.CellViews.{cell_value, value_view, Holds, IsRefused};
+ghost use Rattle.rows_cells.specs.CellViews.{cell_value, value_view, Holds, IsRefused, IsReadable};
 ghost use Rattle.rows_values.specs.declared.fault.RowsError.TheVariants.{Memory, Decimal as BadDecimal};
 
 use crate::binlog_value::BinlogValue;
@@ -24,6 +24,7 @@ impl<'a> CellRef<'a> {
     /// that pack no decimal is `Decimal`, and of bytes that are no document, or no changes of one, `Jsonb`.
     pub fn to_value(self, alloc: Global) -> Result<BinlogValue<'a>, RowsError>
         ensures ok { IfOk result (λ v. Holds (cell_value self.entry) v) }
+        ensures readable { IfOk result (λ v. IsReadable self.entry) }
         ensures err { IfErr result (λ e. e ≡ Memory ⊎ IsRefused self.entry e) }
     {
         let value = match self {

@@ -146,3 +146,51 @@ fn decimals_in_a_buffer(rt: HostRuntime) {
             )
     );
 }
+
+/// Whether texts of each kind stand in a buffer as they were put there, one behind the other.
+fn are_put(alloc: Global, wanted: &[u8]) -> bool {
+    let mut out = TextBuffer::new(alloc);
+    out.put_text(b"ab") == Ok(())
+        && out.put(b'=') == Ok(())
+        && out.put_quoted(b"a'") == Ok(())
+        && out.put_number(u64::MAX) == Ok(())
+        && out.put_hexadecimal(b"\x0f\xa0") == Ok(())
+        && out.as_slice() == wanted
+}
+
+// Bytes as they stand, one byte, quoted bytes, a number and hexadecimal digits.
+#[test]
+fn texts_in_a_buffer(rt: HostRuntime) {
+    assert!(rt; are_put(rt.alloc(), br"ab='a\27'184467440737095516150fa0"));
+}
+
+/// Why no value is made of a cell, or none where one is.
+fn no_value(alloc: Global, cell: CellRef<'_>) -> Option<RowsError> {
+    match cell.to_value(alloc) {
+        Ok(value) => {
+            drop(value);
+            None
+        }
+        Err(fault) => Some(fault),
+    }
+}
+
+/// Whether a cell has no text in a buffer and no value, for this fault, and nothing is put.
+fn is_refused(alloc: Global, cell: CellRef<'_>, fault: RowsError) -> bool {
+    let mut out = TextBuffer::new(alloc);
+    out.put_cell(alloc, 7, cell) == Err(fault)
+        && out.as_slice().is_empty()
+        && no_value(alloc, cell) == Some(fault)
+}
+
+// A decimal whose bytes pack none, with few digits and with many, and bytes that are no document.
+#[test]
+fn cells_without_a_text(rt: HostRuntime) {
+    let alloc = rt.alloc();
+    assert!(rt;
+        is_refused(alloc, CellRef::Decimal(2, 0, b"\xe4"), RowsError::Decimal)
+            && is_refused(alloc, CellRef::Decimal(80, 0, b"\xe4"), RowsError::Decimal)
+            && is_refused(alloc, CellRef::Json(b"\x0d"), RowsError::Jsonb(None))
+            && is_refused(alloc, CellRef::JsonDiffs(b"\x03"), RowsError::Jsonb(None))
+    );
+}
