@@ -22,12 +22,17 @@ fn takes(alloc: Global, text: &str, shown: &str) -> bool {
     is_shown(alloc, Decimal::from_str(alloc, text), shown)
 }
 
-/// Whether the text is refused.
-fn refuses(alloc: Global, text: &str) -> bool {
-    match Decimal::from_str(alloc, text) {
+/// Whether there is no decimal, since the text is none.
+fn is_no_text(decimal: Result<Decimal, ParseDecimalError>) -> bool {
+    match decimal {
         Ok(_) => false,
         Err(error) => error == ParseDecimalError::Text,
     }
+}
+
+/// Whether the text is refused.
+fn refuses(alloc: Global, text: &str) -> bool {
+    is_no_text(Decimal::from_str(alloc, text))
 }
 
 #[test]
@@ -52,8 +57,9 @@ fn refused_texts(rt: HostRuntime) {
 fn texts_as_bytes(rt: HostRuntime) {
     let alloc = rt.alloc();
     assert!(rt;
-        Decimal::parse_str_bytes(alloc, b" 1").is_err()
-            && Decimal::parse_bytes(alloc, b"\xff").is_err()
+        is_no_text(Decimal::parse_str_bytes(alloc, b" 1"))
+            && is_no_text(Decimal::parse_bytes(alloc, b"\xff"))
+            && is_no_text(Decimal::parse_bytes(alloc, b"1e3"))
             && is_shown(alloc, Decimal::parse_str_bytes(alloc, b"1.5"), "1.5")
             && is_shown(alloc, Decimal::parse_bytes(alloc, b" 2.5"), "2.5")
             && is_shown(alloc, Decimal::zero(alloc), "0")
