@@ -17,3 +17,4 @@ pub mod TableLemmas
 pub mod StandingLemmas
 pub mod SoundLemmas
 pub mod TakingLemmas
+pub mod DamageLemmas

@@ -14,6 +14,7 @@ pub mod Sums
 pub mod Tables
 pub mod Standing
 pub mod Sound
+pub mod SoundEvents
 pub mod Laws
 pub mod WorkedEvents
 pub mod Verdicts

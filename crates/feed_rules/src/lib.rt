@@ -6,6 +6,7 @@ mod event_kind;
 pub mod laws;
 mod lines;
 mod open_transaction;
+mod sound_events;
 mod sound_parts;
 mod tables;
 mod texts;
@@ -15,5 +16,6 @@ pub mod worked;
 
 pub use event_kind::{EventKind, Gtid};
 pub use lines::put_rows;
+pub use sound_events::SoundEvents;
 pub use transactions::Transactions;
 pub use verdict::{Verdict, name_of, status};
