@@ -1,0 +1,9 @@
+pub mod PacketLemmas
+pub mod RequestLemmas
+pub mod SendingLemmas
+pub mod AnswerLemmas
+pub mod SeekLemmas
+pub mod PassingLemmas
+pub mod FileLemmas
+pub mod FieldLemmas
+pub mod ServingLemmas

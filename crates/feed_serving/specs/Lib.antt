@@ -1,0 +1,8 @@
+pub mod Requests
+pub mod Places
+pub mod Serving
+pub mod Sending
+pub mod ServedNames
+pub mod Passing
+pub mod Laws
+pub mod WorkedServing

@@ -1,0 +1,14 @@
+//! A server of a binary log: it takes a request, and sends the file's own events from a place on.
+#![tactic(auto)]
+
+pub mod laws;
+mod packets;
+mod passing;
+mod requests;
+mod sending;
+mod served;
+mod serving;
+pub mod worked;
+
+pub use served::{Refusal, Served};
+pub use serving::serve;

@@ -1,0 +1,72 @@
+//! Packets, written straight from the bytes of their payloads.
+
+ghost use Rattle.std.specs.Prelude.{◌≡◌, ℕ, List, ◌+◌, ◌≤◌, ◌++◌, length, OnOk, IfOk, IfErr};
+ghost use Rattle.std.specs.Io.KnownBytes.{Appends};
+ghost use Rattle.wire_streams.specs.Watched.{inner_of, has_failed};
+ghost use Rattle.wire_packets.specs.Framing.{longest, chunk, framing, next_number};
+ghost use Rattle.feed_reports.specs.Writing.{IsCutWrite};
+
+use feed_reports::put_all;
+use feed_rules::Verdict;
+use std::io::Write;
+use wire_consts::MAX_PAYLOAD_LEN;
+use wire_streams::Watched;
+
+/// The greatest length of what stands before an event in a payload, in bytes.
+const MAX_LEAD_LEN: usize = 3;
+
+/// What stands before a chunk of this length: the length in three bytes, and the chunk's number.
+fn chunk_header(len: usize, number: u8) -> [u8; 4]
+    requires { len ≤ longest }
+    ensures { (bytes : List ℕ) → length bytes ≡ len → result ++ bytes ≡ chunk number bytes }
+{
+    let len = (len as u32).to_le_bytes();
+    [len[0], len[1], len[2], number]
+}
+
+/// Writes one chunk: its length in three bytes, its number, and its bytes, which are these two runs.
+///
+/// Refused with `Write` where the writer failed; a front of the chunk is then written.
+fn put_chunk<W: Write>(
+    writer: &mut Watched<W>,
+    number: u8,
+    lead: &[u8],
+    slice: &[u8],
+) -> Result<(), Verdict>
+    requires short { length lead.now + length slice.now ≤ longest }
+    ensures ok { OnOk result (Appends (W.contents (inner_of writer.old)) (W.contents (inner_of writer.new)) (chunk number (lead.now ++ slice.now))) }
+    ensures fault { IfErr result (IsCutWrite (W.contents (inner_of writer.old)) (W.contents (inner_of writer.new)) (chunk number (lead.now ++ slice.now)) (has_failed writer.new)) }
+{
+    put_all(writer, &chunk_header(lead.len() + slice.len(), number))?;
+    put_all(writer, lead)?;
+    put_all(writer, slice)
+}
+
+/// Writes the packet of the payload that is `lead` and then `body`, in chunks numbered from `number` on, and answers the
+/// number of the chunk after it.
+///
+/// Refused with `Write` where the writer failed; a front of the packet is then written.
+pub(crate) fn put_packet<W: Write>(
+    writer: &mut Watched<W>,
+    number: u8,
+    lead: &[u8],
+    body: &[u8],
+) -> Result<u8, Verdict>
+    requires { length lead.now ≤ MAX_LEAD_LEN }
+    ensures ok { OnOk result (Appends (W.contents (inner_of writer.old)) (W.contents (inner_of writer.new)) (framing number (lead.now ++ body.now))) }
+    ensures next { IfOk result (λ n. n ≡ next_number number (lead.now ++ body.now)) }
+    ensures fault { IfErr result (IsCutWrite (W.contents (inner_of writer.old)) (W.contents (inner_of writer.new)) (framing number (lead.now ++ body.now)) (has_failed writer.new)) }
+{
+    let (slice, mut rest) = body.split_at(body.len().min(MAX_PAYLOAD_LEN - lead.len()));
+    put_chunk(writer, number, lead, slice)?;
+    let mut number = number.wrapping_add(1);
+    let mut is_whole = lead.len() + slice.len() == MAX_PAYLOAD_LEN;
+    while is_whole {
+        let (slice, after) = rest.split_at(rest.len().min(MAX_PAYLOAD_LEN));
+        put_chunk(writer, number, &[], slice)?;
+        number = number.wrapping_add(1);
+        is_whole = slice.len() == MAX_PAYLOAD_LEN;
+        rest = after;
+    }
+    Ok(number)
+}
