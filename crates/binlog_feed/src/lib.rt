@@ -1,9 +1,9 @@
-//! The change feed of a MySQL binary log: the report of a file, a follower of a server's packets, and the words for how
-//! each ended.
+//! The change feed of a MySQL binary log: the report of a file, a follower of a server's packets, a server of a file, and
+//! the words for how each ended.
 //!
 //! Each thing is made in a part of its own: `feed_rules` has the rules by which one event is judged after those before it,
 //! and the transactions that events show; `feed_reports` the report of a file; `feed_streams` the follower of a stream and
-//! the request that asks for it; `feed_text` the text of values. The parts stand on those of `mysql_binlog_events`,
+//! the request that asks for it; `feed_serving` the answer to such a request; `feed_text` the text of values. The parts stand on those of `mysql_binlog_events`,
 //! `mysql_binlog_rows` and `mysql_wire`.
 #![tactic(auto)]
 
@@ -11,6 +11,7 @@ pub mod laws;
 
 pub use feed_reports::report;
 pub use feed_rules::{Verdict, name_of, status};
+pub use feed_serving::{Refusal, Served, serve};
 pub use feed_streams::{Follower, RequestError, request};
 pub use feed_text::{put_value, quote};
 pub use wire_streams::{MAX_READS, Watched};

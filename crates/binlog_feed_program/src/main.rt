@@ -1,7 +1,7 @@
 //! The program `binlog-feed`: the change feed of a MySQL binary log.
 #![tactic(auto)]
 
-use binlog_feed::{Follower, Verdict, Watched, name_of, report, request, status};
+use binlog_feed::{Follower, Served, Verdict, Watched, name_of, report, request, serve, status};
 use crc32::crc32;
 use std::alloc::Global;
 use std::env;
@@ -68,17 +68,76 @@ fn report_to_stdout<P: Print, R: Read + Drop>(rt: &P, alloc: Global, reader: R) 
     flushed(&mut writer.into_inner(), verdict)
 }
 
-/// Reports a file.
-fn report_file<P: Print + Eprint + Files>(rt: &P, alloc: Global, path: &str) -> ExitCode {
+/// Opens a file to read it, or says why not: `Memory` or `Open`.
+fn open<P: Files>(rt: &P, alloc: Global, path: &str) -> Result<BufReader<P::File>, &'static str> {
     let file = match File::open(rt, path) {
         Ok(file) => file,
-        Err(error) if error.kind() == ErrorKind::OutOfMemory => return fail(rt, "Memory"),
-        Err(_) => return fail(rt, "Open"),
+        Err(error) if error.kind() == ErrorKind::OutOfMemory => return Err("Memory"),
+        Err(_) => return Err("Open"),
     };
-    let Ok(reader) = BufReader::with_capacity(alloc, BUFFER_LEN, file) else {
-        return fail(rt, "Memory");
+    BufReader::with_capacity(alloc, BUFFER_LEN, file).map_err(|_| "Memory")
+}
+
+/// Reports a file.
+fn report_file<P: Print + Eprint + Files>(rt: &P, alloc: Global, path: &str) -> ExitCode {
+    match open(rt, alloc, path) {
+        Ok(reader) => end_with(rt, report_to_stdout(rt, alloc, reader)),
+        Err(name) => fail(rt, name),
+    }
+}
+
+/// All that a reader gives, or `Read` or `Memory`.
+fn whole<R: Read + Drop>(alloc: Global, mut reader: R) -> Result<Vec<u8>, Verdict> {
+    let mut bytes = Vec::new(alloc);
+    match reader.read_to_end(&mut bytes) {
+        Ok(_) => Ok(bytes),
+        Err(error) if error.kind() == ErrorKind::OutOfMemory => Err(Verdict::Memory),
+        Err(_) => Err(Verdict::Read),
+    }
+}
+
+/// Writes the answer to a request to standard output.
+fn serve_to_stdout<P: Print, R: Read + Drop>(
+    rt: &P,
+    alloc: Global,
+    request: &[u8],
+    name: &[u8],
+    reader: R,
+) -> Served {
+    let Ok(out) = BufWriter::with_capacity(alloc, BUFFER_LEN, io::writer(rt)) else {
+        return Served::Fault(Verdict::Memory);
     };
-    end_with(rt, report_to_stdout(rt, alloc, reader))
+    let mut reader = Watched::new(reader);
+    let mut writer = Watched::new(out);
+    let served = serve(
+        alloc,
+        request,
+        name,
+        PACKET_LIMIT,
+        &mut reader,
+        &crc32,
+        &mut writer,
+    );
+    match writer.into_inner().flush() {
+        Ok(()) => served,
+        Err(_) => Served::Fault(Verdict::Write),
+    }
+}
+
+/// Serves a file under a name: the request is all of standard input.
+fn serve_file(rt: &HostRuntime, alloc: Global, path: &str, name: &[u8]) -> ExitCode {
+    let reader = match open(rt, alloc, path) {
+        Ok(reader) => reader,
+        Err(name) => return fail(rt, name),
+    };
+    let request = match whole(alloc, rt.reader()) {
+        Ok(request) => request,
+        Err(fault) => return fail(rt, name_of(&fault)),
+    };
+    match serve_to_stdout(rt, alloc, &request, name, reader) {
+        Served::Whole => ExitCode::SUCCESS,
+        served => fail(rt, served.name()),
+    }
 }
 
 /// Writes a request to standard output.
@@ -166,6 +225,9 @@ fn run(rt: &HostRuntime, words: &[String]) -> ExitCode {
                 }
                 _ => fail(rt, "Usage"),
             }
+        }
+        ("serve", [path, name]) => {
+            serve_file(rt, alloc, path.as_str(), name.as_str().as_bytes())
         }
         ("follow", []) => end_with(rt, follow(rt, alloc, rt.reader())),
         _ => fail(rt, "Usage"),

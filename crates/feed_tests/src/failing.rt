@@ -10,9 +10,9 @@ use std::test::*;
 
 /// A writer that takes so many bytes, and then fails.
 #[derive(Drop)]
-struct Full {
-    taken: Vec<u8>,
-    room: usize,
+pub struct Full {
+    pub taken: Vec<u8>,
+    pub room: usize,
 }
 
 impl Write for Full {

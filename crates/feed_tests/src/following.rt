@@ -1,6 +1,6 @@
 //! Worked streams of packets.
 
-use crate::samples::{BEGIN, MAP, ROWS, TEXT, XID, checksummed, description};
+use crate::samples::{BEGIN, MAP, ROWS, TEXT, XID, checksummed, description, put_packet};
 use binlog_feed::{Follower, RequestError, Verdict, Watched};
 use crc32::crc32;
 use std::alloc::{AllocError, Global};
@@ -33,14 +33,6 @@ fn whole_answer(alloc: Global) -> Result<Vec<u8>, AllocError> {
     Ok(answer)
 }
 
-/// Appends the packet of an event, with this number.
-fn put_packet(stream: &mut Vec<u8>, number: u8, event: &[u8]) -> Result<(), AllocError> {
-    let len = event.len().saturating_add(1).to_le_bytes();
-    stream.extend_from_slice(&len[..3])?;
-    stream.extend_from_slice(&[number, 0])?;
-    stream.extend_from_slice(event)
-}
-
 /// A server's answer of a log of one transaction with checksums, with its closing packet, 269 bytes.
 fn checksummed_answer(alloc: Global) -> Result<Vec<u8>, AllocError> {
     let mut answer = Vec::new(alloc);
@@ -54,7 +46,7 @@ fn checksummed_answer(alloc: Global) -> Result<Vec<u8>, AllocError> {
 }
 
 /// Feeds a stream in pieces, and finishes.
-fn followed(
+pub fn followed(
     alloc: Global,
     stream: &[u8],
     limit: usize,

@@ -1,5 +1,5 @@
-//! Tests of the change feed through its public calls: worked binary logs with events of each kind, worked streams, requests,
-//! names, readers and writers that fail, and checksums.
+//! Tests of the change feed through its public calls: worked binary logs with events of each kind, worked streams, requests
+//! and answers to them, names, readers and writers that fail, and checksums.
 #![tactic(auto)]
 
 #[cfg(test)]
@@ -18,5 +18,7 @@ mod requesting;
 mod rows;
 #[cfg(test)]
 mod samples;
+#[cfg(test)]
+mod serving;
 #[cfg(test)]
 mod verdicts;

@@ -122,6 +122,14 @@ pub fn file_of(alloc: Global, events: &[&[u8]]) -> Result<Vec<u8>, AllocError> {
     Ok(file)
 }
 
+/// Appends the packet of an event, with this number.
+pub fn put_packet(stream: &mut Vec<u8>, number: u8, event: &[u8]) -> Result<(), AllocError> {
+    let len = event.len().saturating_add(1).to_le_bytes();
+    stream.extend_from_slice(&len[..3])?;
+    stream.extend_from_slice(&[number, 0])?;
+    stream.extend_from_slice(event)
+}
+
 /// A reader that gives some bytes, at most so many at once, and then ends or fails.
 #[derive(Drop)]
 pub struct Pieces<'a> {
