@@ -27,6 +27,13 @@ pub use Rattle.feed_streams.specs.Requests
 pub use Rattle.feed_streams.specs.RequestErrors
 pub use Rattle.feed_streams.specs.Following
 pub use Rattle.feed_streams.specs.WorkedStreams
+pub use Rattle.feed_serving.specs.Requests as ServedRequests
+pub use Rattle.feed_serving.specs.Places
+pub use Rattle.feed_serving.specs.Serving
+pub use Rattle.feed_serving.specs.Sending
+pub use Rattle.feed_serving.specs.ServedNames
+pub use Rattle.feed_serving.specs.Laws as ServingLaws
+pub use Rattle.feed_serving.specs.WorkedServing
 pub use Rattle.feed_text.specs.Pieces
 pub use Rattle.feed_text.specs.Times
 pub use Rattle.feed_text.specs.ValueText

@@ -10,6 +10,11 @@ pub use feed_rules::laws::{
     what_came_before_does_not_matter,
 };
 pub use feed_rules::worked::{worked_checksums, worked_kinds, worked_rows};
+pub use feed_serving::laws::{
+    lengths_of_packets, requests_are_packets, requests_are_their_fields,
+    serving_from_the_start_loses_nothing, serving_stops_at_damage,
+};
+pub use feed_serving::worked::{worked_damage, worked_dumps, worked_places};
 pub use feed_streams::laws::payloads_are_of_their_events;
 pub use feed_streams::worked::{worked_answers, worked_ends, worked_requests};
 pub use feed_text::laws::{

@@ -1,10 +1,10 @@
-//! The change feed of a MySQL binary log: the report of a file, a follower of a server's packets, a server of a file, and
-//! the words for how each ended.
+//! The change feed of a MySQL binary log: the report of a file, a follower of a server's packets, a server that answers its
+//! requests, and the words for how each ended.
 //!
 //! Each thing is made in a part of its own: `feed_rules` has the rules by which one event is judged after those before it,
 //! and the transactions that events show; `feed_reports` the report of a file; `feed_streams` the follower of a stream and
-//! the request that asks for it; `feed_serving` the answer to such a request; `feed_text` the text of values. The parts stand on those of `mysql_binlog_events`,
-//! `mysql_binlog_rows` and `mysql_wire`.
+//! the request that asks for it; `feed_serving` the server of a file; `feed_text` the text of values. The parts stand on those
+//! of `mysql_binlog_events`, `mysql_binlog_rows` and `mysql_wire`.
 #![tactic(auto)]
 
 pub mod laws;
