@@ -121,7 +121,7 @@ fn checksummed_file(rt: HostRuntime) -> Result<(), Fail> {
     let alloc = rt.alloc();
     let first = description(alloc, 1)?;
     let map = checksummed(alloc, 19, 168, &MAP[19..])?;
-    let (_, checksum) = map.split_at(37);
+    let (_, checksum) = map.split_at(map.len().min(37));
     let log = checksummed_log(alloc, checksum)?;
     assert!(rt; gives(alloc, &log, 239, LIMIT, &[&first], Served::Whole)?);
     Ok(())
@@ -245,7 +245,7 @@ fn serve_with_a_failing_writer(rt: HostRuntime) -> Result<(), Fail> {
     let whole = answer_of(rt.alloc(), &[&BEGIN, &MAP, &ROWS, &XID], true)?;
     for room in 0..167 {
         let (written, outcome) = served_into(rt.alloc(), room)?;
-        let (front, _) = whole.split_at(room);
+        let (front, _) = whole.split_at(room.min(whole.len()));
         assert!(rt; outcome == Served::Fault(Verdict::Write) && written.as_slice() == front);
     }
     Ok(())
@@ -278,7 +278,7 @@ fn serve_with_a_failing_reader(rt: HostRuntime) -> Result<(), Fail> {
             115..142 => 126,
             _ => 158,
         };
-        let (front, _) = packets.split_at(sent);
+        let (front, _) = packets.split_at(sent.min(packets.len()));
         assert!(rt; outcome == Served::Fault(Verdict::Read) && written.as_slice() == front);
     }
     Ok(())
