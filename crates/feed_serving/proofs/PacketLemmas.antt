@@ -79,14 +79,6 @@ module _ (k : ℕ) (p : List ℕ) (old now new : Option (List ℕ)) (number : �
   cut-within (inl l) failed v c = subst (λ (t : List ℕ). IsCutWrite old new t failed v) (sym (h.is ∙ ap (λ (t : List ℕ). h.front ++ t) (long l))) (cut-later old now new h.front (chunk number a ++ framing (h.at + 1) b) failed v h.written (cut-sooner now new (chunk number a) (framing (h.at + 1) b) failed v c))
   cut-within (inr l) failed v c = subst (λ (t : List ℕ). IsCutWrite old new t failed v) (sym (h.is ∙ ap (λ (t : List ℕ). h.front ++ t) (short l))) (cut-later old now new h.front (chunk number a) failed v h.written c)
 
--- ---- the parts of a chunk
-
-pub cut-second : (old mid new : Option (List ℕ)) (a b c whole : List ℕ) (failed : Bool) (v : Verdict) → a ++ (b ++ c) ≡ whole → Appends old mid a → IsCutWrite mid new b failed v → IsCutWrite old new whole failed v
-cut-second old mid new a b c whole failed v is w h = subst (λ (t : List ℕ). IsCutWrite old new t failed v) is (cut-later old mid new a (b ++ c) failed v w (cut-sooner mid new b c failed v h))
-
-pub cut-third : (old mid then new : Option (List ℕ)) (a b c whole : List ℕ) (failed : Bool) (v : Verdict) → a ++ (b ++ c) ≡ whole → Appends old mid a → Appends mid then b → IsCutWrite then new c failed v → IsCutWrite old new whole failed v
-cut-third old mid then new a b c whole failed v is w x h = subst (λ (t : List ℕ). IsCutWrite old new t failed v) is (cut-later old mid new a (b ++ c) failed v w (cut-later mid then new b c failed v x h))
-
 -- ---- how a payload is cut
 
 none_left : (b : List ℕ) → length b ≡ 0 → b ≡ []

@@ -8,9 +8,13 @@ ghost use Rattle.feed_reports.specs.Writing.{IsCutWrite};
 
 use feed_reports::put_all;
 use feed_rules::Verdict;
+use feed_writers::put_bytes;
 use std::io::Write;
 use wire_consts::MAX_PAYLOAD_LEN;
 use wire_streams::Watched;
+
+/// The length of what stands before a chunk, in bytes.
+const HEADER_LEN: usize = 4;
 
 /// The greatest length of what stands before an event in a payload, in bytes.
 const MAX_LEAD_LEN: usize = 3;
@@ -24,7 +28,8 @@ fn chunk_header(len: usize, number: u8) -> [u8; 4]
     [len[0], len[1], len[2], number]
 }
 
-/// Writes one chunk: its length in three bytes, its number, and its bytes, which are these two runs.
+/// Writes one chunk: its length in three bytes, its number, and its bytes, which are these two runs. What stands before the
+/// second run is written at once.
 ///
 /// Refused with `Write` where the writer failed; a front of the chunk is then written.
 fn put_chunk<W: Write>(
@@ -33,12 +38,15 @@ fn put_chunk<W: Write>(
     lead: &[u8],
     slice: &[u8],
 ) -> Result<(), Verdict>
+    requires lead { length lead.now ≤ MAX_LEAD_LEN }
     requires short { length lead.now + length slice.now ≤ longest }
     ensures ok { OnOk result (Appends (W.contents (inner_of writer.old)) (W.contents (inner_of writer.new)) (chunk number (lead.now ++ slice.now))) }
     ensures fault { IfErr result (IsCutWrite (W.contents (inner_of writer.old)) (W.contents (inner_of writer.new)) (chunk number (lead.now ++ slice.now)) (has_failed writer.new)) }
 {
-    put_all(writer, &chunk_header(lead.len() + slice.len(), number))?;
-    put_all(writer, lead)?;
+    let mut front = [0; HEADER_LEN + MAX_LEAD_LEN];
+    let begin = put_bytes(&mut front, 0, &chunk_header(lead.len() + slice.len(), number));
+    let end = put_bytes(&mut front, begin, lead);
+    put_all(writer, &front[..end])?;
     put_all(writer, slice)
 }
 
