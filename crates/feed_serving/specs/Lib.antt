@@ -1,6 +1,7 @@
 pub mod Requests
 pub mod Places
 pub mod Serving
+pub mod Forms
 pub mod Sending
 pub mod ServedNames
 pub mod Passing

@@ -1,6 +1,7 @@
 //! A server of a binary log: it takes a request, and sends the file's own events from a place on.
 #![tactic(auto)]
 
+mod form;
 pub mod laws;
 mod packets;
 mod passing;

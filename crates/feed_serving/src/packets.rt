@@ -44,7 +44,11 @@ fn put_chunk<W: Write>(
     ensures fault { IfErr result (IsCutWrite (W.contents (inner_of writer.old)) (W.contents (inner_of writer.new)) (chunk number (lead.now ++ slice.now)) (has_failed writer.new)) }
 {
     let mut front = [0; HEADER_LEN + MAX_LEAD_LEN];
-    let begin = put_bytes(&mut front, 0, &chunk_header(lead.len() + slice.len(), number));
+    let begin = put_bytes(
+        &mut front,
+        0,
+        &chunk_header(lead.len() + slice.len(), number),
+    );
     let end = put_bytes(&mut front, begin, lead);
     put_all(writer, &front[..end])?;
     put_all(writer, slice)

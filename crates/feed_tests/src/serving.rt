@@ -100,7 +100,14 @@ fn serve_from_the_end(rt: HostRuntime) -> Result<(), Fail> {
     let log = small_log(alloc)?;
     assert!(rt;
         gives(alloc, &log, 142, LIMIT, &[], Served::Whole)?
-            && gives(alloc, &log, 141, LIMIT, &[], Served::Refused(Refusal::Place))?
+            && gives(
+                alloc,
+                &log,
+                141,
+                LIMIT,
+                &[],
+                Served::Refused(Refusal::Place)
+            )?
     );
     Ok(())
 }
@@ -150,7 +157,14 @@ fn serve_limit(rt: HostRuntime) -> Result<(), Fail> {
     let too_large = Served::Fault(Verdict::TooLarge);
     assert!(rt;
         gives(alloc, &log, 4, 38, &[], too_large)?
-            && gives(alloc, &log, 4, 39, &[&BEGIN, &MAP, &ROWS, &XID], Served::Whole)?
+            && gives(
+                alloc,
+                &log,
+                4,
+                39,
+                &[&BEGIN, &MAP, &ROWS, &XID],
+                Served::Whole
+            )?
     );
     Ok(())
 }
@@ -172,7 +186,16 @@ fn serve_stops_at_damage(rt: HostRuntime) -> Result<(), Fail> {
 fn serve_damage_before_the_place(rt: HostRuntime) -> Result<(), Fail> {
     let alloc = rt.alloc();
     let log = checksummed_log(alloc, &[0, 0, 0, 1])?;
-    assert!(rt; gives(alloc, &log, 168, LIMIT, &[], Served::Fault(Verdict::Checksum))?);
+    assert!(rt;
+        gives(
+            alloc,
+            &log,
+            168,
+            LIMIT,
+            &[],
+            Served::Fault(Verdict::Checksum)
+        )?
+    );
     Ok(())
 }
 
