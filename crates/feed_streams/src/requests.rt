@@ -64,10 +64,27 @@ fn dump_payload(alloc: Global, place: u32, server: u32, name: &[u8]) -> Result<V
     Ok(payload)
 }
 
+/// The packet of COM_BINLOG_DUMP, for a name that is short enough. Refused for want of memory alone.
+#[tactic(auto, unfolding(crate::specs::Requests::dump_request))]
+pub(crate) fn dump_packet(
+    alloc: Global,
+    place: u32,
+    server: u32,
+    name: &[u8],
+) -> Result<Vec<u8>, AllocError>
+    ensures { IfOk result (λ packet. packet.items ≡ dump_request place server name.now) }
+{
+    let payload = dump_payload(alloc, place, server, name)?;
+    let mut packet = BytesMut::new(alloc);
+    if let Err(_) = packet_to_chunks(0, &payload, &mut packet) {
+        return Err(AllocError);
+    }
+    Vec::from_slice(alloc, packet.as_slice())
+}
+
 /// The packet that asks a server for the events of the binary log `name` from `place` on, by a replica with
 /// the id `server`: COM_BINLOG_DUMP with the flag BINLOG_DUMP_NON_BLOCK, framed from number 0. Refused with
 /// `NameTooLong` exactly where the name is longer than 511 bytes, and with `Memory`.
-#[tactic(auto, unfolding(crate::specs::Requests::dump_request))]
 pub fn request(alloc: Global, place: u32, server: u32, name: &[u8]) -> Result<Vec<u8>, RequestError>
     ensures packet { IfOk result (λ packet. packet.items ≡ dump_request place server name.now) }
     ensures too_long { IsErrOf result RequestError.NameTooLong ↔ (511 < length name.now) }
@@ -75,10 +92,5 @@ pub fn request(alloc: Global, place: u32, server: u32, name: &[u8]) -> Result<Ve
     if name.len() > MAX_NAME_LEN {
         return Err(RequestError::NameTooLong);
     }
-    let payload = dump_payload(alloc, place, server, name)?;
-    let mut packet = BytesMut::new(alloc);
-    if let Err(_) = packet_to_chunks(0, &payload, &mut packet) {
-        return Err(RequestError::Memory);
-    }
-    Ok(Vec::from_slice(alloc, packet.as_slice())?)
+    Ok(dump_packet(alloc, place, server, name)?)
 }
