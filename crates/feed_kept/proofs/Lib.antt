@@ -1,0 +1,3 @@
+pub mod CommitLemmas
+pub mod LineLemmas
+pub mod KeeperLemmas

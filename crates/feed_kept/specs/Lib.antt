@@ -1,0 +1,4 @@
+pub mod Kept
+pub mod LineStarts
+pub mod Worked
+pub mod Keepers
