@@ -23,6 +23,7 @@ pub use Rattle.feed_reports.specs.Reports
 pub use Rattle.feed_reports.specs.WorkedReports
 pub use Rattle.feed_streams.specs.Words as StreamWords
 pub use Rattle.feed_streams.specs.Streams
+pub use Rattle.feed_streams.specs.Asking
 pub use Rattle.feed_streams.specs.Requests
 pub use Rattle.feed_streams.specs.RequestErrors
 pub use Rattle.feed_streams.specs.Following
@@ -34,6 +35,15 @@ pub use Rattle.feed_serving.specs.Sending
 pub use Rattle.feed_serving.specs.ServedNames
 pub use Rattle.feed_serving.specs.Laws as ServingLaws
 pub use Rattle.feed_serving.specs.WorkedServing
+pub use Rattle.feed_kept.specs.Kept
+pub use Rattle.feed_kept.specs.LineStarts
+pub use Rattle.feed_kept.specs.Keepers
+pub use Rattle.feed_kept.specs.Worked as WorkedKept
+pub use Rattle.feed_runs.specs.Runs
+pub use Rattle.feed_runs.specs.Laws as RunLaws
+pub use Rattle.feed_runs.specs.Mending
+pub use Rattle.feed_runs.specs.Rehearsing
+pub use Rattle.feed_runs.specs.WorkedRuns
 pub use Rattle.feed_text.specs.Pieces
 pub use Rattle.feed_text.specs.Times
 pub use Rattle.feed_text.specs.ValueText

@@ -1,6 +1,8 @@
 //! Laws of the parts, each proved as the contract of a function that does nothing, and worked examples, which the
 //! definitions compute.
 
+pub use feed_kept::laws::commit_lines_are_read;
+pub use feed_kept::worked::worked_kept;
 pub use feed_reports::laws::{events_are_longest, report_of_a_front};
 pub use feed_reports::worked::worked_reports;
 pub use feed_rules::laws::{
@@ -10,6 +12,10 @@ pub use feed_rules::laws::{
     what_came_before_does_not_matter,
 };
 pub use feed_rules::worked::{worked_checksums, worked_kinds, worked_rows};
+pub use feed_runs::laws::{
+    broken_runs_are_whole, one_answer_gives_the_rest, packets_of_a_front, torn_text_is_mended,
+};
+pub use feed_runs::worked::{worked_followable, worked_runs};
 pub use feed_serving::laws::{
     lengths_of_packets, requests_are_packets, requests_are_their_fields,
     serving_from_the_start_loses_nothing, serving_stops_at_damage,

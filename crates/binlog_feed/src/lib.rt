@@ -1,16 +1,19 @@
 //! The change feed of a MySQL binary log: the report of a file, a follower of a server's packets, a server that answers its
-//! requests, and the words for how each ended.
+//! requests, how much of a text that was cut off is whole transactions, and the words for how each ended.
 //!
 //! Each thing is made in a part of its own: `feed_rules` has the rules by which one event is judged after those before it,
 //! and the transactions that events show; `feed_reports` the report of a file; `feed_streams` the follower of a stream and
-//! the request that asks for it; `feed_serving` the server of a file; `feed_text` the text of values. The parts stand on those
-//! of `mysql_binlog_events`, `mysql_binlog_rows` and `mysql_wire`.
+//! the request that asks for it; `feed_serving` the server of a file; `feed_runs` follower and server together, where answers
+//! break off; `feed_kept` what is kept of a text that was cut off; `feed_text` the text of values. The parts stand on those of
+//! `mysql_binlog_events`, `mysql_binlog_rows` and `mysql_wire`.
 #![tactic(auto)]
 
 pub mod laws;
 
+pub use feed_kept::{Keeper, kept};
 pub use feed_reports::report;
 pub use feed_rules::{Verdict, name_of, status};
+pub use feed_runs::{Step, rehearse, rehearse_growing};
 pub use feed_serving::{Refusal, Served, serve};
 pub use feed_streams::{Follower, RequestError, request};
 pub use feed_text::{put_value, quote};
