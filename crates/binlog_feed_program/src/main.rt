@@ -1,7 +1,9 @@
 //! The program `binlog-feed`: the change feed of a MySQL binary log.
 #![tactic(auto)]
 
-use binlog_feed::{Follower, Served, Verdict, Watched, name_of, report, request, serve, status};
+use binlog_feed::{
+    Follower, Served, Verdict, Watched, name_of, rehearse, report, request, serve, status,
+};
 use crc32::crc32;
 use std::alloc::Global;
 use std::env;
@@ -140,6 +142,32 @@ fn serve_file(rt: &HostRuntime, alloc: Global, path: &str, name: &[u8]) -> ExitC
     }
 }
 
+/// Writes what a follower prints of a binary log to standard output, where of each answer so many bytes come.
+fn rehearse_to_stdout<P: Print>(rt: &P, alloc: Global, binlog: &[u8], counts: &[usize]) -> Verdict {
+    let Ok(out) = BufWriter::with_capacity(alloc, BUFFER_LEN, io::writer(rt)) else {
+        return Verdict::Memory;
+    };
+    let mut writer = Watched::new(out);
+    let verdict = rehearse(alloc, binlog, counts, &crc32, &mut writer);
+    flushed(&mut writer.into_inner(), verdict)
+}
+
+/// Rehearses a file: it is taken whole, and served once for each count.
+fn rehearse_file(rt: &HostRuntime, alloc: Global, path: &str, counts: &[String]) -> ExitCode {
+    let counts = match counts_of(alloc, counts) {
+        Ok(counts) => counts,
+        Err(name) => return fail(rt, name),
+    };
+    let reader = match open(rt, alloc, path) {
+        Ok(reader) => reader,
+        Err(name) => return fail(rt, name),
+    };
+    match whole(alloc, reader) {
+        Ok(binlog) => end_with(rt, rehearse_to_stdout(rt, alloc, &binlog, &counts)),
+        Err(fault) => fail(rt, name_of(&fault)),
+    }
+}
+
 /// Writes a request to standard output.
 fn write_request<P: Print + Eprint>(
     rt: &P,
@@ -202,12 +230,35 @@ fn follow<P: Print, R: Read + Drop>(rt: &P, alloc: Global, reader: R) -> Verdict
     }
 }
 
+/// Whether a word has decimal digits and nothing else.
+fn is_digits(word: &str) -> bool {
+    word.bytes().all(|byte| byte.is_ascii_digit())
+}
+
 /// One or more decimal digits and nothing else, at most 4,294,967,295.
 fn number(word: &str) -> Option<u32> {
-    if !word.bytes().all(|byte| byte.is_ascii_digit()) {
+    if !is_digits(word) {
         return None;
     }
     word.parse().ok()
+}
+
+/// The same for each of these words, at most 18,446,744,073,709,551,615; or `Usage`, or `Memory`.
+fn counts_of(alloc: Global, words: &[String]) -> Result<Vec<usize>, &'static str> {
+    let mut counts = Vec::new(alloc);
+    for word in words {
+        let word = word.as_str();
+        if !is_digits(word) {
+            return Err("Usage");
+        }
+        let Ok(count) = word.parse::<usize>() else {
+            return Err("Usage");
+        };
+        if counts.push(count).is_err() {
+            return Err("Memory");
+        }
+    }
+    Ok(counts)
 }
 
 /// Does what the words ask for.
@@ -230,6 +281,7 @@ fn run(rt: &HostRuntime, words: &[String]) -> ExitCode {
             serve_file(rt, alloc, path.as_str(), name.as_str().as_bytes())
         }
         ("follow", []) => end_with(rt, follow(rt, alloc, rt.reader())),
+        ("rehearse", [path, counts @ ..]) => rehearse_file(rt, alloc, path.as_str(), counts),
         _ => fail(rt, "Usage"),
     }
 }

@@ -1,7 +1,10 @@
 //! Tests of the change feed through its public calls: worked binary logs with events of each kind, worked streams, requests
-//! and answers to them, names, readers and writers that fail, and checksums.
+//! and answers to them, runs whose answers break off, texts that were cut off, names, readers and writers that fail, and
+//! checksums.
 #![tactic(auto)]
 
+#[cfg(test)]
+mod again;
 #[cfg(test)]
 mod checksums;
 #[cfg(test)]
@@ -9,7 +12,11 @@ mod failing;
 #[cfg(test)]
 mod following;
 #[cfg(test)]
+mod keeping;
+#[cfg(test)]
 mod kinds;
+#[cfg(test)]
+mod rehearsing;
 #[cfg(test)]
 mod reporting;
 #[cfg(test)]

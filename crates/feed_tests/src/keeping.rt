@@ -1,0 +1,85 @@
+//! What is kept of a text that was cut off.
+
+use binlog_feed::{Keeper, kept};
+use std::alloc::{AllocError, Global};
+use std::test::*;
+
+/// Two transactions, of 38 bytes each.
+const TWO_INSERTS: &[u8] =
+    b"begin -\ninsert 'd' 't' 0=5\ncommit 142\nbegin -\ninsert 'd' 't' 0=6\ncommit 280\n";
+
+#[test]
+fn kept_of_each_front(rt: HostRuntime) {
+    assert_eq!(rt; TWO_INSERTS.len(), 76);
+    for len in 0..=TWO_INSERTS.len() {
+        let wanted = match len {
+            0..=37 => (0, None),
+            38..=75 => (38, Some(142)),
+            _ => (76, Some(280)),
+        };
+        assert_eq!(rt; kept(&TWO_INSERTS[..len]), wanted);
+    }
+}
+
+#[test]
+fn commit_lines(rt: HostRuntime) {
+    let rows: [(&[u8], usize, Option<u32>); 14] = [
+        (b"commit 0\n", 9, Some(0)),
+        (b"commit 7\n", 9, Some(7)),
+        (b"commit 4294967295\n", 18, Some(u32::MAX)),
+        (b"commit 4294967296\n", 0, None),
+        (b"commit 99999999999999999999\n", 0, None),
+        (b"commit 007\n", 0, None),
+        (b"commit 00\n", 0, None),
+        (b"commit +7\n", 0, None),
+        (b"commit -7\n", 0, None),
+        (b"commit 7 \n", 0, None),
+        (b"commit \n", 0, None),
+        (b"commit  7\n", 0, None),
+        (b" commit 7\n", 0, None),
+        (b"commit 7\xff\n", 0, None),
+    ];
+    for (text, len, place) in rows {
+        assert_eq!(rt; kept(text), (len, place));
+    }
+}
+
+#[test]
+fn lines_behind_a_commit_line(rt: HostRuntime) {
+    assert_eq!(rt; kept(b"\n"), (0, None));
+    assert_eq!(rt; kept(b"commit 7\n\n"), (9, Some(7)));
+    assert_eq!(rt; kept(b"\n\ncommit 7\n"), (11, Some(7)));
+    assert_eq!(rt; kept(b"commit 7\ncommit 8"), (9, Some(7)));
+    assert_eq!(rt;
+        kept(b"commit 7\ncommit 4294967296\nbegin -\n"),
+        (9, Some(7))
+    );
+}
+
+/// What is kept of a text that comes in pieces of at most so many bytes.
+fn kept_of_pieces(
+    alloc: Global,
+    text: &[u8],
+    at_once: usize,
+) -> Result<(u64, Option<u32>), AllocError> {
+    let mut keeper = Keeper::new(alloc);
+    for piece in text.chunks(at_once.max(1)) {
+        keeper.take(piece)?;
+    }
+    Ok(keeper.kept())
+}
+
+#[test]
+fn kept_of_each_front_in_pieces(rt: HostRuntime) -> Result<(), Fail> {
+    for at_once in [1, 5, 37, 38, 39, 76] {
+        for len in 0..=TWO_INSERTS.len() {
+            let text = &TWO_INSERTS[..len];
+            let (whole, place) = kept(text);
+            assert_eq!(rt;
+                kept_of_pieces(rt.alloc(), text, at_once)?,
+                (whole as u64, place)
+            );
+        }
+    }
+    Ok(())
+}
