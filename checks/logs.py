@@ -1,0 +1,181 @@
+"""Makes binary logs of every kind, for checks/mutations, by the makers of bench/generate and others for what these lack:
+columns of every type, updates and deletes, updates of documents in part, identifiers, and logs without a description.
+"""
+import importlib.machinery
+import importlib.util
+import io
+import random
+import subprocess
+from pathlib import Path
+
+ROOT = Path(__file__).resolve().parent.parent
+FIRST_PLACE = 4
+
+
+def script(path):
+    """A program of the repository, as a module."""
+    loader = importlib.machinery.SourceFileLoader(path.name, str(path))
+    module = importlib.util.module_from_spec(importlib.util.spec_from_loader(path.name, loader))
+    loader.exec_module(module)
+    return module
+
+
+GENERATE = script(ROOT / "bench/generate")
+ROWS = script(ROOT / "bench/rows")
+
+
+def fixed(length):
+    """Cells of any bytes, so many."""
+    return lambda draw: draw.randbytes(length)
+
+
+def counted(width, most):
+    """Cells of a length in so many bytes, and at most so many bytes."""
+    def cell(draw):
+        data = draw.randbytes(draw.randint(0, most))
+        return len(data).to_bytes(width, "little") + data
+    return cell
+
+
+def decimal(draw):
+    """Cells of a DECIMAL(14,4)."""
+    return ROWS.decimal(draw.randrange(-(10**10), 10**10))
+
+
+def document(draw):
+    """Cells of JSON documents."""
+    values = [None, True, draw.randrange(10**6), draw.random(), "text", [1, "b", {"c": []}]]
+    data = b"\0" + GENERATE.json_container({"a": draw.choice(values), "bc": draw.choice(values)})
+    return len(data).to_bytes(4, "little") + data
+
+
+# Columns of every type: its number, its metadata and its cells. The first eight have a sign.
+COLUMNS = [
+    (1, b"", fixed(1)), (2, b"", fixed(2)), (9, b"", fixed(3)), (3, b"", fixed(4)), (8, b"", fixed(8)),
+    (4, b"\4", fixed(4)), (5, b"\x08", fixed(8)), (246, b"\x0e\4", decimal),
+    (13, b"", fixed(1)), (10, b"", fixed(3)), (11, b"", fixed(3)), (12, b"", fixed(8)), (7, b"", fixed(4)),
+    (19, b"\6", fixed(6)), (18, b"\3", fixed(7)), (17, b"\6", fixed(7)),
+    (15, b"\x28\0", counted(1, 20)), (15, b"\x2c\1", counted(2, 20)), (254, b"\xfe\x14", counted(1, 20)),
+    (254, b"\xf7\1", fixed(1)), (254, b"\xf8\2", fixed(2)), (16, b"\4\1", fixed(2)),
+    (249, b"\1", counted(1, 20)), (252, b"\2", counted(2, 40)), (255, b"\4", counted(4, 20)), (245, b"\4", document),
+]
+WRITES, UPDATES, DELETES, PARTIAL_UPDATES = (30, 23), (31, 24), (32, 25), 39
+QUERY_TEXT, GTID, ANONYMOUS_GTID, TAGGED_GTID, ROTATE = 29, 33, 34, 42, 4
+
+
+def field(number, value):
+    """A field of a table map's optional metadata."""
+    return bytes([number]) + GENERATE.lenenc(len(value)) + value
+
+
+def table_map(log, table_id, table, columns):
+    """Maps a table, with the signs, names and keys of its columns, and a character set."""
+    signs = field(1, b"\x55") if columns == COLUMNS else b""
+    names = b"".join(b"\2c" + bytes([97 + place]) for place in range(len(columns)))
+    metadata = b"".join(column[1] for column in columns)
+    body = GENERATE.map_body(table_id, b"shop", table, [column[0] for column in columns], metadata)
+    log.event(GENERATE.TABLE_MAP_EVENT, body + signs + field(2, b"\x2d") + field(4, names) + field(8, b"\0"))
+
+
+def image(draw, columns):
+    """An image of a row, some of whose cells are NULL."""
+    nulls = [draw.random() < 0.1 for _ in columns]
+    bits = sum(is_null << place for place, is_null in enumerate(nulls))
+    cells = b"".join(cell(draw) for (_, _, cell), is_null in zip(columns, nulls) if not is_null)
+    return bits.to_bytes((len(columns) + 7) // 8, "little") + cells
+
+
+def rows(log, kind, table_id, columns, images):
+    """A rows event of this type, in the old form or the new."""
+    start = GENERATE.rows_start(table_id, len(columns))
+    if kind < WRITES[0]:
+        start = start[:8] + start[10:]
+    if kind in UPDATES or kind == PARTIAL_UPDATES:
+        start += GENERATE.bits_up_to(len(columns))
+    log.event(kind, start + b"".join(images))
+
+
+def changes(log):
+    """Transactions that insert, update and delete rows of columns of every type."""
+    draw = random.Random(201)
+    while not log.is_full():
+        log.begin(b"shop")
+        table_map(log, 201, b"all types", COLUMNS)
+        for kinds, count in ((WRITES, 1), (UPDATES, 2), (DELETES, 1)):
+            rows(log, draw.choice(kinds), 201, COLUMNS, [image(draw, COLUMNS) for _ in range(count)])
+        log.commit()
+
+
+def partial_updates(log):
+    """Transactions that update documents in part."""
+    draw = random.Random(202)
+    columns = [(3, b"", fixed(4)), (245, b"\4", document)]
+    while not log.is_full():
+        number = draw.randbytes(4)
+        value = b"\x05" + draw.randbytes(2)
+        diffs = b"".join(bytes([operation, 3]) + b"$.a" + b"\3" + value for operation in (0, 1)) + b"\2\3$.b"
+        after = b"\1\1\0" + number + len(diffs).to_bytes(4, "little") + diffs
+        log.begin(b"shop")
+        table_map(log, 202, b"documents", columns)
+        rows(log, PARTIAL_UPDATES, 202, columns, [b"\0" + number + document(draw) + after] * 2)
+        log.commit()
+
+
+def identifiers(log):
+    """Transactions with identifiers of each form: rows and statements, committed or rolled back, and statements alone."""
+    draw = random.Random(203)
+    columns = [(3, b"", fixed(4)), (15, b"\x28\0", counted(1, 20))]
+    uuid = draw.randbytes(16)
+    number = 0
+    while not log.is_full():
+        number += 1
+        forms = [
+            (GTID, b"\1" + uuid + number.to_bytes(8, "little")), (ANONYMOUS_GTID, bytes(25)),
+            (TAGGED_GTID, b"\2\0tag'" + bytes([number])),
+        ]
+        log.event(*forms[number % 3])
+        if number % 4 == 0:
+            log.query(b"shop", b"CREATE TABLE t%d (a INT)" % number)
+            continue
+        log.begin(b"shop")
+        log.event(QUERY_TEXT, b"\0INSERT INTO notes ..")
+        table_map(log, 203, b"notes", columns)
+        rows(log, WRITES[0], 203, columns, [image(draw, columns) for _ in range(3)])
+        log.query(b"shop", b"savepoint 's'")
+        if number % 5 == 0:
+            log.query(b"shop", b"ROLLBACK")
+        elif number % 2 == 0:
+            log.query(b"shop", b"COMMIT")
+        else:
+            log.commit()
+    log.event(ROTATE, FIRST_PLACE.to_bytes(8, "little") + b"binlog.000043")
+
+
+class Undescribed(GENERATE.Log):
+    """A log without a description."""
+
+    def __init__(self, file, size):
+        self.file, self.size, self.algorithm = file, size, 0
+        self.position, self.transactions = FIRST_PLACE, 0
+        file.write(GENERATE.MARK)
+
+
+def all_logs():
+    """Logs of every kind: what each is called, its bytes, and whether its events end with checksums."""
+    one_insert = subprocess.run(["bash", ROOT / "checks/one_insert"], check=True, stdout=subprocess.PIPE).stdout
+    made = [("one insert", one_insert, False)]
+    makers = [
+        (GENERATE.small, 1500), (changes, 3000), (partial_updates, 1200), (identifiers, 4000), (GENERATE.statements, 2500),
+        (GENERATE.json, 200), (GENERATE.wide, 200), (GENERATE.blobs, 70_000),
+    ]
+    for maker, size in makers:
+        files = {
+            "without a description": lambda file: Undescribed(file, size),
+            "without checksums": lambda file: GENERATE.Log(file, size, 0),
+            "with checksums": lambda file: GENERATE.Log(file, size, 1),
+        }
+        for form, opened in files.items():
+            file = io.BytesIO()
+            maker(opened(file))
+            made.append((f"{maker.__name__} {form}", file.getvalue(), form == "with checksums"))
+    return made
