@@ -1,6 +1,6 @@
 //! Tests of the change feed through its public calls: worked binary logs with events of each kind, worked streams, requests
-//! and answers to them, runs whose answers break off, texts that were cut off, names, readers and writers that fail, and
-//! checksums.
+//! and answers to them, runs whose answers break off, texts that were cut off, names, readers and writers that fail, hostile
+//! bytes, and checksums.
 #![tactic(auto)]
 
 #[cfg(test)]
@@ -11,6 +11,8 @@ mod checksums;
 mod failing;
 #[cfg(test)]
 mod following;
+#[cfg(test)]
+mod hostile;
 #[cfg(test)]
 mod keeping;
 #[cfg(test)]

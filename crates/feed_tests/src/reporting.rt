@@ -8,7 +8,7 @@ use std::process::Abort;
 use std::test::*;
 
 /// The report of a file from a reader that gives at most so many bytes at once.
-fn reported(alloc: Global, file: &[u8], at_once: usize) -> (Vec<u8>, Verdict) {
+pub fn reported(alloc: Global, file: &[u8], at_once: usize) -> (Vec<u8>, Verdict) {
     let mut reader = Watched::new(Pieces {
         bytes: file,
         at_once,
@@ -163,6 +163,12 @@ fn short_descriptions(rt: HostRuntime) -> Result<(), Fail> {
         let file = file_of(alloc, &[&event])?;
         expect(&rt, alloc, &file, "", verdict);
     }
+    let mut event = description(alloc, 76, b"5.5.0")?;
+    if let Some(header_length) = event.get_mut(75) {
+        *header_length = 18;
+    }
+    let file = file_of(alloc, &[&event])?;
+    expect(&rt, alloc, &file, "", Verdict::Body);
     Ok(())
 }
 

@@ -11,10 +11,10 @@ use std::alloc::{AllocError, Global};
 use std::test::*;
 
 /// The greatest length of a payload that the program allows.
-const LIMIT: usize = 1_073_741_824;
+pub const LIMIT: usize = 1_073_741_824;
 
 /// The name of the binary log that is served.
-const NAME: &[u8] = b"master-bin.000002";
+pub const NAME: &[u8] = b"master-bin.000002";
 
 /// The binary log of one transaction, 142 bytes.
 fn small_log(alloc: Global) -> Result<Vec<u8>, AllocError> {
@@ -274,8 +274,13 @@ fn serve_with_a_failing_writer(rt: HostRuntime) -> Result<(), Fail> {
     Ok(())
 }
 
-/// What is written of the small log where its reader fails after so many bytes, and what becomes of the request.
-fn served_from_failing(alloc: Global, len: usize) -> Result<(Vec<u8>, Served), RequestError> {
+/// What is written of the small log where its reader fails after so many bytes and the writer has room for so many, and what
+/// becomes of the request.
+fn served_by_failing(
+    alloc: Global,
+    len: usize,
+    room: usize,
+) -> Result<(Vec<u8>, Served), RequestError> {
     let asked = request(alloc, 4, 1, NAME)?;
     let log = small_log(alloc)?;
     let (front, _) = log.split_at(len.min(log.len()));
@@ -284,25 +289,52 @@ fn served_from_failing(alloc: Global, len: usize) -> Result<(Vec<u8>, Served), R
         at_once: 7,
         fails: true,
     });
-    let mut writer = Watched::new(Vec::new(alloc));
+    let mut writer = Watched::new(Full {
+        taken: Vec::new(alloc),
+        room,
+    });
     let served = serve(alloc, &asked, NAME, LIMIT, &mut reader, &crc32, &mut writer);
-    Ok((writer.into_inner(), served))
+    Ok((writer.into_inner().taken, served))
+}
+
+/// How many bytes the packets of the events have that stand whole in so many bytes of the small log.
+fn whole_packets(len: usize) -> usize {
+    match len {
+        0..42 => 0,
+        42..79 => 43,
+        79..115 => 85,
+        115..142 => 126,
+        _ => 158,
+    }
 }
 
 #[test]
 fn serve_with_a_failing_reader(rt: HostRuntime) -> Result<(), Fail> {
     let packets = answer_of(rt.alloc(), &[&BEGIN, &MAP, &ROWS, &XID], false)?;
     for len in 0..143 {
-        let (written, outcome) = served_from_failing(rt.alloc(), len)?;
-        let sent = match len {
-            0..42 => 0,
-            42..79 => 43,
-            79..115 => 85,
-            115..142 => 126,
-            _ => 158,
-        };
-        let (front, _) = packets.split_at(sent.min(packets.len()));
+        let (written, outcome) = served_by_failing(rt.alloc(), len, LIMIT)?;
+        let (front, _) = packets.split_at(whole_packets(len).min(packets.len()));
         assert!(rt; outcome == Served::Fault(Verdict::Read) && written.as_slice() == front);
+    }
+    Ok(())
+}
+
+// Of the two, the one that fails first is told of.
+#[test]
+fn serve_with_failing_devices(rt: HostRuntime) -> Result<(), Fail> {
+    let packets = answer_of(rt.alloc(), &[&BEGIN, &MAP, &ROWS, &XID], false)?;
+    for len in 0..143 {
+        let sent = whole_packets(len);
+        for room in 0..160 {
+            let (written, outcome) = served_by_failing(rt.alloc(), len, room)?;
+            let (front, _) = packets.split_at(sent.min(room).min(packets.len()));
+            let fault = if room < sent {
+                Verdict::Write
+            } else {
+                Verdict::Read
+            };
+            assert!(rt; outcome == Served::Fault(fault) && written.as_slice() == front);
+        }
     }
     Ok(())
 }
