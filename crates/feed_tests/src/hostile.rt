@@ -62,7 +62,7 @@ fn size_unlike_the_payload(rt: HostRuntime) -> Result<(), Fail> {
     Ok(())
 }
 
-/// The front of an event's body, and the greatest count behind it.
+/// An event whose body has this front, the greatest count behind it, and three bytes more.
 fn with_most(alloc: Global, event_type: u8, front: &[u8]) -> Result<Vec<u8>, AllocError> {
     let mut body = Vec::from_slice(alloc, front)?;
     body.extend_from_slice(&MOST)?;
