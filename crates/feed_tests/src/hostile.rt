@@ -94,8 +94,10 @@ fn one_cell(
     optional: &[u8],
     cell: &[u8],
 ) -> Result<Vec<u8>, AllocError> {
+    let metadata_len = metadata.len().to_le_bytes();
     let mut map = Vec::from_slice(alloc, &MAP[19..34])?;
-    map.extend_from_slice(&[column_type, metadata.len() as u8])?;
+    map.push(column_type)?;
+    map.extend_from_slice(&metadata_len[..1])?;
     map.extend_from_slice(metadata)?;
     map.push(1)?;
     map.extend_from_slice(optional)?;
@@ -152,7 +154,8 @@ fn nested_arrays(alloc: Global, sizes: &[u8]) -> Result<Vec<u8>, AllocError> {
         document.extend_from_slice(&[2, 0, *size, 0, 2, 10, 0, 2, 10, 0])?;
     }
     document.extend_from_slice(&[0, 0, 4, 0])?;
-    let mut cell = Vec::from_slice(alloc, &[document.len() as u8, 0, 0, 0])?;
+    let len = document.len().to_le_bytes();
+    let mut cell = Vec::from_slice(alloc, &len[..4])?;
     cell.extend_from_slice(&document)?;
     Ok(cell)
 }
