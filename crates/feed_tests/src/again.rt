@@ -1,9 +1,9 @@
 //! Answers that break off, and the requests that go on.
 
-use crate::samples::{BEGIN, MAP, ROWS, TEXT, XID, changed, file_of};
+use crate::samples::{TEXT, two_inserts};
 use binlog_feed::{Follower, RequestError, Verdict, Watched, request, serve};
 use crc32::crc32;
-use std::alloc::{AllocError, Global};
+use std::alloc::Global;
 use std::test::*;
 
 /// The greatest length of a payload that the program allows.
@@ -12,24 +12,12 @@ const LIMIT: usize = 1_073_741_824;
 /// The name of the binary log that is served.
 const NAME: &[u8] = b"master-bin.000002";
 
-/// The report of the small binary log with a second transaction, to position 280.
+/// The report of the log of two transactions.
 const BOTH: &str =
     "begin -\ninsert 'd' 't' 0=5\ncommit 142\nbegin -\ninsert 'd' 't' 0=5\ncommit 280\n";
 
-/// That log.
-fn two_inserts(alloc: Global) -> Result<Vec<u8>, AllocError> {
-    let begin = changed(&BEGIN, 13, 180);
-    let map = changed(&MAP, 13, 217);
-    let rows = changed(&ROWS, 13, 253);
-    let xid = changed(&changed(&XID, 13, 24), 14, 1);
-    file_of(
-        alloc,
-        &[&BEGIN, &MAP, &ROWS, &XID, &begin, &map, &rows, &xid],
-    )
-}
-
 /// What is answered to a request for a log.
-fn answered(alloc: Global, asked: &[u8], log: &[u8]) -> Vec<u8> {
+pub fn answered(alloc: Global, asked: &[u8], log: &[u8]) -> Vec<u8> {
     let mut reader = Watched::new(log);
     let mut writer = Watched::new(Vec::new(alloc));
     let _served = serve(alloc, asked, NAME, LIMIT, &mut reader, &crc32, &mut writer);

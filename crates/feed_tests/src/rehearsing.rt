@@ -1,7 +1,9 @@
 //! Worked runs of a follower whose answers break off.
 
 use crate::failing::Full;
-use crate::samples::{BEGIN, MAP, ROWS, TEXT, XID, changed, checksummed, description, file_of};
+use crate::samples::{
+    BEGIN, MAP, ROWS, TEXT, XID, changed, checksummed, description, file_of, two_inserts,
+};
 use binlog_feed::{Step, Verdict, Watched, rehearse, rehearse_growing};
 use crc32::crc32;
 use std::alloc::{AllocError, Global};
@@ -16,15 +18,6 @@ const SECOND: &str = "begin -\ninsert 'd' 't' 0=5\ncommit 280\n";
 /// The binary log of one transaction, 142 bytes.
 fn one_insert(alloc: Global) -> Result<Vec<u8>, AllocError> {
     file_of(alloc, &[&BEGIN, &MAP, &ROWS, &XID])
-}
-
-/// The same with a second transaction, 280 bytes.
-fn two_inserts(alloc: Global) -> Result<Vec<u8>, AllocError> {
-    let second = changed(&changed(&XID, 13, 0x18), 14, 1);
-    file_of(
-        alloc,
-        &[&BEGIN, &MAP, &ROWS, &XID, &BEGIN, &MAP, &ROWS, &second],
-    )
 }
 
 /// What is printed of a log where of each answer so many bytes come, and the verdict.
@@ -154,9 +147,42 @@ fn rehearse_growing_file(rt: HostRuntime) -> Result<(), Fail> {
     Ok(())
 }
 
-// However the answers break off, both transactions are there in the end, each once.
+/// How many transactions have come whole by so many bytes of the answer for both.
+fn come_by(count: usize) -> usize {
+    match count {
+        0..158 => 0,
+        158..316 => 1,
+        _ => 2,
+    }
+}
+
+// The whole answer has 325 bytes.
 #[test]
 fn every_break(rt: HostRuntime) -> Result<(), Fail> {
+    let log = two_inserts(rt.alloc())?;
+    for count in 0..326 {
+        let verdict = if count < 325 {
+            Verdict::Closed
+        } else {
+            Verdict::End
+        };
+        assert!(rt; prints(rt.alloc(), &log, &[count], come_by(count), verdict));
+    }
+    Ok(())
+}
+
+#[test]
+fn every_break_then_whole(rt: HostRuntime) -> Result<(), Fail> {
+    let log = two_inserts(rt.alloc())?;
+    for count in 0..326 {
+        assert!(rt; prints(rt.alloc(), &log, &[count, ALL], 2, Verdict::End));
+    }
+    Ok(())
+}
+
+// However two answers break off, both transactions are there in the end, each once.
+#[test]
+fn two_breaks(rt: HostRuntime) -> Result<(), Fail> {
     let log = two_inserts(rt.alloc())?;
     for first in 0..330 {
         for second in [0, 100, 157, 158, 167, 200] {
@@ -172,8 +198,9 @@ fn every_break(rt: HostRuntime) -> Result<(), Fail> {
     Ok(())
 }
 
+// The answer for a log of each size comes whole, and the next for all of it breaks off.
 #[test]
-fn every_break_then_whole(rt: HostRuntime) -> Result<(), Fail> {
+fn every_size_of_a_growing_file(rt: HostRuntime) -> Result<(), Fail> {
     let log = two_inserts(rt.alloc())?;
     for size in 4..281 {
         let steps = [

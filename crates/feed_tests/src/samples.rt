@@ -122,6 +122,18 @@ pub fn file_of(alloc: Global, events: &[&[u8]]) -> Result<Vec<u8>, AllocError> {
     Ok(file)
 }
 
+/// The small binary log with its transaction a second time, to position 280.
+pub fn two_inserts(alloc: Global) -> Result<Vec<u8>, AllocError> {
+    let begin = changed(&BEGIN, 13, 180);
+    let map = changed(&MAP, 13, 217);
+    let rows = changed(&ROWS, 13, 253);
+    let xid = changed(&changed(&XID, 13, 24), 14, 1);
+    file_of(
+        alloc,
+        &[&BEGIN, &MAP, &ROWS, &XID, &begin, &map, &rows, &xid],
+    )
+}
+
 /// Appends the packet of an event, with this number.
 pub fn put_packet(stream: &mut Vec<u8>, number: u8, event: &[u8]) -> Result<(), AllocError> {
     let len = event.len().saturating_add(1).to_le_bytes();
