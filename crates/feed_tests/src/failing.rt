@@ -1,7 +1,9 @@
 //! Readers and writers that fail, and in what order they are asked.
 
+use crate::again::answered;
 use crate::samples::{BEGIN, MAP, Pieces, ROWS, TEXT, XID, file_of};
-use binlog_feed::{Verdict, Watched, report};
+use crate::serving::{LIMIT, NAME};
+use binlog_feed::{Follower, Verdict, Watched, kept, report};
 use crc32::crc32;
 use std::alloc::{AllocError, Global};
 use std::cell::Cell;
@@ -126,6 +128,21 @@ fn report_with_a_failing_reader(rt: HostRuntime) -> Result<(), Fail> {
     Ok(())
 }
 
+/// Whether what is kept of a front of the small log's text, and behind it what a follower that asks from there shows of the
+/// whole answer, are the text.
+fn is_mended(alloc: Global, log: &[u8], torn: &[u8]) -> bool {
+    let (len, place) = kept(torn);
+    let (whole, _) = torn.split_at(len.min(torn.len()));
+    let place = place.unwrap_or(4);
+    let Ok((mut follower, asked)) = Follower::start(alloc, place, 1, NAME, LIMIT, crc32) else {
+        return false;
+    };
+    let mut writer = Watched::new(Vec::new(alloc));
+    let verdict = follower.feed(&answered(alloc, &asked, log), &mut writer);
+    let (front, back) = TEXT.as_bytes().split_at(len.min(TEXT.len()));
+    verdict == Some(Verdict::End) && whole == front && writer.into_inner().as_slice() == back
+}
+
 #[test]
 fn report_with_a_failing_writer(rt: HostRuntime) -> Result<(), Fail> {
     let file = file_of(rt.alloc(), &[&BEGIN, &MAP, &ROWS, &XID])?;
@@ -149,6 +166,7 @@ fn report_with_a_failing_writer(rt: HostRuntime) -> Result<(), Fail> {
         assert!(rt; !reader.failed());
         let taken = writer.into_inner().taken;
         assert_eq!(rt; taken.as_slice(), &TEXT.as_bytes()[..room]);
+        assert!(rt; is_mended(rt.alloc(), &file, &taken));
     }
     Ok(())
 }
