@@ -1,8 +1,9 @@
 //! Hostile bytes: sizes and counts that promise more than there is, tables whose rows can't be read, and a log that is cut off
 //! or damaged at each of its bytes.
 
+use crate::cells::{has_cell, one_cell};
 use crate::following::followed;
-use crate::reporting::reported;
+use crate::reporting::is_reported;
 use crate::samples::{BEGIN, MAP, ROWS, TEXT, XID, changed, event, file_of, put_packet};
 use crate::serving::{LIMIT, NAME};
 use binlog_feed::{
@@ -10,7 +11,6 @@ use binlog_feed::{
 };
 use crc32::crc32;
 use std::alloc::{AllocError, Global};
-use std::io::{self, Write};
 use std::test::*;
 
 /// The header of a QUERY_EVENT that says it has 4,294,967,295 bytes.
@@ -20,12 +20,6 @@ const HUGE: [u8; 19] = [
 
 /// A count of 2 ^ 64 - 1.
 const MOST: [u8; 9] = [0xfe, 0xff, 0xff, 0xff, 0xff, 0xff, 0xff, 0xff, 0xff];
-
-/// Whether a file has this report.
-fn is_reported(alloc: Global, file: &[u8], text: &[u8], verdict: Verdict) -> bool {
-    let (written, found) = reported(alloc, file, 4096);
-    found == verdict && written.as_slice() == text
-}
 
 /// Whether a stream gives this text, and its verdict.
 fn is_followed(alloc: Global, stream: &[u8], text: &str, verdict: Verdict) -> bool {
@@ -83,39 +77,6 @@ fn huge_column_count(rt: HostRuntime) -> Result<(), Fail> {
             && is_reported(alloc, &events, b"", Verdict::Body)
     );
     Ok(())
-}
-
-/// The log of one inserted row, which is this cell, in a table of one column of this type with this metadata and this
-/// optional metadata.
-fn one_cell(
-    alloc: Global,
-    column_type: u8,
-    metadata: &[u8],
-    optional: &[u8],
-    cell: &[u8],
-) -> Result<Vec<u8>, AllocError> {
-    let metadata_len = metadata.len().to_le_bytes();
-    let mut map = Vec::from_slice(alloc, &MAP[19..34])?;
-    map.push(column_type)?;
-    map.extend_from_slice(&metadata_len[..1])?;
-    map.extend_from_slice(metadata)?;
-    map.push(1)?;
-    map.extend_from_slice(optional)?;
-    let mut rows = Vec::from_slice(alloc, &ROWS[19..32])?;
-    rows.extend_from_slice(cell)?;
-    let map = event(alloc, 19, 0, 79, &map)?;
-    let rows = event(alloc, 30, 0, 115, &rows)?;
-    file_of(alloc, &[&BEGIN, &map, &rows, &XID])
-}
-
-/// Whether the row's cell has this text, or, without a text, whether the row can't be read.
-fn has_cell(alloc: Global, log: &[u8], cell: Option<&str>) -> Result<bool, io::Error> {
-    let Some(cell) = cell else {
-        return Ok(is_reported(alloc, log, b"", Verdict::Row));
-    };
-    let mut text = Vec::new(alloc);
-    write!(text, "begin -\ninsert 'd' 't' 0={cell}\ncommit 142\n")?;
-    Ok(is_reported(alloc, log, &text, Verdict::End))
 }
 
 #[test]

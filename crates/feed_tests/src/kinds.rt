@@ -172,6 +172,9 @@ fn ignorable_unknown_event(rt: HostRuntime) -> Result<(), Fail> {
     let unknown = event(rt.alloc(), 41, 0x80, 0, &[])?;
     let file = file_of(rt.alloc(), &[&unknown])?;
     expect(&rt, rt.alloc(), &file, "", Verdict::End);
+    let unknown = event(rt.alloc(), 41, 0, 0, &[])?;
+    let file = file_of(rt.alloc(), &[&unknown])?;
+    expect(&rt, rt.alloc(), &file, "", Verdict::UnknownKind);
     Ok(())
 }
 

@@ -1,10 +1,12 @@
-//! Tests of the change feed through its public calls: worked binary logs with events of each kind, worked streams, requests
-//! and answers to them, runs whose answers break off, texts that were cut off, names, readers and writers that fail, hostile
-//! bytes, and checksums.
+//! Tests of the change feed through its public calls: worked binary logs with events of each kind and cells of several types,
+//! worked streams, requests and answers to them, runs whose answers break off, texts that were cut off, names, readers and
+//! writers that fail, hostile bytes, and checksums.
 #![tactic(auto)]
 
 #[cfg(test)]
 mod again;
+#[cfg(test)]
+mod cells;
 #[cfg(test)]
 mod checksums;
 #[cfg(test)]

@@ -19,6 +19,12 @@ pub fn reported(alloc: Global, file: &[u8], at_once: usize) -> (Vec<u8>, Verdict
     (writer.into_inner(), verdict)
 }
 
+/// Whether a file has this report.
+pub fn is_reported(alloc: Global, file: &[u8], text: &[u8], verdict: Verdict) -> bool {
+    let (written, found) = reported(alloc, file, 4096);
+    found == verdict && written.as_slice() == text
+}
+
 /// Checks a report of a file, whole and in pieces.
 pub fn expect(rt: &impl Abort, alloc: Global, file: &[u8], text: &str, verdict: Verdict) {
     for at_once in [1, 5, 19, 4096] {
