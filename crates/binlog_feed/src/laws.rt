@@ -3,7 +3,9 @@
 
 pub use feed_kept::laws::commit_lines_are_read;
 pub use feed_kept::worked::worked_kept;
-pub use feed_reports::laws::{events_are_longest, report_of_a_front};
+pub use feed_reports::laws::{
+    events_are_longest, report_of_a_front, reports_are_whole_transactions,
+};
 pub use feed_reports::worked::worked_reports;
 pub use feed_rules::laws::{
     a_line_for_each_row, bodies_are_read, descriptions_are_read,

@@ -16,5 +16,5 @@ pub use feed_rules::{Verdict, name_of, status};
 pub use feed_runs::{Step, rehearse, rehearse_growing};
 pub use feed_serving::{Refusal, Served, serve};
 pub use feed_streams::{Follower, RequestError, request};
-pub use feed_text::{put_value, quote};
+pub use feed_text::{TextBuffer, put_cell, put_cell_ref, put_decimal, put_json, put_value, quote};
 pub use wire_streams::{MAX_READS, Watched};
