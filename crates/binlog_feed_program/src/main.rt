@@ -209,6 +209,7 @@ fn follow_into<R: Read + Drop, W: Write + Drop>(
         let taken = match reader.read(&mut piece) {
             Ok(0) => return follower.finish(),
             Ok(taken) => taken,
+            Err(error) if error.kind() == ErrorKind::Interrupted => continue,
             Err(_) => return Verdict::Read,
         };
         let verdict = follower.feed(&piece[..taken], &mut Watched::new(&mut out));
