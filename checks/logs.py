@@ -1,11 +1,16 @@
-"""Makes binary logs of every kind, for checks/mutations, by the makers of bench/generate and others for what these lack:
+"""Makes binary logs of every kind, for other checks, by the makers of bench/generate and others for what these lack:
 columns of every type, updates and deletes, updates of documents in part, identifiers, and logs without a description.
+
+usage: logs.py FOLDER
+
+Writes each to a file of its name, with an underscore for each blank. As a module it has `all_logs`.
 """
 import importlib.machinery
 import importlib.util
 import io
 import random
 import subprocess
+import sys
 from pathlib import Path
 
 ROOT = Path(__file__).resolve().parent.parent
@@ -179,3 +184,8 @@ def all_logs():
             maker(opened(file))
             made.append((f"{maker.__name__} {form}", file.getvalue(), form == "with checksums"))
     return made
+
+
+if __name__ == "__main__":
+    for name, data, _ in all_logs():
+        (Path(sys.argv[1]) / name.replace(" ", "_")).write_bytes(data)

@@ -1,6 +1,6 @@
 /* Preloaded before a program: refuses its request for memory of the number REFUSE_REQUEST, counted from 1, and makes
-   the file REFUSE_MARK where it did. At the program's end it writes the number of all its requests into the file
-   REQUEST_COUNT. */
+   the file REFUSE_MARK where it did. At the program's end it writes into the file MEMORY_COUNTS how many blocks of memory
+   were given and not taken back, a blank, and the number of all its requests. */
 #define _GNU_SOURCE
 #include <dlfcn.h>
 #include <fcntl.h>
@@ -9,6 +9,7 @@
 #include <unistd.h>
 
 static unsigned long requests;
+static long blocks;
 
 static int is_refused(void) {
     const char *number = getenv("REFUSE_REQUEST");
@@ -24,12 +25,20 @@ static int is_refused(void) {
     return 1;
 }
 
+/* Counts a block that was given, if one was. */
+static void *given(void *block) {
+    if (block) {
+        blocks++;
+    }
+    return block;
+}
+
 void *malloc(size_t size) {
     static void *(*next)(size_t);
     if (!next) {
         next = (void *(*)(size_t))dlsym(RTLD_NEXT, "malloc");
     }
-    return is_refused() ? NULL : next(size);
+    return is_refused() ? NULL : given(next(size));
 }
 
 void *realloc(void *old, size_t size) {
@@ -37,15 +46,28 @@ void *realloc(void *old, size_t size) {
     if (!next) {
         next = (void *(*)(void *, size_t))dlsym(RTLD_NEXT, "realloc");
     }
-    return is_refused() ? NULL : next(old, size);
+    if (is_refused()) {
+        return NULL;
+    }
+    return old ? next(old, size) : given(next(old, size));
 }
 
-__attribute__((destructor)) static void write_count(void) {
-    unsigned long count = requests;
-    const char *path = getenv("REQUEST_COUNT");
-    FILE *file = path ? fopen(path, "w") : NULL;
-    if (file) {
-        fprintf(file, "%lu\n", count);
-        fclose(file);
+void free(void *block) {
+    static void (*next)(void *);
+    if (!next) {
+        next = (void (*)(void *))dlsym(RTLD_NEXT, "free");
+    }
+    if (block) {
+        blocks--;
+    }
+    next(block);
+}
+
+__attribute__((destructor)) static void write_counts(void) {
+    const char *path = getenv("MEMORY_COUNTS");
+    int file = path ? open(path, O_CREAT | O_WRONLY | O_TRUNC, 0600) : -1;
+    if (file >= 0) {
+        dprintf(file, "%ld %lu\n", blocks, requests);
+        close(file);
     }
 }
