@@ -1,6 +1,6 @@
 //! The laws of the rules, each the contract of a function that does nothing.
 
-ghost use Rattle.std.specs.Prelude.{◌≡◌, ◌↔◌, ◌<◌, ◌≤◌, ◌+◌, ℕ, List, [], ◌++◌, Some, true, false, codes, length, nat_eq};
+ghost use Rattle.std.specs.Prelude.{◌≡◌, ◌↔◌, ◌≤◌, ◌+◌, ℕ, List, [], ◌++◌, Some, None, true, false, codes, length, nat_eq};
 ghost use Rattle.std.specs.List.{starts_with};
 ghost use Rattle.rows_meta.specs.TableMaps.{TableMap, IsTableMap};
 ghost use Rattle.rows_meta.specs.MapViews.{map_of};
@@ -8,6 +8,7 @@ ghost use Rattle.rows_meta.specs.declared.table_map.TableMapEvent.{TableMapEvent
 ghost use Rattle.rows_plan.specs.ImageShapes.{table_plan};
 ghost use Rattle.rows_plan.specs.PlanViews.{IsPlanOf};
 ghost use Rattle.rows_plan.specs.declared.plan.ColumnPlan.{ColumnPlan};
+ghost use Rattle.rows_events.specs.EventShapes.{event_rows};
 ghost use Rattle.rows_events.specs.RowsEvents.{RowsBody, IsRowsEvent};
 ghost use Rattle.rows_events.specs.declared.rows_event_ctx.RowsEventCtx.{RowsEventCtx};
 ghost use Rattle.events_bodies.specs.Bodies.{IsRotate, IsXid};
@@ -20,10 +21,10 @@ ghost use Rattle.events_queries.specs.Queries.{IsQuery};
 ghost use Rattle.feed_rules.specs.Readers.{IsBodyOf};
 ghost use Rattle.feed_rules.specs.Bodies.{query_in, rotate_in, xid_in, table_map_in, rows_event_in, gtid_in, is_description_body};
 ghost use Rattle.feed_rules.specs.Events.{Event, header_of, content, parts, description_by, in_force};
-ghost use Rattle.feed_rules.specs.Rows.{plan_by, texts_of_rows, rows_result, rows_in};
-ghost use Rattle.feed_rules.specs.Kinds.{Kind, is_inside, kinds};
+ghost use Rattle.feed_rules.specs.Rows.{plan_by, rows_result, rows_in, fault_in};
+ghost use Rattle.feed_rules.specs.Kinds.{Kind, Rows, is_inside, kinds, newest_map};
 ghost use Rattle.feed_rules.specs.Checks.{fault_of};
-ghost use Rattle.feed_rules.specs.Transactions.{Line, Transaction};
+ghost use Rattle.feed_rules.specs.Transactions.{Line, Transaction, lines_at};
 ghost use Rattle.feed_rules.specs.Rules.{Rules, rules, good, shown, up_to_fault, fault_after, shown_after};
 ghost use Rattle.feed_rules.specs.Texts.{line_text};
 ghost use Rattle.feed_rules.specs.Laws.{IsOpen, IsOf, Each, IsBetween};
@@ -88,7 +89,10 @@ pub fn plans_are_those_of_maps()
     ensures { (plan : ColumnPlan) (map : TableMapEvent) → IsPlanOf plan map → table_plan plan ≡ plan_by (map_of map) }
 {}
 
-/// A rows event that is shown has as many lines as rows.
+/// A rows event has a line for each row that is found by its table map. Where it is shown, its rows data is rows to its end, each
+/// of which is a pair of images, or one image; and it has as many lines as these.
 pub fn a_line_for_each_row()
-    ensures { (r : RowsBody) (t : TableMap) (texts : List (List (List ℕ))) → texts_of_rows r t ≡ Some texts → 0 < length r.rows_data → length (rows_in (rows_result (Some t) r)) ≡ length texts }
+    ensures lines { (past : List Kind) (r : RowsBody) → length (lines_at past (Rows r)) ≡ length (rows_in (rows_result (newest_map past r.table_id) r)) }
+    ensures pairs { (r : RowsBody) (t : TableMap) → fault_in (rows_result (Some t) r) ≡ None → length (rows_in (rows_result (Some t) r)) ≡ length (event_rows r (plan_by t)).items }
+    ensures to_the_end { (r : RowsBody) (t : TableMap) → fault_in (rows_result (Some t) r) ≡ None → (event_rows r (plan_by t)).fault ≡ None }
 {}
