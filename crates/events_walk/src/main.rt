@@ -98,14 +98,14 @@ fn put_line(event: &Event<'_>, lines: &mut Vec<u8>) -> Result<(), &'static str> 
 fn put_lines(alloc: Global, log: &[u8], lines: &mut Vec<u8>) -> Result<bool, &'static str> {
     let mut readers = Readers::new(alloc).map_err(name_of)?;
     let mut rest = log.get(BinlogFileHeader::LEN..).unwrap_or(&[]);
-    while let Some(event) = readers.read_first(rest)? {
+    for _ in 0..u64::MAX {
+        let Some(event) = readers.read_first(rest)? else {
+            return Ok(readers.was_refused);
+        };
         readers.read_other(rest)?;
         put_line(&event, lines)?;
         let size = event.header().event_size() as usize;
-        rest = match rest.get(size..) {
-            Some(after) if after.len() < rest.len() => after,
-            _ => return Err("Frame"),
-        };
+        rest = rest.get(size..).unwrap_or(&[]);
     }
     Ok(readers.was_refused)
 }
