@@ -23,6 +23,7 @@ pub use Rattle.feed_reports.specs.Reports
 pub use Rattle.feed_reports.specs.WorkedReports
 pub use Rattle.feed_streams.specs.Words as StreamWords
 pub use Rattle.feed_streams.specs.Streams
+pub use Rattle.feed_streams.specs.Acknowledgements
 pub use Rattle.feed_streams.specs.Asking
 pub use Rattle.feed_streams.specs.Requests
 pub use Rattle.feed_streams.specs.RequestErrors
@@ -42,6 +43,7 @@ pub use Rattle.feed_kept.specs.Worked as WorkedKept
 pub use Rattle.feed_runs.specs.Runs
 pub use Rattle.feed_runs.specs.Laws as RunLaws
 pub use Rattle.feed_runs.specs.Mending
+pub use Rattle.feed_runs.specs.Lines
 pub use Rattle.feed_runs.specs.Rehearsing
 pub use Rattle.feed_runs.specs.WorkedRuns
 pub use Rattle.feed_text.specs.Pieces

@@ -15,16 +15,19 @@ pub use feed_rules::laws::{
 };
 pub use feed_rules::worked::{worked_checksums, worked_kinds, worked_rows};
 pub use feed_runs::laws::{
-    broken_runs_are_whole, one_answer_gives_the_rest, packets_of_a_front, torn_text_is_mended,
+    broken_runs_are_whole, one_answer_gives_the_rest, packets_of_a_front,
+    the_last_commit_line_has_the_last_place, torn_text_is_mended, transactions_have_lines,
 };
-pub use feed_runs::worked::{worked_followable, worked_runs};
+pub use feed_runs::worked::{worked_acknowledged_runs, worked_followable, worked_runs};
 pub use feed_serving::laws::{
     lengths_of_packets, requests_are_packets, requests_are_their_fields,
     serving_from_the_start_loses_nothing, serving_stops_at_damage,
 };
 pub use feed_serving::worked::{worked_damage, worked_dumps, worked_places};
 pub use feed_streams::laws::payloads_are_of_their_events;
-pub use feed_streams::worked::{worked_answers, worked_ends, worked_requests};
+pub use feed_streams::worked::{
+    worked_acknowledgements, worked_answers, worked_ends, worked_requests,
+};
 pub use feed_text::laws::{
     equal_quotes_are_of_equal_bytes, values_have_the_texts_of_cells,
     values_of_cells_have_their_texts, worked_quote, worked_times,

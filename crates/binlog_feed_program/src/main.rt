@@ -2,7 +2,8 @@
 #![tactic(auto)]
 
 use binlog_feed::{
-    Follower, Served, Verdict, Watched, name_of, rehearse, report, request, serve, status,
+    Follower, Served, Verdict, Watched, name_of, rehearse, report, request, serve, serve_semi,
+    status,
 };
 use crc32::crc32;
 use std::alloc::Global;
@@ -98,10 +99,20 @@ fn whole<R: Read + Drop>(alloc: Global, mut reader: R) -> Result<Vec<u8>, Verdic
     }
 }
 
+/// Whom an answer is for.
+#[derive(Clone, Copy)]
+enum Replica {
+    /// One that acknowledges nothing.
+    Plain,
+    /// One that acknowledges what it receives.
+    SemiSync,
+}
+
 /// Writes the answer to a request to standard output.
 fn serve_to_stdout<P: Print, R: Read + Drop>(
     rt: &P,
     alloc: Global,
+    replica: Replica,
     request: &[u8],
     name: &[u8],
     reader: R,
@@ -111,15 +122,26 @@ fn serve_to_stdout<P: Print, R: Read + Drop>(
     };
     let mut reader = Watched::new(reader);
     let mut writer = Watched::new(out);
-    let served = serve(
-        alloc,
-        request,
-        name,
-        PACKET_LIMIT,
-        &mut reader,
-        &crc32,
-        &mut writer,
-    );
+    let served = match replica {
+        Replica::Plain => serve(
+            alloc,
+            request,
+            name,
+            PACKET_LIMIT,
+            &mut reader,
+            &crc32,
+            &mut writer,
+        ),
+        Replica::SemiSync => serve_semi(
+            alloc,
+            request,
+            name,
+            PACKET_LIMIT,
+            &mut reader,
+            &crc32,
+            &mut writer,
+        ),
+    };
     match writer.into_inner().flush() {
         Ok(()) => served,
         Err(_) => Served::Fault(Verdict::Write),
@@ -127,7 +149,13 @@ fn serve_to_stdout<P: Print, R: Read + Drop>(
 }
 
 /// Serves a file under a name: the request is all of standard input.
-fn serve_file(rt: &HostRuntime, alloc: Global, path: &str, name: &[u8]) -> ExitCode {
+fn serve_file(
+    rt: &HostRuntime,
+    alloc: Global,
+    replica: Replica,
+    path: &str,
+    name: &[u8],
+) -> ExitCode {
     let reader = match open(rt, alloc, path) {
         Ok(reader) => reader,
         Err(name) => return fail(rt, name),
@@ -136,7 +164,7 @@ fn serve_file(rt: &HostRuntime, alloc: Global, path: &str, name: &[u8]) -> ExitC
         Ok(request) => request,
         Err(fault) => return fail(rt, name_of(&fault)),
     };
-    match serve_to_stdout(rt, alloc, &request, name, reader) {
+    match serve_to_stdout(rt, alloc, replica, &request, name, reader) {
         Served::Whole => ExitCode::SUCCESS,
         served => fail(rt, served.name()),
     }
@@ -278,9 +306,20 @@ fn run(rt: &HostRuntime, words: &[String]) -> ExitCode {
                 _ => fail(rt, "Usage"),
             }
         }
-        ("serve", [path, name]) => {
-            serve_file(rt, alloc, path.as_str(), name.as_str().as_bytes())
-        }
+        ("serve", [path, name]) => serve_file(
+            rt,
+            alloc,
+            Replica::Plain,
+            path.as_str(),
+            name.as_str().as_bytes(),
+        ),
+        ("serve-semi", [path, name]) => serve_file(
+            rt,
+            alloc,
+            Replica::SemiSync,
+            path.as_str(),
+            name.as_str().as_bytes(),
+        ),
         ("follow", []) => end_with(rt, follow(rt, alloc, rt.reader())),
         ("rehearse", [path, counts @ ..]) => rehearse_file(rt, alloc, path.as_str(), counts),
         _ => fail(rt, "Usage"),

@@ -1,11 +1,13 @@
 //! Format descriptions: read, made and written.
 
 use crate::worked::{DESCRIPTION, changed};
-use events_frames::{BinlogEventFooter, EventError, EventParts, FormatDescriptionEvent};
-use rows_consts::{BinlogChecksumAlg, BinlogVersion, EventType};
+use mysql_binlog_events::{
+    BinlogEventFooter, EventError, EventParts, EventStreamReader, FormatDescriptionEvent,
+};
+use mysql_binlog_rows::{BinlogChecksumAlg, BinlogVersion, EventType};
+use mysql_wire::{MySerialize, WireFault};
 use std::alloc::{AllocError, Global};
 use std::borrow::CowSlice;
-use wire_buf::{MySerialize, WireFault};
 
 /// The place of the last number of the server's version.
 const PATCH: usize = 25;
@@ -160,7 +162,19 @@ fn refusal(alloc: Global, place: usize, byte: u8) -> Option<EventError> {
     }
 }
 
-// Versions 3 and 260 of the format, and headers of 18 bytes. An unknown algorithm is kept as its number.
+/// Why a reader of a log refuses the description with another byte at one place, or none where it takes it.
+fn reader_refusal(alloc: Global, place: usize, byte: u8) -> Option<EventError> {
+    let Ok(event) = changed(alloc, DESCRIPTION, place, byte) else {
+        return Some(EventError::Memory);
+    };
+    match EventStreamReader::new(alloc, BinlogVersion::Version4) {
+        Ok(mut reader) => reader.read_slice(event.as_slice()).err(),
+        Err(_) => Some(EventError::Memory),
+    }
+}
+
+// Versions 3 and 260 of the format, and headers of 18 bytes. An unknown algorithm is kept as its number by the body
+// alone: a log with such a description isn't read.
 #[test]
 fn description_refusals(rt: HostRuntime) {
     let alloc = rt.alloc();
@@ -169,6 +183,8 @@ fn description_refusals(rt: HostRuntime) {
             && refusal(alloc, 20, 1) == Some(EventError::Invalid)
             && refusal(alloc, 75, 18) == Some(EventError::Invalid)
             && refusal(alloc, 76, 2).is_none()
+            && reader_refusal(alloc, 19, 3) == Some(EventError::Invalid)
+            && reader_refusal(alloc, 76, 2) == Some(EventError::Algorithm)
     );
 }
 

@@ -1,9 +1,11 @@
 //! Binary log files, and events that are written.
 
 use crate::worked::{BEGIN, COMMIT, DESCRIPTION, INSERT, TABLE_MAP, changed};
-use events_frames::{BinlogFileHeader, EventError, EventParts};
-use events_stream::{BinlogFile, calc_checksum, write_event};
-use rows_consts::BinlogVersion;
+use mysql_binlog_events::{
+    BinlogEventFooter, BinlogFile, BinlogFileHeader, EventError, EventParts, calc_checksum,
+    write_event,
+};
+use mysql_binlog_rows::BinlogVersion;
 use std::alloc::{AllocError, Global};
 
 /// The sum of the bytes, as a checksum.
@@ -79,6 +81,25 @@ fn file_events_written_back(rt: HostRuntime) -> Result<(), AllocError> {
     Ok(())
 }
 
+// A table map that the file doesn't have is taken by its reader before the file's first event.
+#[test]
+fn reader_of_a_file_changed(rt: HostRuntime) -> Result<(), AllocError> {
+    let alloc = rt.alloc();
+    let bytes = file_with(alloc, b"")?;
+    let opened = BinlogFile::new(alloc, BinlogVersion::Version4, bytes.as_slice());
+    let Ok(mut file) = opened else {
+        return Err(AllocError);
+    };
+    assert!(rt;
+        file.reader().get_tme(7).is_none()
+            && file.reader_mut().read_slice(TABLE_MAP).is_ok()
+            && file.reader().get_tme(7).is_some()
+            && gives(alloc, &mut file, BEGIN)
+            && file.reader().get_tme(7).is_some()
+    );
+    Ok(())
+}
+
 #[test]
 fn frame_fault_ends_the_file(rt: HostRuntime) -> Result<(), AllocError> {
     let alloc = rt.alloc();
@@ -130,7 +151,7 @@ fn checksum_of_a_log_in_use(rt: HostRuntime) -> Result<(), AllocError> {
 
 /// The bytes of an event, which has its checksum behind it where it is a description.
 fn written_again(alloc: Global, event: &[u8]) -> Option<Vec<u8>> {
-    let parts = EventParts::cut(event, events_frames::BinlogEventFooter::default()).ok()?;
+    let parts = EventParts::cut(event, BinlogEventFooter::default()).ok()?;
     written(alloc, &parts)
 }
 

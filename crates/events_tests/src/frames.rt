@@ -2,11 +2,11 @@
 
 use crate::devices::Trickle;
 use crate::worked::{BEGIN, COMMIT, INSERT, TABLE_MAP};
-use events_frames::{EventError, NextFrame, gather, next_frame};
 use linked_list_allocator::LocalHeap;
+use mysql_binlog_events::{EventError, NextFrame, gather, next_frame};
+use mysql_wire::Watched;
 use std::alloc::{AllocError, Global};
 use std::io::ErrorKind;
-use wire_streams::Watched;
 
 /// Whether this event stands next in the log.
 fn gives(log: &mut Watched<&[u8]>, event: &mut Vec<u8>, bytes: &[u8]) -> bool {
@@ -102,17 +102,23 @@ fn bytes_gathered(rt: HostRuntime) {
     );
 }
 
-// The header says 4,294,967,295 bytes, and two stand behind it.
+// A header says 4,294,967,295 bytes, and nothing stands behind it, or two bytes; or so many are asked of 19 bytes.
 #[test]
-fn size_reserves_no_memory(rt: HostRuntime) -> Result<(), AllocError> {
+fn huge_event_size(rt: HostRuntime) {
+    let alloc = rt.alloc();
     let bytes = b"\0\0\0\0\x02\x01\0\0\0\xff\xff\xff\xff\0\0\0\0\0\0ab".as_slice();
-    let heap = LocalHeap::new(rt.alloc(), 100_000)?;
-    let mut event = Vec::new(&heap);
+    let (mut alone, mut cut, mut out) = (Vec::new(alloc), Vec::new(alloc), Vec::new(alloc));
     assert!(rt;
-        next_frame(&mut Watched::new(bytes), &mut event) == Ok(NextFrame::Ended)
-            && event.as_slice() == bytes
+        next_frame(&mut Watched::new(&bytes[..19]), &mut alone) == Ok(NextFrame::Ended)
+            && alone.as_slice() == &bytes[..19]
+            && alone.capacity() <= 8_192
+            && next_frame(&mut Watched::new(bytes), &mut cut) == Ok(NextFrame::Ended)
+            && cut.as_slice() == bytes
+            && cut.capacity() <= 8_192
+            && gather(&mut Watched::new(&bytes[..19]), 4_294_967_295, &mut out) == Ok(())
+            && out.as_slice() == &bytes[..19]
+            && out.capacity() <= 8_192
     );
-    Ok(())
 }
 
 /// What comes of all of a reader's 70,000 bytes where memory is for so many, how many stand in the buffer then, and how
@@ -131,13 +137,13 @@ fn gathered_in(
     Ok((fault, out.len(), reader.into_inner().len()))
 }
 
-// Memory is refused for the first 64 KiB, for the second, and not at all.
+// Memory is refused for the first 4 KiB, for more than 32 KiB, and not at all.
 #[test]
 fn bytes_gathered_without_memory(rt: HostRuntime) {
     let alloc = rt.alloc();
     assert!(rt;
         gathered_in(alloc, 1_000) == Ok((Some(EventError::Memory), 2, 70_000))
-            && gathered_in(alloc, 100_000) == Ok((Some(EventError::Memory), 65_538, 4_464))
+            && gathered_in(alloc, 100_000) == Ok((Some(EventError::Memory), 32_784, 37_218))
             && gathered_in(alloc, 1_000_000) == Ok((None, 70_002, 0))
     );
 }

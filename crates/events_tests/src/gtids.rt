@@ -1,11 +1,9 @@
 //! GTID events: read, made and written.
 
-use events_frames::BinlogStruct;
-use events_gtids::{AnonymousGtidEvent, GtidEvent};
-use rows_consts::BinlogVersion;
-use rows_flags::GtidFlags;
+use mysql_binlog_events::{AnonymousGtidEvent, BinlogStruct, GtidEvent};
+use mysql_binlog_rows::{BinlogVersion, GtidFlags};
+use mysql_wire::{MyDeserialize, MySerialize, ParseBuf, WireFault};
 use std::alloc::Global;
-use wire_buf::{MyDeserialize, MySerialize, ParseBuf, WireFault};
 
 /// The uuid 01020304-0506-0708-090a-0b0c0d0e0f10.
 const SID: [u8; 16] = [1, 2, 3, 4, 5, 6, 7, 8, 9, 10, 11, 12, 13, 14, 15, 16];

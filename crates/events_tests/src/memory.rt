@@ -7,23 +7,18 @@ use crate::queries::{LOAD, QUERY};
 use crate::rows_by_type::UPDATE;
 use crate::user_vars::UNSIGNED;
 use crate::worked::{DESCRIPTION, INSERT, TABLE_MAP};
-use events_bodies::{
-    BeginLoadQueryEvent, IncidentEvent, IntvarEvent, RandEvent, RotateEvent, RowsQueryEvent,
-    UserVarEvent, XidEvent,
-};
-use events_frames::{BinlogCtx, BinlogStruct, FormatDescriptionEvent, read_struct};
-use events_gtids::{AnonymousGtidEvent, GtidEvent};
-use events_queries::{ExecuteLoadQueryEvent, QueryEvent};
-use events_rows::{
-    DeleteRowsEvent, DeleteRowsEventV1, PartialUpdateRowsEvent, UpdateRowsEvent, UpdateRowsEventV1,
-    WriteRowsEvent, WriteRowsEventV1,
-};
 use linked_list_allocator::LocalHeap;
-use rows_consts::BinlogVersion;
-use rows_meta::TableMapEvent;
+use mysql_binlog_events::{
+    AnonymousGtidEvent, BeginLoadQueryEvent, BinlogCtx, BinlogStruct, DeleteRowsEvent,
+    DeleteRowsEventV1, ExecuteLoadQueryEvent, FormatDescriptionEvent, GtidEvent, IncidentEvent,
+    IntvarEvent, PartialUpdateRowsEvent, QueryEvent, RandEvent, RotateEvent, RowsQueryEvent,
+    UpdateRowsEvent, UpdateRowsEventV1, UserVarEvent, WriteRowsEvent, WriteRowsEventV1, XidEvent,
+    read_struct,
+};
+use mysql_binlog_rows::{BinlogVersion, TableMapEvent};
+use mysql_wire::{MySerialize, WireFault};
 use std::alloc::Global;
 use std::borrow::CowSlice;
-use wire_buf::{MySerialize, WireFault};
 
 /// What comes of a body behind `ab` where memory is for so many bytes: the answer, how many bytes stand there then, and
 /// whether the first two are still `ab`. None where not even the two find a place.
@@ -79,19 +74,19 @@ fn refuses<'a, T: BinlogStruct<'a, Fault = WireFault> + Drop>(
 }
 
 #[test]
-fn rotate_without_memory(rt: HostRuntime) {
+fn serialize_with_refused_memory_rotate(rt: HostRuntime) {
     let name = [b'n'; 100];
     let event = RotateEvent::new(4, CowSlice::Borrowed(&name));
     assert!(rt; is_whole_or_refused(rt.alloc(), &event, 108));
 }
 
 #[test]
-fn description_without_memory(rt: HostRuntime) {
+fn serialize_with_refused_memory_description(rt: HostRuntime) {
     assert!(rt; is_whole_or_refused(rt.alloc(), &made(&[56, 13]), 59));
 }
 
 #[test]
-fn query_without_memory(rt: HostRuntime) {
+fn serialize_with_refused_memory_query(rt: HostRuntime) {
     let event = QueryEvent::new(
         CowSlice::Borrowed(b"\0\0\0\0\0"),
         CowSlice::Borrowed(b"test"),
@@ -101,7 +96,7 @@ fn query_without_memory(rt: HostRuntime) {
 }
 
 #[test]
-fn plain_bodies_without_memory(rt: HostRuntime) {
+fn serialize_with_refused_memory_plain_bodies(rt: HostRuntime) {
     let alloc = rt.alloc();
     let fde = FormatDescriptionEvent::new(BinlogVersion::Version4);
     assert!(rt;
@@ -117,7 +112,7 @@ fn plain_bodies_without_memory(rt: HostRuntime) {
 }
 
 #[test]
-fn other_bodies_without_memory(rt: HostRuntime) {
+fn serialize_with_refused_memory_other_bodies(rt: HostRuntime) {
     let alloc = rt.alloc();
     let fde = FormatDescriptionEvent::new(BinlogVersion::Version4);
     assert!(rt;
@@ -132,7 +127,7 @@ fn other_bodies_without_memory(rt: HostRuntime) {
 
 // An event of version 1 has no extra data.
 #[test]
-fn rows_events_without_memory(rt: HostRuntime) {
+fn serialize_with_refused_memory_rows_events(rt: HostRuntime) {
     let alloc = rt.alloc();
     let fde = FormatDescriptionEvent::new(BinlogVersion::Version4);
     let one = b"\x07\0\0\0\0\0\x01\0\x01\x01row";

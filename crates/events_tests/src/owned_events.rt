@@ -2,14 +2,14 @@
 
 use crate::files::{added, file_with};
 use crate::worked::{BEGIN, COMMIT, DESCRIPTION, INSERT, TABLE_MAP, changed};
-use events_bodies::XidEvent;
-use events_data::EventData;
-use events_frames::{EventError, EventParts, FormatDescriptionEvent};
-use events_stream::{BinlogFile, Event, EventStreamReader};
-use rows_consts::{BinlogChecksumAlg, BinlogVersion};
+use mysql_binlog_events::{
+    BinlogFile, Event, EventData, EventError, EventParts, EventStreamReader,
+    FormatDescriptionEvent, XidEvent,
+};
+use mysql_binlog_rows::{BinlogChecksumAlg, BinlogVersion};
+use mysql_wire::Watched;
 use std::alloc::{AllocError, Global};
 use std::rc::Rc;
-use wire_streams::Watched;
 
 /// The event at the front of the bytes, by a description that says nothing.
 fn event_of(alloc: Global, bytes: &[u8]) -> Result<Event<'static>, EventError> {

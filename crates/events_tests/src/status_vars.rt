@@ -1,11 +1,10 @@
 //! Status variables: each key's value, and how a block of them ends.
 
-use events_queries::{StatusVar, StatusVarVal, StatusVars, StatusVarsIterator};
-use rows_consts::StatusVarKey as Key;
+use mysql_binlog_events::{StatusVar, StatusVarVal, StatusVars, StatusVarsIterator};
+use mysql_binlog_rows::StatusVarKey as Key;
+use mysql_wire::{MySerialize, ParseBuf, RawBytes, RawFlags, Seq};
 use std::alloc::Global;
 use std::borrow::CowSlice;
-use wire_forms::{RawBytes, RawFlags};
-use wire_seqs::Seq;
 
 /// The options 0, the character sets 33, 33 and 8, and a key that is never written.
 const BLOCK: &[u8] = b"\0\0\0\0\0\x04\x21\0\x21\0\x08\0\x0e\0";
@@ -246,4 +245,22 @@ fn variables_cut_off(rt: HostRuntime) {
             && has_none(b"\x0f\0\0\0\0\0\0\0\0")
             && has_none(b"\x15\0")
     );
+}
+
+/// Whether the block is read at the front of the bytes, made owned, and written as itself.
+fn is_kept(alloc: Global, bytes: &[u8]) -> bool {
+    let mut buf = ParseBuf(bytes);
+    let Ok(read) = buf.parse::<StatusVars<'_>>(alloc, BLOCK.len()) else {
+        return false;
+    };
+    let Ok(owned) = read.into_owned(alloc) else {
+        return false;
+    };
+    let mut out = Vec::new(alloc);
+    owned.serialize(&mut out).is_ok() && out.as_slice() == BLOCK && buf.0 == b"z".as_slice()
+}
+
+#[test]
+fn blocks_kept(rt: HostRuntime) {
+    assert!(rt; is_kept(rt.alloc(), b"\0\0\0\0\0\x04\x21\0\x21\0\x08\0\x0e\0z"));
 }

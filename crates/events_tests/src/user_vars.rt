@@ -2,11 +2,10 @@
 
 use crate::written::{is_short, is_written, refusal};
 use bitflags::Flags;
-use events_bodies::UserVarEvent;
-use events_frames::{EventError, read_body};
-use rows_flags::UserVarFlags;
+use mysql_binlog_events::{EventError, UserVarEvent, read_body};
+use mysql_binlog_rows::UserVarFlags;
+use mysql_wire::{ItemResult, UnknownItemResultType};
 use std::alloc::Global;
-use wire_consts::{ItemResult, UnknownItemResultType};
 
 /// `@n`, an unsigned integer, 300.
 pub(crate) const UNSIGNED: &[u8] = b"\x01\0\0\0n\0\x02\x3f\0\0\0\x08\0\0\0\x2c\x01\0\0\0\0\0\0\x01";
@@ -129,5 +128,24 @@ fn user_variables_refused(rt: HostRuntime) {
                 alloc,
                 b"\x01\0\0\0n\0\x02\x3f\0\0\0\x08\0\0\0\x2c\x01\0\0\0\0\0\0\x01\0",
             ) == Some(EventError::RemainingBytes)
+    );
+}
+
+/// Whether the name of the variable is this text.
+fn is_named(alloc: Global, body: &[u8], wanted: &str) -> bool {
+    let Ok(read) = read_body::<UserVarEvent<'_>>(alloc, (), body) else {
+        return false;
+    };
+    match read.name(alloc) {
+        Ok(name) => name.as_str() == wanted,
+        Err(_) => false,
+    }
+}
+
+#[test]
+fn names_of_user_variables(rt: HostRuntime) {
+    let alloc = rt.alloc();
+    assert!(rt;
+        is_named(alloc, TEXT, "name") && is_named(alloc, b"\x01\0\0\0\xff\x01", "\u{fffd}")
     );
 }

@@ -7,7 +7,7 @@ use Rattle.feed_rules.specs.declared.verdict.Verdict.{Verdict}
 use Rattle.feed_rules.specs.Rules.{Rules}
 use Rattle.feed_reports.specs.Events.{has_mark}
 use Rattle.feed_streams.specs.Requests.{dump_payload, dump_request}
-use Rattle.feed_streams.specs.Streams.{Form}
+use Rattle.feed_streams.specs.declared.form.PayloadForm.{PayloadForm as Form}
 use Rattle.feed_serving.specs.declared.served.Refusal.{Refusal}
 use Rattle.feed_serving.specs.declared.served.Refusal.TheVariants as refusals
 use Rattle.feed_serving.specs.declared.served.Served.{Served}

@@ -21,7 +21,9 @@ use Rattle.feed_reports.specs.Events.{AreWhole, EventsEnd, Nothing, BadFrame, Be
 use Rattle.feed_reports.specs.Reports.{Report, file_events, file_end, end_verdict, verdict_or, file_transactions, file_verdict}
 use Rattle.feed_reports.proofs.EventLemmas.{events-law}
 use Rattle.feed_streams.specs.Words.{while, from_other}
-use Rattle.feed_streams.specs.Streams.{Form, Plain, SemiSync, holds_event, event_in, payload_of, event_payloads, events_of, closing_of, stream_events, stream_transactions, stream_verdict}
+use Rattle.feed_streams.specs.declared.form.PayloadForm.{PayloadForm as Form}
+use Rattle.feed_streams.specs.declared.form.PayloadForm.TheVariants.{Plain, SemiSync}
+use Rattle.feed_streams.specs.Streams.{holds_event, event_in, payload_of, event_payloads, events_of, closing_of, stream_events, stream_transactions, stream_verdict}
 use Rattle.feed_streams.proofs.StreamLemmas.{payload-holds, event-back}
 use Rattle.feed_serving.specs.declared.served.Served.TheVariants.{Fault}
 use Rattle.feed_serving.specs.Serving.{Answer, broken_end, closing_payload, closed_by, outcome_of, fits, sent, sent_events, damage_after, answer, answer_bytes}
@@ -121,21 +123,21 @@ unfolding fault_after up_to_fault
 all-good judge past [] h = refl
 all-good judge past (e ∷ l) h = either_good e l (up_to_fault judge (e ∷ past) l) (judge past e) (fault_after judge (e ∷ past) l) h (all-good judge (e ∷ past) l)
 
-pub serves-the-file : (r : Rules) (form : Form) (limit : ℕ) (b : List ℕ) → ServesTheFile r form limit b
+pub serves-the-file : (r : Rules) (form : Form) (limit reading : ℕ) (b : List ℕ) → ServesTheFile r form limit reading b
 unfolding stream_transactions stream_verdict file_transactions file_verdict
-serves-the-file r form limit b m f n i =
+serves-the-file r form limit reading b m f n i j =
     let l = file_events b in
     let ps : List (List ℕ) = map (payload_of form) (file_events b) ++ closing_payload ∷ [] in
     let none : option_or (fault_after r.damage [] (file_events b)) (broken_end (file_end b)) ≡ None = ap (λ (o : Option Verdict). option_or o (broken_end (file_end b))) f ∙ n in
     let a : answer_bytes (answer r form limit b 4) ≡ framings 1 ps = ap answer_bytes (start_by r form limit b (file_events b) None m (all-good r.damage [] (file_events b) f) none ∙ sent-all limit ps None i) in
-    let are : packets limit 1 (answer_bytes (answer r form limit b 4)) ≡ ps = ap (packets limit 1) a ∙ (framings_read limit 1 ps i).0 in
+    let are : packets reading 1 (answer_bytes (answer r form limit b 4)) ≡ ps = ap (packets reading 1) a ∙ (framings_read reading 1 ps j).0 in
     let w = events_of-closed form l (events-law (drop 4 b)).0 in
-    let e : events_of form (packets limit 1 (answer_bytes (answer r form limit b 4))) ≡ l = ap (events_of form) are ∙ w.0 in
-    let c : closing_of form (packets limit 1 (answer_bytes (answer r form limit b 4))) ≡ Some verdicts.End = ap (closing_of form) are ∙ w.1 in
-    let ts : stream_transactions r form limit (answer_bytes (answer r form limit b 4)) ≡ file_transactions r b = ap (shown r) e ∙ sym (marked (has_mark b) (shown r l) [] m) in
-    let v : stream_verdict r form limit (answer_bytes (answer r form limit b 4)) ≡ file_verdict r b =
+    let e : events_of form (packets reading 1 (answer_bytes (answer r form limit b 4))) ≡ l = ap (events_of form) are ∙ w.0 in
+    let c : closing_of form (packets reading 1 (answer_bytes (answer r form limit b 4))) ≡ Some verdicts.End = ap (closing_of form) are ∙ w.1 in
+    let ts : stream_transactions r form reading (answer_bytes (answer r form limit b 4)) ≡ file_transactions r b = ap (shown r) e ∙ sym (marked (has_mark b) (shown r l) [] m) in
+    let v : stream_verdict r form reading (answer_bytes (answer r form limit b 4)) ≡ file_verdict r b =
     rw (e, c) (ap (verdict_or (first_fault r l)) (sym (ends (file_end b) n))) ∙ sym (marked (has_mark b) (verdict_or (first_fault r l) (end_verdict (file_end b))) verdicts.Mark m) in
-    ap (λ (t : List Transaction). let q : Report = record { transactions = t; verdict = stream_verdict r form limit (answer_bytes (answer r form limit b 4)) } in q) ts
+    ap (λ (t : List Transaction). let q : Report = record { transactions = t; verdict = stream_verdict r form reading (answer_bytes (answer r form limit b 4)) } in q) ts
     ∙ ap (λ (x : Verdict). let q : Report = record { transactions = file_transactions r b; verdict = x } in q) v
 
 -- ---- up to damage

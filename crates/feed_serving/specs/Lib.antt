@@ -1,7 +1,6 @@
 pub mod Requests
 pub mod Places
 pub mod Serving
-pub mod Forms
 pub mod Sending
 pub mod ServedNames
 pub mod Passing

@@ -6,15 +6,17 @@ ghost use Rattle.feed_rules.specs.declared.verdict.Verdict.{Verdict};
 ghost use Rattle.feed_rules.specs.Events.{Event};
 ghost use Rattle.feed_rules.specs.Rules.{Rules, rules};
 ghost use Rattle.feed_streams.specs.Requests.{dump_request};
-ghost use Rattle.feed_streams.specs.Streams.{Form, Plain, SemiSync, payload_of};
+ghost use Rattle.feed_streams.specs.declared.form.PayloadForm.{PayloadForm as Form};
+ghost use Rattle.feed_streams.specs.declared.form.PayloadForm.TheVariants.{Plain, SemiSync};
+ghost use Rattle.feed_streams.specs.Streams.{payload_of};
 ghost use Rattle.feed_serving.specs.Requests.{payload_of_packet};
 ghost use Rattle.feed_serving.specs.Serving.{answer, served, closing_payload};
 ghost use Rattle.feed_serving.specs.Laws.{ServesTheFile, StopsAtDamage, IsOfTheFile};
 
-/// Where no event is damaged and the limit holds each payload, the answer from the start has the text and the verdict of the
-/// file, whatever the rules, plain or semi-synchronous.
+/// Where no event is damaged and the limits of the server and of its reader hold each payload, the answer from the start has the
+/// text and the verdict of the file, whatever the rules, plain or semi-synchronous.
 pub fn serving_from_the_start_loses_nothing()
-    ensures { (r : Rules) (form : Form) (limit : ℕ) (b : List ℕ) → ServesTheFile r form limit b }
+    ensures { (r : Rules) (form : Form) (limit reading : ℕ) (b : List ℕ) → ServesTheFile r form limit reading b }
 {}
 
 /// Where serving from the start stops at damage, and both limits hold what is sent, the answer has no closing packet, and the

@@ -1,7 +1,6 @@
 //! A server of a binary log: it takes a request, and sends the file's own events from a place on.
 #![tactic(auto)]
 
-mod form;
 pub mod laws;
 mod packets;
 mod passing;
@@ -12,4 +11,4 @@ mod serving;
 pub mod worked;
 
 pub use served::{Refusal, Served};
-pub use serving::serve;
+pub use serving::{serve, serve_as, serve_semi};

@@ -5,7 +5,7 @@ ghost use Rattle.feed_rules.specs.declared.verdict.Verdict.TheVariants as v;
 ghost use Rattle.feed_rules.specs.WorkedEvents.{description_event};
 ghost use Rattle.feed_reports.specs.WorkedReports.{without_last_byte, broken_header};
 ghost use Rattle.feed_rules.specs.WorkedEvents.{one_insert_events};
-ghost use Rattle.feed_streams.specs.Streams.{Plain, SemiSync};
+ghost use Rattle.feed_streams.specs.declared.form.PayloadForm.TheVariants.{Plain, SemiSync};
 ghost use Rattle.feed_streams.specs.WorkedStreams.{packets_from, closing_packet, whole_answer, semi_synchronous_answer, program_limit};
 ghost use Rattle.feed_serving.specs.declared.served.Refusal.TheVariants as refusals;
 ghost use Rattle.feed_serving.specs.declared.served.Served.TheVariants.{Whole, Refused, Fault};

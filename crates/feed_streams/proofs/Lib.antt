@@ -1,3 +1,5 @@
 pub mod StreamLemmas
 pub mod AskingLemmas
 pub mod FollowLemmas
+pub mod FeedingLemmas
+pub mod AcknowledgementLemmas

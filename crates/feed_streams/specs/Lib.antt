@@ -1,5 +1,6 @@
 pub mod Words
 pub mod Streams
+pub mod Acknowledgements
 pub mod Asking
 pub mod Requests
 pub mod RequestErrors

@@ -3,9 +3,10 @@ use Rattle.std.specs.Prelude.{ℕ, ◌+◌, List, [], ◌∷◌, ◌++◌, lengt
 use Rattle.feed_rules.specs.declared.verdict.Verdict.{Verdict}
 use Rattle.feed_rules.specs.Events.{Event}
 use Rattle.feed_rules.specs.Rules.{rules}
-use Rattle.feed_rules.specs.WorkedEvents.{zeros, begin_event, map_event, write_event, one_insert_events, with_checksum, checksummed_with}
+use Rattle.feed_rules.specs.WorkedEvents.{zeros, begin_event, map_event, write_event, commit_event, one_insert_events, with_checksum, checksummed_with}
 use Rattle.feed_reports.specs.Reports.{Printed, printed}
 use Rattle.feed_streams.specs.Streams.{Form, Plain, SemiSync, payload_of, stream_report}
+use Rattle.feed_streams.specs.Acknowledgements.{acknowledgements}
 
 -- what a stream prints, by the rules under the checksum function that is 0 of everything
 abbrev pub stream_prints : Form → ℕ → List ℕ → Printed
@@ -74,3 +75,22 @@ program_limit = 1073741824
 -- the request for master-bin.000002 from 4 on, by server 1
 abbrev pub worked_request : List ℕ
 worked_request = 28 ∷ 0 ∷ 0 ∷ 0 ∷ 18 ∷ 4 ∷ 0 ∷ 0 ∷ 0 ∷ 1 ∷ 0 ∷ 1 ∷ 0 ∷ 0 ∷ 0 ∷ codes "master-bin.000002"
+
+-- an answer whose first and last event have these flags
+abbrev pub flagged : ℕ → Event → List ℕ
+flagged flags e = 0 ∷ 239 ∷ flags ∷ e
+
+abbrev pub flagged_answer : ℕ → ℕ → List ℕ
+flagged_answer first last = packet 1 (flagged first begin_event) ++ packet 2 (flagged 0 map_event) ++ packet 3 (flagged 0 write_event) ++ packet 4 (flagged last commit_event) ++ closing_packet 5
+
+-- the same, but for the number of the last event's packet
+abbrev pub misnumbered_flagged_answer : List ℕ
+misnumbered_flagged_answer = packet 1 (flagged 1 begin_event) ++ packet 2 (flagged 0 map_event) ++ packet 3 (flagged 0 write_event) ++ packet 5 (flagged 1 commit_event)
+
+-- the acknowledgement of an event that ends at this place, of the log "m"
+abbrev pub ack_of : ℕ → List ℕ
+ack_of place = packet 0 (239 ∷ place ∷ zeros 7 ++ codes "m")
+
+-- what a stream asks for
+abbrev pub asks_for : Form → List ℕ → List (List ℕ)
+asks_for form s = acknowledgements (rules (λ bytes. 0)) form program_limit (codes "m") s

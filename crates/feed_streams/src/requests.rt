@@ -1,6 +1,6 @@
 //! The request for a binary log.
 
-ghost use Rattle.std.specs.Prelude.{◌≡◌, ◌↔◌, ◌<◌, IfOk, IsErrOf, length};
+ghost use Rattle.std.specs.Prelude.{◌≡◌, ◌↔◌, ◌<◌, ◌≤◌, IfOk, IsErrOf, length};
 ghost use Rattle.feed_streams.specs.Requests.{dump_request, dump_payload as payload_of};
 ghost use Rattle.feed_streams.specs.declared.requests.RequestError.TheVariants.{Memory};
 
@@ -48,6 +48,35 @@ impl From<AllocError> for RequestError {
 
     fn from(_error: AllocError) -> RequestError {
         RequestError::Memory
+    }
+}
+
+/// The name of a binary log.
+#[derive(Drop)]
+pub(crate) struct LogName {
+    bytes: Vec<u8>,
+    ghost fits: { length bytes.items ≤ 511 },
+}
+
+impl LogName {
+    /// A name, which is kept. Refused with `NameTooLong` exactly where it is longer than 511 bytes, and with `Memory`.
+    pub(crate) fn new(alloc: Global, name: &[u8]) -> Result<LogName, RequestError>
+        ensures name { IfOk result (λ it. it.bytes.items ≡ name.now) }
+        ensures too_long { IsErrOf result RequestError.NameTooLong ↔ (511 < length name.now) }
+    {
+        if name.len() > MAX_NAME_LEN {
+            return Err(RequestError::NameTooLong);
+        }
+        let bytes = Vec::from_slice(alloc, name)?;
+        Ok(LogName { bytes })
+    }
+
+    /// Its bytes.
+    pub(crate) fn as_slice(&self) -> &[u8]
+        ensures name { result.now ≡ self.now.bytes.items }
+        ensures fits { length result.now ≤ 511 }
+    {
+        self.bytes.as_slice()
     }
 }
 

@@ -5,7 +5,7 @@ ghost use Rattle.feed_rules.specs.declared.verdict.Verdict.TheVariants as v;
 ghost use Rattle.feed_rules.specs.WorkedEvents.{insert_text, one_insert_text};
 ghost use Rattle.feed_streams.specs.Requests.{dump_request};
 ghost use Rattle.feed_streams.specs.Streams.{Plain, SemiSync};
-ghost use Rattle.feed_streams.specs.WorkedStreams.{stream_prints, prints, open_answer, whole_answer, checksummed_answer, semi_synchronous_answer, closing_packet, misnumbered_answer, misnumbered_front, empty_payload, long_closing_payload, short_event_payload, error_packet, program_limit, worked_request};
+ghost use Rattle.feed_streams.specs.WorkedStreams.{stream_prints, prints, open_answer, whole_answer, checksummed_answer, semi_synchronous_answer, closing_packet, misnumbered_answer, misnumbered_front, empty_payload, long_closing_payload, short_event_payload, error_packet, program_limit, worked_request, flagged_answer, misnumbered_flagged_answer, ack_of, asks_for};
 
 /// Answers of a server.
 pub fn worked_answers()
@@ -31,4 +31,13 @@ pub fn worked_ends()
 /// A request.
 pub fn worked_requests()
     ensures { dump_request 4 1 (codes "master-bin.000002") ≡ worked_request }
+{}
+
+/// Acknowledgements: of flagged events alone, once each, up to the first that isn't taken.
+pub fn worked_acknowledgements()
+    ensures semi_synchronous { asks_for SemiSync semi_synchronous_answer ≡ ack_of 42 ∷ ack_of 142 ∷ [] }
+    ensures unknown_bits { asks_for SemiSync (flagged_answer 254 255) ≡ ack_of 142 ∷ [] }
+    ensures out_of_number { asks_for SemiSync misnumbered_flagged_answer ≡ ack_of 42 ∷ [] }
+    ensures plain_answer { asks_for SemiSync whole_answer ≡ [] }
+    ensures plain { asks_for Plain whole_answer ≡ [] }
 {}

@@ -1,6 +1,6 @@
 //! Tests of the change feed through its public calls: worked binary logs with events of each kind and cells of several types,
-//! worked streams, requests and answers to them, runs whose answers break off, texts that were cut off, names, readers and
-//! writers that fail, hostile bytes, and checksums.
+//! worked streams, requests and answers to them, plain and semi-synchronous, runs whose answers break off, texts that were cut
+//! off, names, readers and writers that fail, hostile bytes, and checksums.
 #![tactic(auto)]
 
 #[cfg(test)]
@@ -29,6 +29,8 @@ mod requesting;
 mod rows;
 #[cfg(test)]
 mod samples;
+#[cfg(test)]
+mod semi;
 #[cfg(test)]
 mod serving;
 #[cfg(test)]

@@ -5,9 +5,13 @@ use Rattle.std.proofs.lemmas.List.{length-take, length-take-le, take-append-le, 
 use Rattle.std.specs.List.{flat_map}
 use Rattle.feed_writers.specs.Quoting.{quoted_byte, quoted}
 use Rattle.rows_jsonb.specs.JsonbValues.{Reading, ◌>>=◌}
-use Rattle.feed_text.specs.CellText.{label, Appends, AppendsLabeled}
+use Rattle.rows_jsonb.specs.DocumentTrees.{document_tree}
+use Rattle.rows_cells.specs.CellValues.{CellValue, json}
+use Rattle.feed_text.specs.JsonText.{document_text}
+use Rattle.feed_text.specs.DirectText.{WritesDocument}
+use Rattle.feed_text.specs.CellText.{label, text_of, cell_text, Appends, AppendsLabeled}
 use Rattle.feed_text.specs.DecimalText.{AppendsSome}
-use Rattle.feed_text.proofs.CellLemmas.{appends}
+use Rattle.feed_text.proofs.CellLemmas.{appends, tree_written}
 
 -- bytes at the front were quoted, and the others are left
 pub front_quoted : (all text new rest front after : List ℕ) (n : ℕ) → text ++ flat_map quoted_byte rest ≡ all → front ≡ take n rest → after ≡ drop n rest → new ≡ text ++ flat_map quoted_byte front
@@ -47,3 +51,7 @@ appended_behind place found text old front new h first is = appends place found 
 pub decimal_behind : (place : ℕ) (found : Option (List ℕ)) (old front new : List ℕ) → front ≡ old ++ label place → AppendsSome found front new → AppendsLabeled place found old new
 decimal_behind place None old front new first h = absurd h
 decimal_behind place (Some text) old front new first h = h ∙ ap (λ (t : List ℕ). t ++ text) first ∙ append_assoc old (label place) text
+
+-- the text of a document was appended behind a label
+pub document_behind : (place : ℕ) (v : CellValue) (bytes old front new : List ℕ) → v ≡ json bytes → front ≡ old ++ label place → WritesDocument (document_tree bytes) front new → Appends (cell_text place v) old new
+document_behind place v bytes old front new is first w = appended_behind place (text_of v) (document_text w.tree) old front new (tree_written v bytes w.tree is w.is) first w.text

@@ -11,3 +11,6 @@ pub mod DiffTextLemmas
 pub mod BufferLemmas
 pub mod FieldTextLemmas
 pub mod ImageTextLemmas
+pub mod OrderLemmas
+pub mod DirectLemmas
+pub mod ContainerLemmas

@@ -2,15 +2,13 @@
 use Rattle.std.specs.Prelude.{◌≡◌, ◌≤◌, ◌⊎◌, ℕ, List, [], ◌∷◌, ◌++◌, length, take}
 use Rattle.std.specs.declared.result.Result.TheVariants.{Ok, Err}
 use Rattle.rows_values.specs.declared.fault.RowsError.{RowsError}
-use Rattle.rows_values.specs.declared.fault.RowsError.TheVariants.{Memory, Decimal}
+use Rattle.rows_values.specs.declared.fault.RowsError.TheVariants.{Memory}
 use Rattle.rows_jsonb.specs.JsonbValues.{Reading, ◌>>=◌}
 use Rattle.rows_jsonb.specs.JsonParsing.{Parses}
-use Rattle.rows_cells.specs.declared.cell.CellRef.{CellRef}
 use Rattle.rows_cells.specs.declared.image.ImageCells.{ImageCells}
-use Rattle.rows_cells.specs.CellViews.{cell_value}
 use Rattle.rows_cells.specs.Images.{PlacedValue}
 use Rattle.rows_cells.specs.ImageViews.{cells_left, cells_count}
-use Rattle.feed_text.specs.CellText.{cell_text, PacksNone}
+use Rattle.feed_text.specs.CellText.{cell_text}
 
 -- the texts of cells, one after the other
 unfoldable pub cells_text : List PlacedValue → Reading (List ℕ)

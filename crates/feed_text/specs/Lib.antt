@@ -10,5 +10,7 @@ pub mod DiffText
 pub mod CellText
 pub mod CellParts
 pub mod Buffers
+pub mod KeyOrder
+pub mod DirectText
 pub mod FieldText
 pub mod ImageText

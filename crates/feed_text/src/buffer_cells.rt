@@ -1,10 +1,12 @@
 //! The text of cells in a buffer with room.
 
-ghost use Rattle.std.specs.Prelude.{◌≡◌, ◌≤◌, ◌+◌, ◌++◌, ◌*◌, ◌∷◌, [], OnOk, OnErr, IfErr, IfOk, length, take};
+ghost use Rattle.std.specs.Prelude.{◌≡◌, ◌≤◌, ◌+◌, ◌++◌, ◌*◌, ◌∷◌, [], OnOk, OnErr, IfErr, IfOk, IsTrue, false, length, take};
+ghost use Rattle.rows_jsonb.specs.DocumentTrees.{document_tree};
 ghost use Rattle.std.specs.List.{flat_map};
 ghost use Rattle.feed_writers.specs.Quoting.{quoted, quoted_byte};
 ghost use Rattle.rows_cells.specs.CellViews.{cell_value};
 ghost use Rattle.feed_text.specs.CellText.{label, cell_text, Appends, IsCellRefused};
+ghost use Rattle.feed_text.specs.DirectText.{WritesDocument};
 ghost use Rattle.feed_text.specs.DecimalText.{quoted_decimal, AppendsSome, IsDecimalRefused};
 ghost use Rattle.feed_text.specs.Pieces.{IsRefused};
 ghost use Rattle.feed_text.specs.ShortTexts.{short_text};
@@ -12,6 +14,7 @@ ghost use Rattle.feed_text.specs.ShortTexts.{short_text};
 use crate::buffer::TextBuffer;
 use crate::cells::{LABEL, put_cell_ref, put_label};
 use crate::decimals::write_quoted;
+use crate::direct::write_document;
 use crate::parts::CellParts;
 use crate::short::{FEW, FEW_DIGITS, SHORT, Short, put_short};
 use feed_writers::{put_between, put_byte, put_quoted};
@@ -55,7 +58,13 @@ impl<A: Allocator> TextBuffer<A> {
                 }
                 self.put_decimal_from(end, (precision, scale), bytes)
             }
-            CellParts::Json(_) | CellParts::JsonDiffs(_) => self.put_document(alloc, place, cell),
+            CellParts::Json(bytes) => {
+                if self.put_direct_from(end, bytes) {
+                    return Ok(());
+                }
+                self.put_document(alloc, place, cell)
+            }
+            CellParts::JsonDiffs(_) => self.put_document(alloc, place, cell),
         }
     }
 
@@ -168,6 +177,23 @@ impl<A: Allocator> TextBuffer<A> {
         };
         self.len = end;
         Ok(())
+    }
+
+    /// Makes the text what stands before a place, and the text of a document behind it, or leaves the text as it was.
+    #[inline(never)]
+    fn put_direct_from(&mut self, start: usize, bytes: &[u8]) -> bool
+        requires room { start + 76 ≤ length self.old.bytes.items }
+        requires behind { self.old.len ≤ start }
+        ensures yes { IsTrue result → WritesDocument (document_tree bytes.now) (take start self.old.bytes.items) (text_in self.new) }
+        ensures no { result ≡ false → text_in self.new ≡ text_in self.old }
+    {
+        let old = self.len;
+        self.len = start;
+        let Ok(()) = write_document(self, bytes) else {
+            self.len = old;
+            return false;
+        };
+        true
     }
 
     /// Appends the text of a cell that is put into memory of any length.

@@ -40,6 +40,9 @@ pub use Rattle.events_rows.specs.RowsContexts
 pub use Rattle.events_rows.specs.RowsViews
 pub use Rattle.events_stream.specs.Readings
 pub use Rattle.events_stream.specs.ReadingViews
+pub use Rattle.events_stream.specs.EventViews
+pub use Rattle.events_stream.specs.OwnedEvents
+pub use Rattle.events_stream.specs.OwnedBodies
 pub use Rattle.events_stream.specs.Files
 pub use Rattle.events_stream.specs.Checksums
 pub use Rattle.events_stream.specs.WrittenEvents

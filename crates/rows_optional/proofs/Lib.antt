@@ -11,4 +11,5 @@ pub mod RefusalLemmas
 pub mod ItemLemmas
 pub mod MemberLawLemmas
 pub mod FieldLemmas
+pub mod EqualFieldLemmas
 pub mod MemberWriteLemmas

@@ -19,7 +19,7 @@ use rows_values::{Bits, RowsError};
 use wire_consts::ColumnType;
 
 /// A field of the optional metadata, borrowed from the table map's bytes.
-#[derive(Clone, Copy)]
+#[derive(Clone, Copy, PartialEq, Eq)]
 pub enum OptionalMetadataField<'a> {
     /// For each numeric column, whether it is unsigned.
     Signedness(Bits<'a>),

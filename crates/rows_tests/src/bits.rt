@@ -31,3 +31,16 @@ fn bits_both_orders(rt: HostRuntime) {
     );
     assert!(rt; highest.len() == 3 && !highest.is_empty() && highest.count_ones() == 2);
 }
+
+// The bits that are counted are compared, in whatever order they stand in their bytes; what follows them isn't.
+#[test]
+fn equal_bits(rt: HostRuntime) {
+    let lowest = Bits::lowest(&[0x05], 3);
+    assert!(rt;
+        lowest == Bits::highest(&[0xa0], 3)
+            && lowest == Bits::lowest(&[0xfd, 0xff], 3)
+            && lowest != Bits::lowest(&[0x07], 3)
+            && lowest != Bits::lowest(&[0x05], 4)
+            && Bits::lowest(&[], 0) == Bits::highest(&[0xff], 0)
+    );
+}

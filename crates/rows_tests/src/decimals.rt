@@ -243,3 +243,22 @@ fn decimals_of_other_sizes_in_order_of_bytes(rt: HostRuntime) {
             && are_in_order(alloc, "1", "1000000000")
     );
 }
+
+/// Whether the text of a decimal is put behind what stands there.
+fn is_appended(alloc: Global, text: &str, wanted: &[u8]) -> bool {
+    let Ok(decimal) = Decimal::from_str(alloc, text) else {
+        return false;
+    };
+    let Ok(mut out) = Vec::from_slice(alloc, b"x") else {
+        return false;
+    };
+    decimal.append_text(&mut out).is_ok() && out.as_slice() == wanted
+}
+
+#[test]
+fn texts_appended(rt: HostRuntime) {
+    let alloc = rt.alloc();
+    assert!(rt;
+        is_appended(alloc, "-12.50", b"x-12.50") && is_appended(alloc, "1234567890", b"x1234567890")
+    );
+}

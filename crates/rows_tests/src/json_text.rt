@@ -2,9 +2,9 @@
 
 use crate::devices::Outcome;
 use crate::jsonb::tree;
-use feed_text::put_json;
+use feed_text::{TextBuffer, put_json};
 use linked_list_allocator::LocalHeap;
-use mysql_binlog_rows::{JsonDom, RowsError};
+use mysql_binlog_rows::{CellRef, JsonDom, RowsError};
 use std::alloc::Global;
 
 /// Whether the document has this text.
@@ -16,7 +16,17 @@ fn has_text(alloc: Global, bytes: &[u8], text: &[u8]) -> bool {
     let Ok(()) = put_json(&document, &mut out) else {
         return false;
     };
-    out.as_slice() == text
+    out.as_slice() == text && is_put(alloc, bytes, text)
+}
+
+/// Whether a document has this text as a cell of the column 7, straight from its bytes or by its tree.
+fn is_put(alloc: Global, bytes: &[u8], text: &[u8]) -> bool {
+    let mut out = TextBuffer::new(alloc);
+    let Ok(()) = out.put_cell(alloc, 7, CellRef::Json(bytes)) else {
+        return false;
+    };
+    let all = out.as_slice();
+    all.len() >= 3 && &all[..3] == b" 7=".as_slice() && &all[3..] == text
 }
 
 #[test]
@@ -97,6 +107,56 @@ fn times_and_opaque_values_as_text(rt: HostRuntime) {
     for (bytes, text) in rows {
         assert!(rt; has_text(rt.alloc(), bytes, text));
     }
+}
+
+#[test]
+fn scalars_in_arrays_as_text(rt: HostRuntime) {
+    let rows: [(&[u8], &[u8]); 3] = [
+        (
+            b"\x02\x05\x00\x13\x00\x04\x00\x00\x04\x01\x00\x04\x02\x00\x05\xfe\xff\x06\xfe\xff",
+            b"[null,true,false,-2,u65534]",
+        ),
+        (
+            b"\x02\x02\x00\x12\x00\x07\x0a\x00\x08\x0e\x00\x00\x00\x00\x80\xff\xff\xff\xff",
+            b"[-2147483648,u4294967295]",
+        ),
+        (
+            b"\x02\x03\x00%\x00\x09\x0d\x00\x0a\x15\x00\x0b\x1d\x00\x00\x00\x00\x00\x00\x00\x00\x80\xff\xff\xff\xff\xff\xff\xff\xff\x00\x00\x00\x00\x00\x00\xe0?",
+            b"[-9223372036854775808,u18446744073709551615,d3fe0000000000000]",
+        ),
+    ];
+    for (bytes, text) in rows {
+        assert!(rt; has_text(rt.alloc(), bytes, text));
+    }
+}
+
+// Containers within one another, keys of other lengths, and an opaque value.
+#[test]
+fn members_as_text(rt: HostRuntime) {
+    let rows: [(&[u8], &[u8]); 2] = [
+        (
+            b"\x00\x03\x009\x00\x19\x00\x01\x00\x1a\x00\x01\x00\x1b\x00\x02\x00\x02\x1d\x00\x0c!\x00\x00&\x00abaa\x00\x00\x04\x00\x04it's\x01\x00\x13\x00\x0b\x00\x01\x00\x02\x0c\x00c\x01\x00\x07\x00\x04\x00\x00",
+            br"{'a':[],'aa':{'c':[null]},'b':'it\27s'}",
+        ),
+        (
+            b"\x00\x01\x00\x0f\x00\x0b\x00\x01\x00\x0f\x0c\x00a\xfc\x01b",
+            b"{'a':o252:'b'}",
+        ),
+    ];
+    for (bytes, text) in rows {
+        assert!(rt; has_text(rt.alloc(), bytes, text));
+    }
+}
+
+// Where a key isn't UTF-8 nothing is put.
+#[test]
+fn a_key_that_is_no_text_is_not_put(rt: HostRuntime) -> Result<(), RowsError> {
+    let bytes = b"\x00\x01\x00\x0c\x00\x0b\x00\x01\x00\x04\x00\x00\xff";
+    let mut out = TextBuffer::new(rt.alloc());
+    out.put(b'a')?;
+    let put = out.put_cell(rt.alloc(), 7, CellRef::Json(bytes));
+    assert!(rt; put == Err(RowsError::Jsonb(None)) && out.as_slice() == b"a".as_slice());
+    Ok(())
 }
 
 // Keys stand in a document by their length first, and in its text in the order of their bytes.

@@ -8,6 +8,7 @@ use mysql_binlog_rows::{
     Array, ComplexValue, JsonContainer, JsonDiff, JsonDiffOperation, JsonDom, JsonNumber,
     JsonScalar, JsonbError, JsonbString, JsonbType, LiteralType, Object, ObjectKey, OpaqueValue,
     RowsError, Small, UnknownJsonDiffOperation, UnknownJsonbType, UnknownLiteralType,
+    check_json_diffs, json_diffs,
 };
 use std::alloc::{AllocError, Global};
 use std::borrow::CowSlice;
@@ -394,6 +395,51 @@ fn changes_of_a_document(rt: HostRuntime) -> Result<(), RowsError> {
     assert!(rt; buf.is_empty() && is_replacement(alloc, &diff));
     assert!(rt; owns_replacement(alloc, diff));
     Ok(())
+}
+
+/// Whether the change is at the front of the bytes, with one byte behind it.
+fn is_front(alloc: Global, bytes: &[u8]) -> bool {
+    match JsonDiff::front(bytes) {
+        Ok((diff, rest)) => is_replacement(alloc, &diff) && rest == b"z".as_slice(),
+        Err(_) => false,
+    }
+}
+
+/// Whether the bytes are two changes, each that of `$.a` to 1.
+fn are_two(alloc: Global, bytes: &[u8]) -> bool {
+    match json_diffs(alloc, bytes) {
+        Ok(diffs) => match diffs.as_slice() {
+            [first, second] => is_replacement(alloc, first) && is_replacement(alloc, second),
+            _ => false,
+        },
+        Err(_) => false,
+    }
+}
+
+#[test]
+fn changes_in_their_bytes(rt: HostRuntime) {
+    let alloc = rt.alloc();
+    let two = b"\x00\x03$.a\x03\x05\x01\x00\x00\x03$.a\x03\x05\x01\x00".as_slice();
+    assert!(rt;
+        is_front(alloc, b"\x00\x03$.a\x03\x05\x01\x00z")
+            && are_two(alloc, two)
+            && check_json_diffs(two) == Ok(())
+            && check_json_diffs(&two[..17]) == Err(RowsError::Jsonb(None))
+    );
+}
+
+/// Whether the document is read, and its tree, which is made twice, is the number 2.
+fn is_two(alloc: Global, bytes: &[u8]) -> bool {
+    let two = JsonDom::Scalar(JsonScalar::Number(JsonNumber::Int(2)));
+    match Value::read_document(&mut ParseBuf(bytes)) {
+        Ok(value) => value.tree(alloc) == Ok(two) && value.tree(alloc).is_ok(),
+        Err(_) => false,
+    }
+}
+
+#[test]
+fn tree_of_a_kept_document(rt: HostRuntime) {
+    assert!(rt; is_two(rt.alloc(), b"\x05\x02\x00"));
 }
 
 #[test]

@@ -45,6 +45,8 @@ mod row_events;
 #[cfg(test)]
 mod rows;
 #[cfg(test)]
+mod rows_by_plan;
+#[cfg(test)]
 mod table_maps;
 #[cfg(test)]
 mod text_buffers;

@@ -1,5 +1,6 @@
 //! The optional metadata of table maps: each field, what columns take from them, and hostile bytes.
 
+use crate::devices::is_borrowed_text;
 use mysql_binlog_rows::{
     IterCharset, OptionalMetaExtractor, OptionalMetadataField, OptionalMetadataIter, RowsError,
 };
@@ -402,5 +403,80 @@ fn no_fields(rt: HostRuntime) {
                 && taken.iter_charset().next() == None,
             Err(_) => false,
         }
+    );
+}
+
+/// Whether the field has the character sets 33 and 8, column by column.
+fn charsets(bytes: &[u8]) -> bool {
+    let Some(Ok(OptionalMetadataField::ColumnCharset(charsets))) = field(bytes) else {
+        return false;
+    };
+    let mut charsets = charsets.iter_charsets();
+    charsets.next() == Some(Ok(33)) && charsets.next() == Some(Ok(8)) && charsets.next() == None
+}
+
+/// Whether the field has the character set 33 for all columns but that of index 2, which has 8.
+fn default_charset(bytes: &[u8]) -> bool {
+    let Some(Ok(OptionalMetadataField::DefaultCharset(charsets))) = field(bytes) else {
+        return false;
+    };
+    let mut others = charsets.iter_non_default();
+    let first = match others.next() {
+        Some(Ok(other)) => other.column_index() == 2 && other.charset() == 8,
+        _ => false,
+    };
+    charsets.default_charset() == 33 && first && others.next().is_none()
+}
+
+/// Whether the field has the columns 1 and 0 for the primary key.
+fn key_indexes(bytes: &[u8]) -> bool {
+    let Some(Ok(OptionalMetadataField::SimplePrimaryKey(key))) = field(bytes) else {
+        return false;
+    };
+    let mut indexes = key.iter_indexes();
+    indexes.next() == Some(Ok(1)) && indexes.next() == Some(Ok(0)) && indexes.next() == None
+}
+
+/// Whether the field has one name, `id`.
+fn name(alloc: Global, bytes: &[u8]) -> bool {
+    let Some(Ok(OptionalMetadataField::ColumnName(names))) = field(bytes) else {
+        return false;
+    };
+    let mut names = names.iter_names();
+    let first = match names.next() {
+        Some(Ok(name)) => is_borrowed_text(name.name(alloc), "id"),
+        _ => false,
+    };
+    first && names.next().is_none()
+}
+
+#[test]
+fn lists_of_fields(rt: HostRuntime) {
+    assert!(rt;
+        charsets(b"\x03\x02\x21\x08")
+            && default_charset(b"\x02\x03\x21\x02\x08")
+            && key_indexes(b"\x08\x02\x01\x00")
+            && name(rt.alloc(), b"\x04\x03\x02id")
+    );
+}
+
+/// Whether two fields are equal.
+fn are_equal(first: &[u8], second: &[u8]) -> bool {
+    match (field(first), field(second)) {
+        (Some(Ok(first)), Some(Ok(second))) => first == second,
+        _ => false,
+    }
+}
+
+// The bits of two numeric columns; bits behind them say nothing. A key over whole columns and one over prefixes.
+#[test]
+fn equal_fields(rt: HostRuntime) {
+    assert!(rt;
+        are_equal(b"\x01\x01\x40", b"\x01\x01\x7f")
+            && !are_equal(b"\x01\x01\x40", b"\x01\x01\x80")
+            && are_equal(b"\x02\x03\x21\x02\x08", b"\x02\x03\x21\x02\x08")
+            && !are_equal(b"\x02\x03\x21\x02\x08", b"\x02\x03\x21\x02\x09")
+            && are_equal(b"\x08\x02\x01\x00", b"\x08\x02\x01\x00")
+            && !are_equal(b"\x08\x02\x01\x00", b"\x09\x02\x01\x00")
     );
 }

@@ -59,28 +59,47 @@ fn zeros(rt: HostRuntime) {
     assert!(rt; is_shown(alloc, packed, "0.5"));
 }
 
-/// Whether reading the bytes is refused with this fault.
-fn refuses(alloc: Global, bytes: &[u8], precision: usize, wanted: RowsError) -> bool {
+/// Whether reading the bytes as a decimal of so many digits is refused with this fault, and these bytes are left.
+fn refuses(
+    alloc: Global,
+    bytes: &[u8],
+    precision: usize,
+    scale: usize,
+    wanted: RowsError,
+    left: &[u8],
+) -> bool {
     let mut input = bytes;
-    is_refused(
-        Decimal::read_bin(alloc, &mut input, precision, 0, false),
-        wanted,
-    )
+    let read = Decimal::read_bin(alloc, &mut input, precision, scale, false);
+    is_refused(read, wanted) && input == left
+}
+
+// A group of digits out of range is taken, and nothing where there are more digits after the point than in all.
+#[test]
+fn decimal_refusals(rt: HostRuntime) {
+    let alloc = rt.alloc();
+    assert!(rt;
+        refuses(alloc, b"\xe4", 2, 0, RowsError::Decimal, b"")
+            && refuses(alloc, b"", 2, 3, RowsError::Decimal, b"")
+            && refuses(alloc, b"\x80\x00", 2, 3, RowsError::Decimal, b"\x80\x00")
+            && refuses(
+                alloc,
+                b"\xe4\xff\xff",
+                2,
+                3,
+                RowsError::Decimal,
+                b"\xe4\xff\xff"
+            )
+    );
 }
 
 #[test]
 fn readers_that_refuse(rt: HostRuntime) {
     let alloc = rt.alloc();
-    assert!(rt;
-        refuses(alloc, b"\xe4", 2, RowsError::Decimal)
-            && refuses(alloc, b"\x80", 4, RowsError::EndOfBody)
-    );
     let read = Decimal::read_bin(alloc, &mut FailingReader, 4, 0, false);
-    assert!(rt; is_refused(read, RowsError::Read));
-    // nothing is taken where there are more digits after the point than in all
-    let mut any = b"\x80\x00".as_slice();
-    let read = Decimal::read_bin(alloc, &mut any, 2, 3, false);
-    assert!(rt; is_refused(read, RowsError::Decimal) && any == b"\x80\x00".as_slice());
+    assert!(rt;
+        is_refused(read, RowsError::Read)
+            && refuses(alloc, b"\x80", 4, 0, RowsError::EndOfBody, b"")
+    );
 }
 
 /// Whether the slice packs no decimal.

@@ -1,6 +1,7 @@
 //! Table maps: read and written, and their columns.
 
-use mysql_binlog_rows::{BadColumnType, OptionalMetadataField, TableMapEvent};
+use crate::devices::is_borrowed_text;
+use mysql_binlog_rows::{BadColumnType, OptionalMetadataField, TableId, TableMapEvent};
 use std::alloc::Global;
 use wire_buf::{MyDeserialize, MySerialize, ParseBuf, WireFault};
 use wire_consts::{ColumnType, UnknownColumnType};
@@ -287,4 +288,40 @@ fn optional_metadata_of_a_map(rt: HostRuntime) {
             b"\x07\0\0\0\0\0\x01\0\x01d\0\x01t\0\x02\x03\x0f\x02\x0a\x00\x02\x01\x01\x80\x04\x04\x01a\x01b"
         )
     );
+}
+
+/// Whether the names are these texts, the second with a replacement character.
+fn has_texts(alloc: Global, bytes: &[u8]) -> bool {
+    match table_map(alloc, bytes) {
+        Ok(map) => {
+            is_borrowed_text(map.database_name(alloc), "d")
+                && is_borrowed_text(map.table_name(alloc), "\u{fffd}")
+        }
+        Err(_) => false,
+    }
+}
+
+#[test]
+fn names_as_texts(rt: HostRuntime) {
+    assert!(rt;
+        has_texts(
+            rt.alloc(),
+            b"\x07\0\0\0\0\0\x01\0\x01d\0\x01\xff\0\x01\x03\0\0"
+        )
+    );
+}
+
+/// Whether the id is at the front by this post-header length, with so many bytes behind it.
+fn is_id(alloc: Global, post_header: usize, id: u64, left: usize) -> bool {
+    let mut buf = ParseBuf(b"\xff\xff\xff\xff\x01\0z");
+    match buf.parse::<TableId>(alloc, post_header) {
+        Ok(table) => table == TableId(id) && buf.len() == left,
+        Err(_) => false,
+    }
+}
+
+#[test]
+fn table_ids(rt: HostRuntime) {
+    let alloc = rt.alloc();
+    assert!(rt; is_id(alloc, 6, 4_294_967_295, 3) && is_id(alloc, 8, 8_589_934_591, 1));
 }

@@ -1,5 +1,5 @@
 -- Bits that stand in bytes: null bits, the bits of columns and of signs.
-use Rattle.std.specs.Prelude.{◌≡◌, ℕ, zero, suc, ◌+◌, ◌-◌, ◌/◌, ◌%◌, ◌^◌, Bool, List, slice_index, Option, Some, None, nat_lt, ◌==◌, if◌then◌else◌}
+use Rattle.std.specs.Prelude.{◌≡◌, ℕ, zero, suc, ◌+◌, ◌-◌, ◌/◌, ◌%◌, ◌^◌, Bool, List, [], ◌∷◌, slice_index, Option, Some, None, nat_lt, ◌==◌, if◌then◌else◌}
 use Rattle.rows_values.specs.declared.bits.Bits.{Bits}
 use Rattle.rows_values.specs.declared.bits.BitsIter.{BitsIter}
 
@@ -20,6 +20,15 @@ len_of b = b.len
 -- bit i, where there is one
 abbrev pub bit_at : Bits → ℕ → Option Bool
 bit_at b i = if nat_lt i (len_of b) then Some (bit_of b i) else None
+
+-- n bits, from the bit of index k on
+unfoldable pub list_from : (ℕ → Bool) → ℕ → ℕ → List Bool
+list_from bit k zero = []
+list_from bit k (suc n) = bit k ∷ list_from bit (k + 1) n
+
+-- the bits, in order
+abbrev pub list_of : Bits → List Bool
+list_of b = list_from (bit_of b) 0 (len_of b)
 
 -- how many of the first n are set
 abbrev pub count_below : (ℕ → Bool) → ℕ → ℕ

@@ -112,6 +112,38 @@ impl<'a> Bits<'a> {
     }
 }
 
+/// Two are equal where they have the same bits in the same order, however these stand in bytes.
+impl PartialEq for Bits<'_> {
+    ghost use Rattle.std.specs.Bool.{beq};
+    ghost use Rattle.std.specs.Cmp.{bool_eq_equiv, on_per, partial_equiv_from_equiv};
+    ghost use Rattle.std.specs.Cmp.Lexicographic.{lists_equiv, pointwise};
+    ghost use Rattle.rows_values.specs.BitLists.{list_of};
+
+    ghost eq = { λ a b. pointwise beq (list_of a) (list_of b) };
+
+    ghost laws = { on_per list_of (partial_equiv_from_equiv (lists_equiv bool_eq_equiv)) };
+
+    fn eq(&self, other: &Bits<'_>) -> bool {
+        if self.len != other.len {
+            return false;
+        }
+        for index in 0..self.len {
+            if self.get(index) != other.get(index) {
+                return false;
+            }
+        }
+        true
+    }
+}
+
+impl Eq for Bits<'_> {
+    ghost use Rattle.std.specs.Cmp.{bool_eq_equiv, on_equiv};
+    ghost use Rattle.std.specs.Cmp.Lexicographic.{lists_equiv};
+    ghost use Rattle.rows_values.specs.BitLists.{list_of};
+
+    ghost laws = { on_equiv list_of (lists_equiv bool_eq_equiv) };
+}
+
 /// The bits of [`Bits`] in order.
 #[derive(Clone, Copy)]
 pub struct BitsIter<'a> {

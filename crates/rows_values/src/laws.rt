@@ -1,7 +1,7 @@
 //! Laws of the values, and worked values. Each is a function that does nothing, whose contract is the law.
 
 ghost use Rattle.std.specs.Prelude.{◌≡◌, ◌↔◌, ◌≤◌, ◌<◌, ◌-◌, ◌*◌, ◌^◌, ◌⊎◌, ◌-ℤ◌, ◌+ℤ◌, ◌*ℤ◌, ℕ, List, ◌∷◌, [], drop, pos, neg_ℤ, Some, None, true, false, map, codes};
-ghost use Rattle.rows_values.specs.BitLists.{lowest_bit, highest_bit};
+ghost use Rattle.rows_values.specs.BitLists.{lowest_bit, highest_bit, list_of};
 ghost use Rattle.rows_values.specs.PackedTimes.{packed_time, fraction_len, time2, datetime2};
 ghost use Rattle.rows_values.specs.TimeFields.{span_fields, date_fields};
 ghost use Rattle.rows_values.specs.TimePlaces.{span_number, span_time, date_number, date_time};
@@ -12,12 +12,14 @@ ghost use Rattle.rows_values.specs.Values.{SameValue, span_value, date_value};
 ghost use Rattle.rows_values.specs.Columns.{parts_of};
 ghost use Rattle.rows_values.specs.Rows.{values_of, columns_of, SameCell};
 ghost use Rattle.std.specs.List.{AllZip};
+ghost use Rattle.rows_values.specs.contracts.bits.BitsPartialEq.TheImpl.{ghosts as bits_equality};
 ghost use Rattle.rows_values.specs.contracts.rows.value.ValuePartialEq.TheImpl.{ghosts as value_equality};
 ghost use Rattle.rows_values.specs.contracts.rows.column.ColumnPartialEq.TheImpl.{ghosts as column_equality};
 ghost use Rattle.rows_values.specs.contracts.rows.row.RowPartialEq.TheImpl.{ghosts as row_equality};
 ghost use Rattle.rows_values.specs.contracts.times.mysql_time.MysqlTimePartialEq.TheImpl.{ghosts as time_equality};
 ghost use Rattle.rows_values.specs.declared.rows.value.Value.TheVariants.{Date, Time};
 
+use crate::bits::Bits;
 use crate::rows::{Column, Row, Value};
 use crate::times::{MysqlTime, MysqlTimestampType};
 
@@ -30,6 +32,11 @@ pub fn equal_values_are_the_same()
 pub fn equal_columns_and_times_are_the_same()
     ensures columns { (a b : Column) → (column_equality.eq a b ≡ true) ↔ (parts_of a ≡ parts_of b) }
     ensures times { (a b : MysqlTime) → (time_equality.eq a b ≡ true) ↔ (a ≡ b) }
+{}
+
+/// Bits are equal by `==` exactly where the same bits stand in the same order.
+pub fn equal_bits_are_the_same()
+    ensures { (a b : Bits) → (bits_equality.eq a b ≡ true) ↔ (list_of a ≡ list_of b) }
 {}
 
 /// Rows are equal by `==` exactly where their values are the same, one by one, and their columns have

@@ -8,8 +8,9 @@ use std::alloc::Allocator;
 use std::io::{ErrorKind, Read};
 use wire_buf::WireFault;
 
-/// How many bytes are asked of a reader at once, where it isn't known that they come: 64 KiB.
-const PIECE: u64 = 0x1_0000;
+/// How many bytes are asked of a reader at once by a buffer that has no room for more, where it isn't known that they
+/// come: 4 KiB.
+const PIECE: usize = 0x1000;
 
 /// How many reads a call makes at most: a device that is interrupted 2^63 - 1 times has failed.
 pub const MAX_READS: u64 = 0x7fff_ffff_ffff_ffff;
@@ -26,8 +27,8 @@ pub fn read_exact<R: Read>(reader: &mut R, buf: &mut [u8]) -> Result<(), WireFau
     fill(reader, buf, 0).1
 }
 
-/// Appends the reader's next `n` bytes to `out`, which grows with the bytes that come and never by the count alone: by
-/// at most 64 KiB before the next bytes are read.
+/// Appends the reader's next `n` bytes to `out`, which grows with the bytes that come and never by the count alone: the
+/// room that it has is filled before it grows, and then by 4 KiB or, as a `Vec` grows, to twice its capacity.
 ///
 /// The refusals are those of [`read_exact`], and `Memory` for want of memory. The bytes that were taken are appended,
 /// also where fewer than `n` came.
@@ -45,7 +46,8 @@ pub fn read_more<R: Read, A: Allocator>(
     let mut left = n;
     while left > 0 {
         let start = out.len();
-        let room = left.min(PIECE);
+        let spare = out.capacity() - start;
+        let room = left.min(spare.max(PIECE) as u64);
         let end = start.checked_add(room as usize).ok_or(WireFault::Memory)?;
         out.resize(end, 0)?;
         let (filled, outcome) = fill(reader, out.as_mut_slice(), start);

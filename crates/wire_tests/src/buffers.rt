@@ -1,7 +1,7 @@
 //! Bytes taken from a buffer, beside what the contracts say of them.
 
 use crate::helpers::size_agrees;
-use mysql_wire::{AnySize, FixedSize, MySerialize, ParseBuf, WireFault, WireSize};
+use mysql_wire::{AnySize, FixedSize, MySerialize, ParseBuf, WireFault, WireSize, whole_or_none};
 use std::io::Read;
 
 #[test]
@@ -119,5 +119,17 @@ fn buffer_as_a_reader(rt: HostRuntime) {
     let part: &mut [u8] = &mut two;
     assert!(rt;
         buf.read(part).ok() == Some(2) && two == *b"ab" && buf.eat_all() == b"c".as_slice()
+    );
+}
+
+#[test]
+fn refused_writes_taken_back(rt: HostRuntime) {
+    let mut buf = Vec::new(rt.alloc());
+    assert!(rt;
+        buf.extend_from_slice(b"abc").is_ok()
+            && whole_or_none(Ok(()), 1, &mut buf) == Ok(())
+            && buf.as_slice() == b"abc".as_slice()
+            && whole_or_none(Err(WireFault::Form), 1, &mut buf) == Err(WireFault::Form)
+            && buf.as_slice() == b"a".as_slice()
     );
 }

@@ -15,6 +15,8 @@ mod helpers;
 #[cfg(test)]
 mod laws_hold;
 #[cfg(test)]
+mod memory;
+#[cfg(test)]
 mod numbers;
 #[cfg(test)]
 mod packets;

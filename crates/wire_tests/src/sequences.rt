@@ -216,3 +216,22 @@ fn sizes_of_sequences(rt: HostRuntime) {
             && <Unknown as SeqRepr>::MAX_LEN == usize::MAX
     );
 }
+
+// The counts of sequences alone: in one byte, in two, and where the reader knows it.
+#[test]
+fn counts_of_sequences(rt: HostRuntime) {
+    let alloc = rt.alloc();
+    let (mut small, mut none) = (Vec::new(alloc), Vec::new(alloc));
+    let mut buf = ParseBuf(b"\x07\x01\x02z");
+    assert!(rt;
+        <u8 as SeqRepr>::write_count(7, &mut small) == Ok(())
+            && <LeU16 as SeqRepr>::write_count(513, &mut small) == Ok(())
+            && small.as_slice() == b"\x07\x01\x02".as_slice()
+            && Unknown::write_count(7, &mut none) == Ok(())
+            && none.is_empty()
+            && <u8 as SeqRepr>::read_count((), &mut buf) == Ok(7)
+            && <LeU16 as SeqRepr>::read_count((), &mut buf) == Ok(513)
+            && Unknown::read_count(7, &mut buf) == Ok(7)
+            && buf.0 == b"z".as_slice()
+    );
+}

@@ -243,6 +243,6 @@ fn memory_grows_with_the_bytes_that_come(rt: HostRuntime) {
     assert!(rt;
         read_more(&mut b"ab".as_slice(), u64::MAX, &mut more) == Err(WireFault::Eof)
             && more.as_slice() == b"ab".as_slice()
-            && more.capacity() <= 0x2_0000
+            && more.capacity() <= 8_192
     );
 }

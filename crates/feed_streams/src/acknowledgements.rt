@@ -1,0 +1,69 @@
+//! Acknowledgements of a semi-synchronous source's events.
+
+ghost use Rattle.std.specs.Prelude.{◌≡◌, ◌++◌, ◌≤◌, ◌+◌, List, ℕ, [], ◌∷◌, OnOk, OnErr, length};
+ghost use Rattle.std.specs.Int.{w64, to_le_bytes};
+ghost use Rattle.wire_packets.specs.Framing.{longest, chunk, framing};
+ghost use Rattle.feed_rules.specs.Events.{log_pos_of};
+ghost use Rattle.feed_reports.specs.Events.{joined};
+ghost use Rattle.feed_streams.specs.Acknowledgements.{asked_by};
+ghost use Rattle.feed_streams.specs.Streams.{Plain, event_in};
+
+use crate::form::{PayloadForm, asks};
+use crate::requests::LogName;
+use std::alloc::AllocError;
+
+/// The first byte of an acknowledgement.
+const ACK: u8 = 0xef;
+
+/// How long the header of a packet is, and an acknowledgement without its name, in bytes.
+const HEADER_LEN: usize = 4;
+
+const ACK_LEN: usize = 9;
+
+/// The header of a packet with the number 0 and a payload of this length, in one chunk.
+fn header(len: usize) -> [u8; 4]
+    requires { len ≤ longest }
+    ensures { (bytes : List ℕ) → length bytes ≡ len → result ++ bytes ≡ chunk 0 bytes }
+{
+    let len = (len as u32).to_le_bytes();
+    [len[0], len[1], len[2], 0]
+}
+
+/// Appends the packet that acknowledges the event behind which `position` is. A refusal changes nothing.
+#[tactic(auto, using(crate::proofs::AcknowledgementLemmas::packet_is))]
+fn put_acknowledgement(
+    position: u32,
+    name: &LogName,
+    waiting: &mut Vec<u8>,
+) -> Result<(), AllocError>
+    ensures ok { OnOk result (waiting.new.items ≡ waiting.old.items ++ framing 0 (239 ∷ to_le_bytes w64 position ++ name.now.bytes.items)) }
+    ensures err { OnErr result (waiting.new.items ≡ waiting.old.items) }
+{
+    let name = name.as_slice();
+    let len = ACK_LEN + name.len();
+    waiting.reserve(HEADER_LEN + len)?;
+    waiting.extend_from_slice(&header(len))?;
+    waiting.extend_from_slice(&[ACK])?;
+    waiting.extend_from_slice(&(position as u64).to_le_bytes())?;
+    waiting.extend_from_slice(name)
+}
+
+/// Appends the acknowledgement of a payload's event, behind which `position` is, where the payload asks for one. A refusal
+/// changes nothing.
+pub(crate) fn put_asked(
+    form: PayloadForm,
+    payload: &[u8],
+    position: u32,
+    name: &LogName,
+    waiting: &mut Vec<u8>,
+) -> Result<(), AllocError>
+    requires { position ≡ log_pos_of (event_in form payload.now) }
+    ensures ok { OnOk result (waiting.new.items ≡ waiting.old.items ++ joined (asked_by form name.now.bytes.items (payload.now ∷ []))) }
+    ensures err { OnErr result (waiting.new.items ≡ waiting.old.items) }
+    ensures plain { form ≡ Plain → waiting.new.items ≡ waiting.old.items }
+{
+    if !asks(form, payload) {
+        return Ok(());
+    }
+    put_acknowledgement(position, name, waiting)
+}

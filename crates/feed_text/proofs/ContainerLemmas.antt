@@ -1,0 +1,299 @@
+-- The items and the members of a container, as they are written one after the other.
+use Rattle.std.proofs.Common.{◌≡◌, ◌<◌, ◌≤◌, ◌+◌, ◌-◌, ℕ, suc, Bool, true, false, List, [], ◌∷◌, ◌++◌, Ok, Err, refl, sym, ap, ap₂, subst, ◌∙◌, append_assoc, arith}
+use Rattle.std.proofs.lemmas.List.{append-nil}
+use Rattle.std.specs.List.{join_with_byte}
+use Rattle.std.specs.Str.{is_utf8}
+use Rattle.rows_jsonb.specs.JsonTrees.{Tree, array, object, Items, no_items, item, Members, no_members}
+use Rattle.rows_jsonb.specs.JsonbValues.{JsonbValue, Reading, ◌>>=◌, elem_in, key_of, count_in, is_array_in, is_object_in}
+use Rattle.rows_jsonb.specs.DocumentTrees.{Counted, items, members, tree_of, utf8}
+use Rattle.rows_jsonb.proofs.Building.{array_tree, object_tree, behind_members, none_behind_members, members_turn, members_end}
+use Rattle.feed_writers.specs.Quoting.{quoted}
+use Rattle.feed_text.specs.JsonText.{document_text, item_texts}
+use Rattle.feed_text.specs.KeyOrder.{AreInOrder, read_key}
+use Rattle.feed_text.specs.DirectText.{separator, WritesTree, WritesItems, WritesMembers, WritesMember, IsMember}
+use Rattle.feed_text.proofs.DocumentLemmas.{member_written}
+use Rattle.feed_text.proofs.OrderLemmas.{AllOf, all_push, all_numbers, along, count_all, count_push, count_insert, put_along, member_text, texts_along, texts_push, member_texts-along}
+
+-- ---- texts with commas between them
+
+-- whether there is none yet
+abbrev pub TellsNone : Bool → List (List ℕ) → Type 0
+TellsNone true texts = texts ≡ []
+TellsNone false [] = ⊥
+TellsNone false (t ∷ ts) = Unit {0}
+
+joined_more : (xs : List (List ℕ)) (y x : List ℕ) → join_with_byte 44 (y ∷ xs) ++ (44 ∷ x) ≡ join_with_byte 44 ((y ∷ xs) ++ x ∷ [])
+joined_more [] y x = refl
+joined_more (z ∷ xs) y x = append_assoc y (44 ∷ join_with_byte 44 (z ∷ xs)) (44 ∷ x) ∙ ap (λ (t : List ℕ). y ++ (44 ∷ t)) (joined_more xs z x)
+
+joined : (b : Bool) (xs : List (List ℕ)) (x : List ℕ) → TellsNone b xs → join_with_byte 44 xs ++ (separator b ++ x) ≡ join_with_byte 44 (xs ++ x ∷ [])
+joined true xs x h = rw h refl
+joined false [] x h = absurd h
+joined false (y ∷ xs) x h = joined_more xs y x
+
+pub some_told : (xs : List (List ℕ)) (x : List ℕ) → TellsNone false (xs ++ x ∷ [])
+some_told [] x = tt
+some_told (y ∷ xs) x = tt
+
+-- one text more, behind a separator
+pub text_more : (b : Bool) (xs : List (List ℕ)) (x base out separated new : List ℕ) → TellsNone b xs → out ≡ base ++ join_with_byte 44 xs → separated ≡ out ++ separator b → new ≡ separated ++ x
+    → new ≡ base ++ join_with_byte 44 (xs ++ x ∷ [])
+text_more b xs x base out separated new none is first last =
+    last ∙ ap (λ (t : List ℕ). t ++ x) (first ∙ ap (λ (t : List ℕ). t ++ separator b) is)
+    ∙ append_assoc (base ++ join_with_byte 44 xs) (separator b) x
+    ∙ append_assoc base (join_with_byte 44 xs) (separator b ++ x)
+    ∙ ap (λ (t : List ℕ). base ++ t) (joined b xs x none)
+
+-- ---- arrays
+
+abbrev pub items_before : List Tree → Items → Items
+items_before [] rest = rest
+items_before (t ∷ ts) rest = item t (items_before ts rest)
+
+abbrev items_behind : List Tree → ℕ → Counted Items → Reading (Counted Items)
+items_behind ts used x = Ok (items_before ts x.0, used + x.1)
+
+abbrev pub behind_items : List Tree → ℕ → Reading (Counted Items) → Reading (Counted Items)
+behind_items ts used found = found >>= items_behind ts used
+
+abbrev pub texts_of : List Tree → List (List ℕ)
+texts_of [] = []
+texts_of (t ∷ ts) = document_text t ∷ texts_of ts
+
+texts_of-push : (ts : List Tree) (t : Tree) → texts_of (ts ++ t ∷ []) ≡ texts_of ts ++ document_text t ∷ []
+texts_of-push [] t = refl
+texts_of-push (s ∷ ts) t = ap (λ (l : List (List ℕ)). document_text s ∷ l) (texts_of-push ts t)
+
+item_texts-before : (ts : List Tree) → item_texts (items_before ts no_items) ≡ texts_of ts
+unfolding document_text item_texts
+item_texts-before [] = refl
+item_texts-before (t ∷ ts) = ap (λ (l : List (List ℕ)). document_text t ∷ l) (item_texts-before ts)
+
+before_push : (ts : List Tree) (t : Tree) (rest : Items) → items_before ts (item t rest) ≡ items_before (ts ++ t ∷ []) rest
+before_push [] t rest = refl
+before_push (s ∷ ts) t rest = ap (item s) (before_push ts t rest)
+
+none_behind : (found : Reading (Counted Items)) → found ≡ behind_items [] 0 found
+none_behind (Ok x) = ap (λ n. Ok (x.0, n)) (omega arith)
+none_behind (Err e) = refl
+
+abbrev with_item : Reading (Counted Items) → Counted Tree → Reading (Counted Items)
+with_item rest t = rest >>= (λ more. Ok (item t.0 more.0, t.1 + more.1))
+
+behind_push : (ts : List Tree) (t : Tree) (used n : ℕ) (rest : Reading (Counted Items)) → behind_items ts used (with_item rest (t, n)) ≡ behind_items (ts ++ t ∷ []) (used + n) rest
+behind_push ts t used n (Ok x) = ap₂ (λ a b. Ok (a, b)) (before_push ts t x.0) (omega arith)
+behind_push ts t used n (Err e) = refl
+
+-- some items of an array are written
+pub record ItemsSoFar (depth : ℕ) (value : JsonbValue) (pos budget left : ℕ) (base out : List ℕ) (is_first : Bool) : Type 0 where
+  pub done : List Tree
+  pub used : ℕ
+  pub is : items (tree_of depth) (elem_in value) 0 (count_in value) ≡ behind_items done used (items (tree_of depth) (elem_in value) pos (count_in value - pos))
+  pub taken : used + left ≡ budget
+  pub text : out ≡ base ++ join_with_byte 44 (texts_of done)
+  pub none : TellsNone is_first (texts_of done)
+
+pub no_items_yet : (depth : ℕ) (value : JsonbValue) (budget : ℕ) (base out : List ℕ) → out ≡ base → ItemsSoFar depth value 0 budget budget base out true
+no_items_yet depth value budget base out is =
+    let all = items (tree_of depth) (elem_in value) 0 (count_in value) in
+    let whole : count_in value ≡ count_in value - 0 = omega arith in record {
+      done = [];
+      used = 0;
+      is = none_behind all ∙ ap (λ (k : ℕ). behind_items [] 0 (items (tree_of depth) (elem_in value) 0 k)) whole;
+      taken = omega arith;
+      text = is ∙ sym (append-nil base);
+      none = refl;
+    }
+
+pub one_item_more : (depth : ℕ) (value seen : JsonbValue) (pos budget mid left : ℕ) (base out separated new : List ℕ) (is_first : Bool) → pos < count_in value → elem_in value pos ≡ Ok seen
+    → ItemsSoFar depth value pos budget mid base out is_first → separated ≡ out ++ separator is_first → WritesTree depth seen mid left separated new → ItemsSoFar depth value (pos + 1) budget left base new false
+one_item_more depth value seen pos budget mid left base out separated new is_first below here so first one =
+    let below_it = tree_of depth in
+    let at = elem_in value in
+    let more : count_in value - pos ≡ suc (count_in value - (pos + 1)) = omega (arith, below) in
+    let rest = items below_it at (pos + 1) (count_in value - (pos + 1)) in
+    let pushed = texts_of-push so.done one.tree in
+    let tree = one.is in
+    let step : behind_items so.done so.used (items below_it at pos (count_in value - pos)) ≡ behind_items (so.done ++ one.tree ∷ []) (so.used + one.count) rest = rw (more, here, tree) (behind_push so.done one.tree so.used one.count rest) in record {
+      done = so.done ++ one.tree ∷ [];
+      used = so.used + one.count;
+      is = so.is ∙ step;
+      taken = omega (arith, so.taken, one.taken);
+      text = text_more is_first (texts_of so.done) (document_text one.tree) base out separated new so.none so.text first one.text ∙ ap (λ (l : List (List ℕ)). base ++ join_with_byte 44 l) (sym pushed);
+      none = subst (TellsNone false) (sym pushed) (some_told (texts_of so.done) (document_text one.tree));
+    }
+
+pub all_items : (depth : ℕ) (value : JsonbValue) (pos budget left : ℕ) (old begun out new : List ℕ) (is_first : Bool) → count_in value ≤ pos → begun ≡ old ++ 91 ∷ [] → ItemsSoFar depth value pos budget left begun out is_first → new ≡ out ++ 93 ∷ []
+    → WritesItems depth value budget left old new
+all_items depth value pos budget left old begun out new is_first end begins so ends =
+    let none : count_in value - pos ≡ 0 = omega (arith, end) in
+    let texts = item_texts-before so.done in record {
+      found = items_before so.done no_items;
+      count = so.used;
+      is = so.is ∙ ap (λ (k : ℕ). behind_items so.done so.used (items (tree_of depth) (elem_in value) pos k)) none ∙ ap (λ (n : ℕ). Ok (items_before so.done no_items, n)) (omega arith);
+      taken = so.taken;
+      text =
+          ends ∙ ap (λ (t : List ℕ). t ++ 93 ∷ []) (so.text ∙ ap (λ (t : List ℕ). t ++ join_with_byte 44 (texts_of so.done)) begins)
+          ∙ append_assoc (old ++ 91 ∷ []) (join_with_byte 44 (texts_of so.done)) (93 ∷ [])
+          ∙ append_assoc old (91 ∷ []) (join_with_byte 44 (texts_of so.done) ++ 93 ∷ [])
+          ∙ ap (λ (l : List (List ℕ)). old ++ (91 ∷ (join_with_byte 44 l ++ 93 ∷ []))) (sym texts);
+    }
+
+pub array_written : (depth d : ℕ) (value : JsonbValue) (budget mid left : ℕ) (old new : List ℕ) → depth ≡ suc d → is_array_in value ≡ true → mid + 1 ≡ budget → WritesItems d value mid left old new → WritesTree depth value budget left old new
+unfolding document_text
+array_written depth d value budget mid left old new deep is_array one w =
+    let found = w.is in record {
+      tree = array w.found;
+      count = w.count + 1;
+      is = array_tree depth d value deep is_array ∙ rw found refl;
+      taken = omega (arith, one, w.taken);
+      text = w.text;
+    }
+
+-- ---- objects
+
+abbrev pub read_tree : Reading (Counted Tree) → Tree
+read_tree (Ok t) = t.0
+read_tree (Err e) = array no_items
+
+abbrev pub read_count : Reading (Counted Tree) → ℕ
+read_count (Ok t) = t.1
+read_count (Err e) = 0
+
+abbrev pub keys_of : JsonbValue → ℕ → List ℕ
+keys_of value p = read_key (key_of value p)
+
+abbrev pub trees_of : ℕ → JsonbValue → ℕ → Tree
+trees_of depth value p = read_tree (elem_in value p >>= tree_of depth)
+
+abbrev pub counts_of : ℕ → JsonbValue → ℕ → ℕ
+counts_of depth value p = read_count (elem_in value p >>= tree_of depth)
+
+-- a member is there
+abbrev pub IsThere : ℕ → JsonbValue → ℕ → Type 0
+IsThere depth value p = IsMember depth value p (keys_of value p) (trees_of depth value p) (counts_of depth value p)
+
+same_key : (value : JsonbValue) (p : ℕ) (k : List ℕ) → key_of value p ≡ Ok k → k ≡ keys_of value p
+same_key value p k h = sym (ap read_key h)
+
+same_found : (depth : ℕ) (value seen : JsonbValue) (p : ℕ) (t : Counted Tree) → elem_in value p ≡ Ok seen → tree_of depth seen ≡ Ok t → (elem_in value p >>= tree_of depth) ≡ Ok t
+same_found depth value seen p t here tree = rw here tree
+
+same_tree : (depth : ℕ) (value seen : JsonbValue) (p : ℕ) (t : Counted Tree) → elem_in value p ≡ Ok seen → tree_of depth seen ≡ Ok t → (t.0 ≡ trees_of depth value p) × (t.1 ≡ counts_of depth value p)
+same_tree depth value seen p t here tree = let e = same_found depth value seen p t here tree in (sym (ap read_tree e), sym (ap read_count e))
+
+there : (depth : ℕ) (value : JsonbValue) (p : ℕ) (k : List ℕ) (t : Tree) (n : ℕ) → IsMember depth value p k t n → IsThere depth value p
+there depth value p k t n m =
+    let key = same_key value p k m.key_is in
+    let same = same_tree depth value m.seen p (t, n) m.seen_is m.is in record {
+      seen = m.seen;
+      key_is = m.key_is ∙ ap (λ (s : List ℕ). Ok s) key;
+      is_text = subst (λ (s : List ℕ). is_utf8 s ≡ true) key m.is_text;
+      seen_is = m.seen_is;
+      is = m.is ∙ ap₂ (λ (a : Tree) (b : ℕ). Ok (a, b)) same.0 same.1;
+    }
+
+utf8_found : (s : List ℕ) → is_utf8 s ≡ true → utf8 s ≡ Ok s
+utf8_found s h = rw h refl
+
+module _ (depth : ℕ) (value : JsonbValue) where
+  -- the members that are in order are those that the definition finds, up to the same place
+  members_so_far : (n : ℕ) (order : List ℕ) → AreInOrder (keys_of value) n order → ((p : ℕ) → p < n → IsThere depth value p) → (k : ℕ)
+      → members (tree_of depth) (key_of value) (elem_in value) 0 (n + k) no_members
+      ≡ behind_members (count_all (keys_of value) (trees_of depth value) (counts_of depth value) order) (members (tree_of depth) (key_of value) (elem_in value) n k (along (keys_of value) (trees_of depth value) (counts_of depth value) order))
+  members_so_far _ _ AreInOrder.none all k =
+      let e : 0 + k ≡ k = omega arith in
+      ap (λ (j : ℕ). members (tree_of depth) (key_of value) (elem_in value) 0 j no_members) e ∙ none_behind_members (members (tree_of depth) (key_of value) (elem_in value) 0 k no_members)
+  members_so_far _ _ (AreInOrder.more n before after order first last) all k =
+      let below = tree_of depth in
+      let keys = keys_of value in
+      let trees = trees_of depth value in
+      let counts = counts_of depth value in
+      let found = members below (key_of value) (elem_in value) in
+      let m = all n (omega arith) in
+      let fewer : (p : ℕ) → p < n → IsThere depth value p = λ p h. all p (omega (arith, h)) in
+      let e : (n + 1) + k ≡ n + suc k = omega arith in
+      ap (λ (j : ℕ). found 0 j no_members) e
+      ∙ members_so_far n (before ++ after) order fewer (suc k)
+      ∙ members_turn below (key_of value) (elem_in value) (along keys trees counts (before ++ after)) (trees n) (keys n) (keys n) (count_all keys trees counts (before ++ after)) (counts n) n (suc k) k m.seen refl m.key_is m.seen_is (utf8_found (keys n) m.is_text) m.is
+      ∙ ap₂ (λ (c : ℕ) (ms : Members). behind_members c (found (n + 1) k ms)) (count_insert keys trees counts before after n) (put_along keys trees counts before after n first last)
+
+  pub members_are : (n : ℕ) (order : List ℕ) → AreInOrder (keys_of value) n order → AllOf (IsThere depth value) order
+      → members (tree_of depth) (key_of value) (elem_in value) 0 n no_members
+      ≡ Ok (along (keys_of value) (trees_of depth value) (counts_of depth value) order, count_all (keys_of value) (trees_of depth value) (counts_of depth value) order)
+  members_are n order are all =
+      let e : n ≡ n + 0 = omega arith in
+      ap (λ (j : ℕ). members (tree_of depth) (key_of value) (elem_in value) 0 j no_members) e
+      ∙ members_so_far n order are (all_numbers (keys_of value) (IsThere depth value) n order are all) 0
+      ∙ members_end (tree_of depth) (key_of value) (elem_in value) (along (keys_of value) (trees_of depth value) (counts_of depth value) order) (count_all (keys_of value) (trees_of depth value) (counts_of depth value) order) n 0 refl
+
+-- some members of an object are written
+pub record MembersSoFar (depth : ℕ) (value : JsonbValue) (done : List ℕ) (budget left : ℕ) (base out : List ℕ) (is_first : Bool) : Type 0 where
+  pub there : AllOf (IsThere depth value) done
+  pub taken : count_all (keys_of value) (trees_of depth value) (counts_of depth value) done + left ≡ budget
+  pub text : out ≡ base ++ join_with_byte 44 (texts_along (keys_of value) (trees_of depth value) (counts_of depth value) done)
+  pub none : TellsNone is_first (texts_along (keys_of value) (trees_of depth value) (counts_of depth value) done)
+
+pub no_members_yet : (depth : ℕ) (value : JsonbValue) (budget : ℕ) (base out : List ℕ) → out ≡ base → MembersSoFar depth value [] budget budget base out true
+no_members_yet depth value budget base out is = record { there = tt; taken = omega arith; text = is ∙ sym (append-nil base); none = refl }
+
+pub one_member_more : (depth : ℕ) (value : JsonbValue) (done more : List ℕ) (pos budget mid left : ℕ) (base out separated new : List ℕ) (is_first : Bool) → more ≡ done ++ pos ∷ []
+    → MembersSoFar depth value done budget mid base out is_first → separated ≡ out ++ separator is_first → WritesMember depth value pos mid left separated new → MembersSoFar depth value more budget left base new false
+one_member_more depth value done more pos budget mid left base out separated new is_first one_more so first one =
+    let keys = keys_of value in
+    let trees = trees_of depth value in
+    let counts = counts_of depth value in
+    let m = one.is in
+    let key = same_key value pos one.key m.key_is in
+    let same = same_tree depth value m.seen pos (one.tree, one.count) m.seen_is m.is in
+    let pushed = texts_push keys trees counts done pos in
+    let text : quoted one.key ++ (58 ∷ document_text one.tree) ≡ member_text keys trees counts pos = ap₂ (λ (k : List ℕ) (t : Tree). quoted k ++ (58 ∷ document_text t)) key same.0 in
+    let written : new ≡ separated ++ member_text keys trees counts pos = one.text ∙ ap (λ (t : List ℕ). separated ++ t) text in
+    subst (λ (ps : List ℕ). MembersSoFar depth value ps budget left base new false) (sym one_more) (record {
+      there = all_push (IsThere depth value) done pos so.there (there depth value pos one.key one.tree one.count m);
+      taken = omega (arith, so.taken, one.taken, count_push keys trees counts done pos, same.1);
+      text = text_more is_first (texts_along keys trees counts done) (member_text keys trees counts pos) base out separated new so.none so.text first written ∙ ap (λ (l : List (List ℕ)). base ++ join_with_byte 44 l) (sym pushed);
+      none = subst (TellsNone false) (sym pushed) (some_told (texts_along keys trees counts done) (member_text keys trees counts pos));
+    })
+
+pub all_members : (depth : ℕ) (value : JsonbValue) (order done : List ℕ) (budget left : ℕ) (old begun out new : List ℕ) (is_first : Bool) → done ≡ order → AreInOrder (keys_of value) (count_in value) order → begun ≡ old ++ 123 ∷ []
+    → MembersSoFar depth value done budget left begun out is_first → new ≡ out ++ 125 ∷ [] → WritesMembers depth value budget left old new
+all_members depth value order done budget left old begun out new is_first whole are begins so ends =
+    let keys = keys_of value in
+    let trees = trees_of depth value in
+    let counts = counts_of depth value in
+    let texts = member_texts-along keys trees counts order in
+    let all = subst (AllOf (IsThere depth value)) whole so.there in record {
+      found = along keys trees counts order;
+      count = count_all keys trees counts order;
+      is = members_are depth value (count_in value) order are all;
+      taken = ap (λ (ps : List ℕ). count_all keys trees counts ps + left) (sym whole) ∙ so.taken;
+      text =
+          ends ∙ ap (λ (t : List ℕ). t ++ 125 ∷ []) (so.text ∙ ap₂ (λ (t : List ℕ) (ps : List ℕ). t ++ join_with_byte 44 (texts_along keys trees counts ps)) begins whole)
+          ∙ append_assoc (old ++ 123 ∷ []) (join_with_byte 44 (texts_along keys trees counts order)) (125 ∷ [])
+          ∙ append_assoc old (123 ∷ []) (join_with_byte 44 (texts_along keys trees counts order) ++ 125 ∷ [])
+          ∙ ap (λ (l : List (List ℕ)). old ++ (123 ∷ (join_with_byte 44 l ++ 125 ∷ []))) (sym texts);
+    }
+
+pub object_written : (depth d : ℕ) (value : JsonbValue) (budget mid left : ℕ) (old new : List ℕ) → depth ≡ suc d → is_object_in value ≡ true → mid + 1 ≡ budget → WritesMembers d value mid left old new → WritesTree depth value budget left old new
+unfolding document_text
+object_written depth d value budget mid left old new deep is_object one w =
+    let found = w.is in record {
+      tree = object w.found;
+      count = w.count + 1;
+      is = object_tree depth d value deep is_object ∙ rw found refl;
+      taken = omega (arith, one, w.taken);
+      text = w.text;
+    }
+
+-- a key, a colon and a value were appended
+pub member_is : (depth : ℕ) (value seen : JsonbValue) (pos budget left : ℕ) (old keyed pointed new bytes key : List ℕ) → key_of value pos ≡ Ok key → bytes ≡ key → is_utf8 bytes ≡ true → keyed ≡ old ++ quoted bytes → pointed ≡ keyed ++ 58 ∷ []
+    → elem_in value pos ≡ Ok seen → WritesTree depth seen budget left pointed new → WritesMember depth value pos budget left old new
+member_is depth value seen pos budget left old keyed pointed new bytes key found same valid first second here w = record {
+  key = bytes;
+  tree = w.tree;
+  count = w.count;
+  is = record { seen = seen; key_is = found ∙ ap (λ (s : List ℕ). Ok s) (sym same); is_text = valid; seen_is = here; is = w.is };
+  taken = w.taken;
+  text = member_written old keyed pointed new (quoted bytes) (document_text w.tree) first second w.text;
+}
