@@ -11,22 +11,11 @@ use feed_rules::Verdict;
 use feed_writers::put_bytes;
 use std::io::Write;
 use wire_consts::MAX_PAYLOAD_LEN;
+use wire_packets::{PACKET_HEADER_LEN, chunk_header};
 use wire_streams::Watched;
-
-/// The length of what stands before a chunk, in bytes.
-const HEADER_LEN: usize = 4;
 
 /// The greatest length of what stands before an event in a payload, in bytes.
 const MAX_LEAD_LEN: usize = 3;
-
-/// What stands before a chunk of this length: the length in three bytes, and the chunk's number.
-fn chunk_header(len: usize, number: u8) -> [u8; 4]
-    requires { len ≤ longest }
-    ensures { (bytes : List ℕ) → length bytes ≡ len → result ++ bytes ≡ chunk number bytes }
-{
-    let len = (len as u32).to_le_bytes();
-    [len[0], len[1], len[2], number]
-}
 
 /// Writes one chunk: its length in three bytes, its number, and its bytes, which are these two runs. What stands before the
 /// second run is written at once.
@@ -43,7 +32,7 @@ fn put_chunk<W: Write>(
     ensures ok { OnOk result (Appends (W.contents (inner_of writer.old)) (W.contents (inner_of writer.new)) (chunk number (lead.now ++ slice.now))) }
     ensures fault { IfErr result (IsCutWrite (W.contents (inner_of writer.old)) (W.contents (inner_of writer.new)) (chunk number (lead.now ++ slice.now)) (has_failed writer.new)) }
 {
-    let mut front = [0; HEADER_LEN + MAX_LEAD_LEN];
+    let mut front = [0; PACKET_HEADER_LEN + MAX_LEAD_LEN];
     let begin = put_bytes(
         &mut front,
         0,

@@ -11,23 +11,13 @@ ghost use Rattle.feed_streams.specs.Streams.{Plain, event_in};
 use crate::form::{PayloadForm, asks};
 use crate::requests::LogName;
 use std::alloc::AllocError;
+use wire_packets::{PACKET_HEADER_LEN, chunk_header};
 
 /// The first byte of an acknowledgement.
 const ACK: u8 = 0xef;
 
-/// How long the header of a packet is, and an acknowledgement without its name, in bytes.
-const HEADER_LEN: usize = 4;
-
+/// How long an acknowledgement without its name is, in bytes.
 const ACK_LEN: usize = 9;
-
-/// The header of a packet with the number 0 and a payload of this length, in one chunk.
-fn header(len: usize) -> [u8; 4]
-    requires { len ≤ longest }
-    ensures { (bytes : List ℕ) → length bytes ≡ len → result ++ bytes ≡ chunk 0 bytes }
-{
-    let len = (len as u32).to_le_bytes();
-    [len[0], len[1], len[2], 0]
-}
 
 /// Appends the packet that acknowledges the event behind which `position` is. A refusal changes nothing.
 #[tactic(auto, using(crate::proofs::AcknowledgementLemmas::packet_is))]
@@ -41,8 +31,8 @@ fn put_acknowledgement(
 {
     let name = name.as_slice();
     let len = ACK_LEN + name.len();
-    waiting.reserve(HEADER_LEN + len)?;
-    waiting.extend_from_slice(&header(len))?;
+    waiting.reserve(PACKET_HEADER_LEN + len)?;
+    waiting.extend_from_slice(&chunk_header(len, 0))?;
     waiting.extend_from_slice(&[ACK])?;
     waiting.extend_from_slice(&(position as u64).to_le_bytes())?;
     waiting.extend_from_slice(name)

@@ -2,7 +2,8 @@
 use Rattle.std.proofs.Common.{◌≡◌, ◌≢◌, ℕ, ◌+◌, ◌%◌, ◌<◌, ◌≤◌, Bool, true, false, ◌&&◌, List, ◌∷◌, ◌++◌, length, get_or, drop, sym, ap, ◌∙◌, ◌/◌, length-drop, Some, None, refl, arith, eq-eqb, nat_le, nat_eq}
 use Rattle.std.proofs.lemmas.Bool.{le-leb, lt-leb, ne_eqb, leb-true, eqb-true}
 use Rattle.std.proofs.lemmas.List.{take-append-drop, drop-drop, drop_more, length-take-le}
-use Rattle.wire_packets.specs.Framing.{chunk}
+use Rattle.wire_packets.specs.Framing.{chunk, longest}
+use Rattle.wire_packets.specs.Packets.{payload_in}
 use Rattle.wire_packets.specs.Reading.{len_at, takes, fault_at, has_chunk, bytes_at, behind}
 use Rattle.wire_packets.specs.declared.error.PacketCodecError.TheVariants.{PacketTooLarge, PacketsOutOfSync}
 
@@ -88,3 +89,20 @@ chunk_at n s whole a b c number =
   where
     joined_up : (a b c d a' b' c' d' : ℕ) (t t' : List ℕ) → a' ≡ a → b' ≡ b → c' ≡ c → d ≡ d' → t ≡ t' → a ∷ b ∷ c ∷ d ∷ t ≡ a' ∷ b' ∷ c' ∷ d' ∷ t'
     joined_up a b c d a' b' c' d' t t' p q r s u = cc
+
+-- a packet of one chunk, and none
+pub no_chunk : (k limit : ℕ) (s : List ℕ) → takes k limit 0 s ≡ false → payload_in 1 limit k 0 s ≡ None
+unfolding payload_in
+no_chunk k limit s h = rw h refl
+
+pub full_chunk : (k limit : ℕ) (s : List ℕ) → takes k limit 0 s ≡ true → len_at s ≡ longest → payload_in 1 limit k 0 s ≡ None
+unfolding payload_in
+full_chunk k limit s h full =
+    let e : nat_eq (len_at s) longest ≡ true = eq-eqb (len_at s) longest full in
+    rw (h, e) refl
+
+pub one_chunk : (k limit : ℕ) (s : List ℕ) → takes k limit 0 s ≡ true → len_at s < longest → payload_in 1 limit k 0 s ≡ Some (bytes_at s)
+unfolding payload_in
+one_chunk k limit s h short =
+    let e : nat_eq (len_at s) longest ≡ false = ne_eqb (len_at s) longest (λ same. omega (arith, same, short)) in
+    rw (h, e) refl

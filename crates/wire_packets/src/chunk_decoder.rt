@@ -3,7 +3,7 @@ ghost use Rattle.wire_packets.specs.Reading.{len_at};
 ghost use Rattle.wire_packets.specs.Chunks.{header_of, EatsHeader, DecodesChunk};
 
 use crate::error::PacketCodecError;
-use crate::header::{HEADER_LEN, exceeds, read_header};
+use crate::header::{PACKET_HEADER_LEN, exceeds, read_header};
 use bytes::BytesMut;
 use wire_consts::MAX_PAYLOAD_LEN;
 
@@ -83,7 +83,7 @@ impl ChunkDecoder {
         if exceeds(limit, gathered, header.len) {
             return Err(PacketCodecError::PacketTooLarge);
         }
-        src.advance(HEADER_LEN);
+        src.advance(PACKET_HEADER_LEN);
         *self = ChunkDecoder::Chunk {
             seq_id: header.number,
             needed: header.len,

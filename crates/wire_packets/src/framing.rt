@@ -2,7 +2,7 @@ ghost use Rattle.std.specs.Prelude.{◌≡◌, ◌≤◌, ◌+◌, ◌*◌, ◌+
 ghost use Rattle.wire_packets.specs.Framing.{longest, chunk, framing, next_number};
 
 use crate::error::PacketCodecError;
-use crate::header::HEADER_LEN;
+use crate::header::PACKET_HEADER_LEN;
 use bytes::BytesMut;
 use wire_consts::MAX_PAYLOAD_LEN;
 
@@ -18,7 +18,7 @@ pub fn packet_to_chunks(id: u8, src: &[u8], dst: &mut BytesMut) -> Result<u8, Pa
     ensures err { OnErr result (dst.new.items ≡ dst.old.items) }
 {
     let count = src.len() / MAX_PAYLOAD_LEN + 1;
-    dst.reserve(src.len() + HEADER_LEN * count)?;
+    dst.reserve(src.len() + PACKET_HEADER_LEN * count)?;
     let mut number = id;
     let mut rest = src;
     for i in 0..count {

@@ -1,9 +1,9 @@
-ghost use Rattle.std.specs.Prelude.{◌≡◌, ℕ, ◌+◌, ◌<◌, ◌++◌, List, [], true, length, OnOk, OnErr, IfOk, IfErr, IfSome, None, Some, Err, IsErrOf, ◌↔◌, ◌⊎◌};
+ghost use Rattle.std.specs.Prelude.{◌≡◌, ℕ, ◌+◌, ◌<◌, ◌≤◌, ◌++◌, List, [], true, length, take, drop, OnOk, OnErr, IfOk, IfErr, IfSome, None, Some, Err, IsErrOf, ◌↔◌, ◌⊎◌};
 ghost use Rattle.wire_packets.specs.Framing.{framing, next_number};
 
 use crate::error::PacketCodecError;
 use crate::framing::packet_to_chunks;
-use crate::header::{Front, HEADER_LEN, read_front};
+use crate::header::{Front, PACKET_HEADER_LEN, read_front, whole_packet};
 use bytes::BytesMut;
 use wire_consts::{DEFAULT_MAX_ALLOWED_PACKET, MAX_PAYLOAD_LEN};
 
@@ -33,7 +33,8 @@ impl Default for PacketCodec {
 }
 
 impl PacketCodec {
-    ghost use Rattle.wire_packets.specs.Standing.{IsFresh, IsBetweenPackets, IsBeforeStreams, HasRead, Decodes, limit_of, number_of, gathered_of, fault_of};
+    ghost use Rattle.wire_packets.specs.Packets.{payload_in};
+    ghost use Rattle.wire_packets.specs.Standing.{IsFresh, IsBetweenPackets, IsBeforeStreams, HasRead, GivesPacket, Decodes, limit_of, number_of, gathered_of, fault_of};
 
     /// A codec with this limit, in bytes, whose first chunk has this number.
     pub fn with_number(max_allowed_packet: usize, number: u8) -> PacketCodec
@@ -100,11 +101,13 @@ impl PacketCodec {
                     return Err(fault);
                 }
             };
-            if let Err(_) = dst.extend_from_slice(&bytes[HEADER_LEN..HEADER_LEN + len]) {
+            if let Err(_) = dst.extend_from_slice(
+                &bytes[PACKET_HEADER_LEN..PACKET_HEADER_LEN + len],
+            ) {
                 self.fault = Some(PacketCodecError::Memory);
                 return Err(PacketCodecError::Memory);
             }
-            src.advance(HEADER_LEN + len);
+            src.advance(PACKET_HEADER_LEN + len);
             self.seq_id = self.seq_id.wrapping_add(1);
             if len < MAX_PAYLOAD_LEN {
                 self.gathered = 0;
@@ -112,6 +115,29 @@ impl PacketCodec {
             }
             self.gathered += len;
         }
+    }
+
+    /// Takes the next packet where it stands at the front of `src`, whole and in one chunk, and lends its payload.
+    /// The packet stays in `src`: before the next call drop its header of `PACKET_HEADER_LEN` bytes and its payload.
+    ///
+    /// None changes nothing and says that `decode` is to be asked: `src` begins with no such packet, or a packet is half
+    /// read, or there was a fault.
+    pub fn decode_in_place<'a>(&mut self, src: &'a [u8]) -> Option<&'a [u8]>
+        ensures stands { (k : ℕ) (s : List ℕ) (ps : List (List ℕ)) → HasRead self.old k s ps [] src.now
+            → IfSome result (λ payload. GivesPacket self.new k s ps [] payload.now (drop (4 + length payload.now) src.now)) }
+        ensures found { IfSome result (λ payload. payload_in 1 (limit_of self.old) (number_of self.old) 0 src.now ≡ Some payload.now) }
+        ensures place { IfSome result (λ payload. (4 + length payload.now ≤ length src.now) × (payload.now ≡ take (length payload.now) (drop 4 src.now))) }
+        ensures between { IfSome result (λ payload. IsBetweenPackets self.old) }
+        ensures missing { result ≡ None → IsBetweenPackets self.old → payload_in 1 (limit_of self.old) (number_of self.old) 0 src.now ≡ None }
+        ensures none { result ≡ None → self.new ≡ self.old }
+        ensures limit { limit_of self.new ≡ limit_of self.old }
+    {
+        if self.gathered > 0 || self.fault.is_some() {
+            return None;
+        }
+        let len = whole_packet(self.max_allowed_packet, self.seq_id, src)?;
+        self.seq_id = self.seq_id.wrapping_add(1);
+        Some(&src[PACKET_HEADER_LEN..PACKET_HEADER_LEN + len])
     }
 
     /// Appends the framing of a payload to `dst`, numbered on from the last chunk.

@@ -3,8 +3,8 @@
 use bytes::BytesMut;
 use mysql_wire::{
     ChunkDecoder, ChunkInfo, DEFAULT_MAX_ALLOWED_PACKET, EofBytes, LeU24, LenEnc, MAX_PAYLOAD_LEN,
-    MySerialize, PacketCodec, PacketCodecError, ParseBuf, RawBytes, RawInt, Skip, U8Bytes,
-    WireFault, decode_pieces, packet_to_chunks, split_version,
+    MySerialize, PACKET_HEADER_LEN, PacketCodec, PacketCodecError, ParseBuf, RawBytes, RawInt,
+    Skip, U8Bytes, WireFault, decode_pieces, packet_to_chunks, split_version,
 };
 use std::alloc::Global;
 
@@ -103,6 +103,32 @@ fn packets_are_read(rt: HostRuntime) {
             && codec.decode(&mut stream, &mut packet) == Ok(true)
             && packet.as_slice() == [5, 6].as_slice()
             && codec.decode(&mut stream, &mut packet) == Ok(false)
+    );
+}
+
+#[test]
+fn payload_lent_from_the_buffer(rt: HostRuntime) {
+    let mut codec = PacketCodec::with_number(2, 7);
+    let stream = [2, 0, 0, 7, 5, 6, 1, 0, 0, 8];
+    assert!(rt;
+        codec.decode_in_place(&stream[..5]) == None
+            && codec.decode_in_place(&stream) == Some([5, 6].as_slice())
+            && codec.decode_in_place(&stream) == None
+            && codec.decode_in_place(&stream[PACKET_HEADER_LEN + 2..]) == None
+            && codec.decode_in_place(&[0, 0, 0, 8]) == Some([].as_slice())
+            && codec.decode_in_place(&[3, 0, 0, 9, 1, 2, 3]) == None
+    );
+}
+
+#[test]
+fn nothing_lent_after_a_fault(rt: HostRuntime) {
+    let mut codec = PacketCodec::with_number(1, 0);
+    let mut src = BytesMut::new(rt.alloc());
+    let mut packet = Vec::new(rt.alloc());
+    assert!(rt;
+        src.extend_from_slice(&[2, 0, 0, 0]).is_ok()
+            && codec.decode(&mut src, &mut packet) == Err(PacketCodecError::PacketTooLarge)
+            && codec.decode_in_place(&[1, 0, 0, 0, 9]) == None
     );
 }
 
