@@ -1,3 +1,4 @@
+pub mod IncomingLemmas
 pub mod StreamLemmas
 pub mod AskingLemmas
 pub mod FollowLemmas

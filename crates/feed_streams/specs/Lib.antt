@@ -4,5 +4,6 @@ pub mod Acknowledgements
 pub mod Asking
 pub mod Requests
 pub mod RequestErrors
+pub mod Incoming
 pub mod Following
 pub mod WorkedStreams

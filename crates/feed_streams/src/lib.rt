@@ -4,6 +4,7 @@
 mod acknowledgements;
 mod follower;
 mod form;
+mod incoming;
 pub mod laws;
 mod requests;
 pub mod worked;
