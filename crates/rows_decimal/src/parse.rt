@@ -1,11 +1,11 @@
 //! Text as a decimal.
 
-ghost use Rattle.std.specs.Prelude.{◌≡◌, ◌<◌, ◌+◌, ◌==◌, IfOk, IfErr, Some, true};
+ghost use Rattle.std.specs.Prelude.{◌≡◌, ◌<◌, ◌+◌, ◌==◌, IfOk, IfErr, Some, Err, true, false};
 ghost use Rattle.std.specs.Str.{trim, IsUtf8};
 ghost use Rattle.std.specs.List.{before_first, after_first, list_all};
 ghost use Rattle.std.specs.Char.{is_ascii_digit};
 ghost use Rattle.rows_decimal.specs.Decimals.{decimal_parts};
-ghost use Rattle.rows_decimal.specs.declared.parse.ParseDecimalError.TheVariants.{Memory};
+ghost use Rattle.rows_decimal.specs.declared.parse.ParseDecimalError.TheVariants.{Memory, Text};
 ghost use Rattle.rows_decimal.specs.Texts.{text_value, spelled as spelled_as, is_spelled as is_spelled_as, one_zero as one_zero_of, has_minus, behind_sign, digits_of as digits_in, are_zeros as are_zeros_in, are_allowed as are_allowed_in, IsTextFault};
 
 use crate::digits::leading;
@@ -51,6 +51,7 @@ impl Decimal {
         ensures ok { IfOk result (λ d. (are_allowed_in bytes.now ≡ true)
             × (text_value bytes.now ≡ Some (decimal_parts d))) }
         ensures err { IfErr result (λ e. are_allowed_in bytes.now ≡ true → IsTextFault e (text_value bytes.now)) }
+        ensures other_bytes { are_allowed_in bytes.now ≡ false → result ≡ Err Text }
     {
         if !are_allowed(bytes) {
             return Err(ParseDecimalError::Text);
@@ -63,6 +64,7 @@ impl Decimal {
         ensures ok { IfOk result (λ d. IsUtf8 bytes.now
             × (text_value (trim bytes.now) ≡ Some (decimal_parts d))) }
         ensures err { IfErr result (λ e. IsUtf8 bytes.now → IsTextFault e (text_value (trim bytes.now))) }
+        ensures not_utf8 { (IsUtf8 bytes.now → ⊥) → result ≡ Err Text }
     {
         match str::from_utf8(bytes) {
             Ok(text) => Decimal::from_str(alloc, text),

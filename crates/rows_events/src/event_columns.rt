@@ -1,6 +1,6 @@
 //! The columns of the images of an event's rows.
 
-ghost use Rattle.std.specs.Prelude.{◌≡◌, ◌⊎◌, ◌∷◌, [], IfOk, IfErr, Ok, Err};
+ghost use Rattle.std.specs.Prelude.{◌≡◌, ◌⊎◌, ◌∷◌, [], IfOk, IfErr, OnErr, Ok, Err};
 ghost use Rattle.rows_values.specs.declared.fault.RowsError.TheVariants.{Memory};
 ghost use Rattle.rows_cells.specs.RowViews.{row_shape, IsBetween};
 ghost use Rattle.rows_plan.specs.ImageShapes.{table_plan, no_columns};
@@ -37,11 +37,11 @@ impl EventColumns {
     /// Takes the columns of an event's images, by the plan of its table, in place of those before.
     ///
     /// The fault of the first column of the event that has no plan, or of the optional metadata; `Memory` where
-    /// memory is refused, and for a table of 2^32 JSON columns or more. After a refusal they are the columns of no
-    /// event, until the next call.
+    /// memory is refused, and for a table of 2^32 JSON columns or more. A refusal leaves the columns of no event.
     pub fn fill(&mut self, event: &RowsEvent<'_>, plan: &ColumnPlan) -> Result<(), RowsError>
         ensures ok { IfOk result (λ _. event_shapes (body_of event.now) (table_plan plan.now) ≡ Ok (shapes_of self.new)) }
         ensures err { IfErr result (λ e. e ≡ Memory ⊎ event_shapes (body_of event.now) (table_plan plan.now) ≡ Err e) }
+        ensures left { OnErr result (shapes_of self.new ≡ no_columns ∷ []) }
     {
         let is_partial = event.images().has_partial_after();
         self.has_second = false;
@@ -50,12 +50,19 @@ impl EventColumns {
                 if let Err(fault) = self.first.fill(plan, before, false) {
                     return Err(fault);
                 }
+                if let Err(fault) = self.second.fill(plan, after, is_partial) {
+                    self.first.clear();
+                    return Err(fault);
+                }
                 self.has_second = true;
-                self.second.fill(plan, after, is_partial)
+                Ok(())
             }
             (Some(before), None) => self.first.fill(plan, before, false),
             (None, Some(after)) => self.first.fill(plan, after, is_partial),
-            (None, None) => Err(RowsError::EmptyPair),
+            (None, None) => {
+                self.first.clear();
+                Err(RowsError::EmptyPair)
+            }
         }
     }
 

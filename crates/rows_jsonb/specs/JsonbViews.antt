@@ -37,4 +37,4 @@ jsonb_value (SmallArray c) = seen.container (form false true) c.element_count (c
 jsonb_value (LargeArray c) = seen.container (form true true) c.element_count (cow_slice_items c.bytes)
 jsonb_value (SmallObject c) = seen.container (form false false) c.element_count (cow_slice_items c.bytes)
 jsonb_value (LargeObject c) = seen.container (form true false) c.element_count (cow_slice_items c.bytes)
-jsonb_value (Opaque o) = seen.opaque (column_type_number o.value_type) (text_of o.data)
+jsonb_value (Opaque o) = seen.opaque (column_type_number o.value_type) (text_of o.bytes)

@@ -84,18 +84,18 @@ impl<'a> ObjectKey<'a> {
 #[derive(PartialEq, Drop)]
 pub struct OpaqueValue<'a> {
     pub(crate) value_type: ColumnType,
-    pub(crate) data: RawBytes<'a, VarLen>,
+    pub(crate) bytes: RawBytes<'a, VarLen>,
 }
 
 impl<'a> OpaqueValue<'a> {
     /// A value of this type with these bytes.
     pub fn new(value_type: ColumnType, bytes: CowSlice<'a, u8>) -> OpaqueValue<'a>
         ensures value_type { result.value_type ≡ value_type }
-        ensures bytes { result.data.0 ≡ bytes.entry }
+        ensures bytes { result.bytes.0 ≡ bytes.entry }
     {
         OpaqueValue {
             value_type,
-            data: RawBytes::new(bytes),
+            bytes: RawBytes::new(bytes),
         }
     }
 
@@ -108,35 +108,35 @@ impl<'a> OpaqueValue<'a> {
 
     /// The bytes.
     pub fn data_raw(&self) -> &[u8]
-        ensures { result.now ≡ text_of self.now.data }
+        ensures { result.now ≡ text_of self.now.bytes }
     {
-        self.data.as_bytes()
+        self.bytes.as_bytes()
     }
 
     /// The bytes as text, with replacement characters where they aren't UTF-8.
     pub fn data(&self, alloc: Global) -> Result<CowStr<'_>, AllocError>
-        ensures { IfOk result (λ t. cow_str_bytes t ≡ utf8_lossy (text_of self.now.data)) }
+        ensures { IfOk result (λ t. cow_str_bytes t ≡ utf8_lossy (text_of self.now.bytes)) }
     {
-        self.data.as_str(alloc)
+        self.bytes.as_str(alloc)
     }
 
     /// The same value, borrowed from nothing.
     pub fn into_owned(self, alloc: Global) -> Result<OpaqueValue<'static>, AllocError>
         ensures value_type { IfOk result (λ o. o.value_type ≡ self.entry.value_type) }
-        ensures bytes { IfOk result (λ o. text_of o.data ≡ text_of self.entry.data) }
-        ensures owned { IfOk result (λ o. IsOwnedSlice o.data.0) }
+        ensures bytes { IfOk result (λ o. text_of o.bytes ≡ text_of self.entry.bytes) }
+        ensures owned { IfOk result (λ o. IsOwnedSlice o.bytes.0) }
     {
-        let OpaqueValue { value_type, data } = self;
+        let OpaqueValue { value_type, bytes } = self;
         Ok(OpaqueValue {
             value_type,
-            data: data.into_owned(alloc)?,
+            bytes: bytes.into_owned(alloc)?,
         })
     }
 
     /// The bytes, borrowed or owned as they are.
     pub fn into_data(self) -> CowSlice<'a, u8>
-        ensures { result ≡ self.entry.data.0 }
+        ensures { result ≡ self.entry.bytes.0 }
     {
-        self.data.0
+        self.bytes.0
     }
 }

@@ -1,6 +1,6 @@
 //! The columns of an image, as a reader of images takes them.
 
-ghost use Rattle.std.specs.Prelude.{◌≡◌, ◌⊎◌, IfOk, IfErr, Ok, Err, Some, None, if◌then◌else◌};
+ghost use Rattle.std.specs.Prelude.{◌≡◌, ◌⊎◌, IfOk, IfErr, OnErr, Ok, Err, Some, None, if◌then◌else◌};
 ghost use Rattle.rows_values.specs.declared.fault.RowsError.TheVariants.{Memory};
 ghost use Rattle.rows_values.specs.BitLists.{len_of, bit_at};
 ghost use Rattle.rows_cells.specs.ImageViews.{image_shape};
@@ -30,11 +30,19 @@ impl ImageColumns {
         }
     }
 
+    /// Drops the columns, and keeps their memory.
+    pub fn clear(&mut self)
+        ensures { shape_of self.new ≡ no_columns }
+    {
+        self.columns.clear();
+        self.json_columns = None;
+    }
+
     /// Takes the columns whose bits are set, in place of those before. `is_partial` says that JSON documents may
     /// stand as their changes.
     ///
-    /// The refusals of [`ColumnPlan::image_columns`]; `Memory` also for a table of 2^32 JSON columns or more. After a
-    /// refusal they are the columns of no image, until the next call.
+    /// The refusals of [`ColumnPlan::image_columns`]; `Memory` also for a table of 2^32 JSON columns or more. A refusal leaves
+    /// no columns.
     pub fn fill(
         &mut self,
         plan: &ColumnPlan,
@@ -43,10 +51,16 @@ impl ImageColumns {
     ) -> Result<(), RowsError>
         ensures ok { IfOk result (λ _. shape_picked (table_plan plan.now) (len_of bits.entry) is_partial (bit_at bits.entry) ≡ Ok (shape_of self.new)) }
         ensures err { IfErr result (λ e. e ≡ Memory ⊎ shape_picked (table_plan plan.now) (len_of bits.entry) is_partial (bit_at bits.entry) ≡ Err e) }
+        ensures left { OnErr result (shape_of self.new ≡ no_columns) }
     {
-        self.columns.clear();
-        self.json_columns = json_columns(plan, is_partial)?;
-        plan.image_columns(bits, &mut self.columns)
+        self.clear();
+        let json_columns = json_columns(plan, is_partial)?;
+        if let Err(fault) = plan.image_columns(bits, &mut self.columns) {
+            self.columns.clear();
+            return Err(fault);
+        }
+        self.json_columns = json_columns;
+        Ok(())
     }
 
     /// The columns in order; and where JSON documents may stand as their changes, how many JSON columns the table

@@ -23,8 +23,8 @@ use wire_consts::ColumnFlags;
 impl ColumnPlan {
     /// Appends the columns that are in an image: those whose bit is set, of as many columns as there are bits.
     ///
-    /// The fault of the first column that has no plan, or of the optional metadata; then nothing is appended.
-    /// `Memory` where memory is refused; then some of them are appended.
+    /// Refused with the fault of the first column that has no plan, or of the optional metadata, wherever there is one; then
+    /// nothing is appended. `Memory` where memory is refused; then some of them are appended.
     pub fn image_columns(
         &self,
         bits: Bits<'_>,
@@ -32,6 +32,7 @@ impl ColumnPlan {
     ) -> Result<(), RowsError>
         ensures ok { IfOk result (λ _. appended columns.old.items (picked_as in_image (bit_at bits.entry) (planned self.now.run (len_of bits.entry))) ≡ Ok columns.new.items) }
         ensures err { IfErr result (λ e. e ≡ Memory ⊎ ((planned self.now.run (len_of bits.entry) ≡ Err e) × (columns.new.items ≡ columns.old.items))) }
+        ensures refused { IfErr (planned self.now.run (len_of bits.entry)) (λ e. (result ≡ Err e) × (columns.new.items ≡ columns.old.items)) }
     {
         let image = match self.run.first(bits.len()) {
             Ok(image) => image,
@@ -51,6 +52,7 @@ impl ColumnPlan {
     pub fn definitions(&self, alloc: Global, bits: Bits<'_>) -> Result<Vec<Column>, RowsError>
         ensures ok { IfOk result (λ columns. picked_as (definition_of self.now.database.items self.now.table.items) (bit_at bits.entry) (planned self.now.run (len_of bits.entry)) ≡ Ok (map parts_of columns.items)) }
         ensures err { IfErr result (λ e. e ≡ Memory ⊎ (planned self.now.run (len_of bits.entry) ≡ Err e)) }
+        ensures refused { IfErr (planned self.now.run (len_of bits.entry)) (λ e. result ≡ Err e) }
     {
         let image = match self.run.first(bits.len()) {
             Ok(image) => image,

@@ -1,5 +1,5 @@
 ghost use Rattle.std.specs.Prelude.{◌≡◌, IfOk};
-ghost use Rattle.std.specs.Str.{IsUtf8};
+ghost use Rattle.std.specs.Str.Lossy.{utf8_lossy};
 ghost use Rattle.std.specs.Cow.{cow_str_bytes};
 ghost use Rattle.rows_values.specs.Columns.{parts_of, parts_of_type};
 
@@ -61,8 +61,7 @@ impl Column {
 
     /// The name of the schema as text; what isn't UTF-8 in it is replaced.
     pub fn schema_str(&self, alloc: Global) -> Result<CowStr<'_, Global>, AllocError>
-        ensures { IfOk result
-            (λ t. IsUtf8 (parts_of self.now).schema → cow_str_bytes t ≡ (parts_of self.now).schema) }
+        ensures { IfOk result (λ t. cow_str_bytes t ≡ utf8_lossy ((parts_of self.now).schema)) }
     {
         lossy(alloc, &self.schema)
     }
@@ -85,8 +84,7 @@ impl Column {
 
     /// The name of the table, which may be an alias, as text; what isn't UTF-8 in it is replaced.
     pub fn table_str(&self, alloc: Global) -> Result<CowStr<'_, Global>, AllocError>
-        ensures { IfOk result
-            (λ t. IsUtf8 (parts_of self.now).table → cow_str_bytes t ≡ (parts_of self.now).table) }
+        ensures { IfOk result (λ t. cow_str_bytes t ≡ utf8_lossy ((parts_of self.now).table)) }
     {
         lossy(alloc, &self.table)
     }
@@ -109,8 +107,7 @@ impl Column {
 
     /// The name of the table in its schema as text; what isn't UTF-8 in it is replaced.
     pub fn org_table_str(&self, alloc: Global) -> Result<CowStr<'_, Global>, AllocError>
-        ensures { IfOk result
-            (λ t. IsUtf8 (parts_of self.now).org_table → cow_str_bytes t ≡ (parts_of self.now).org_table) }
+        ensures { IfOk result (λ t. cow_str_bytes t ≡ utf8_lossy ((parts_of self.now).org_table)) }
     {
         lossy(alloc, &self.org_table)
     }
@@ -133,8 +130,7 @@ impl Column {
 
     /// The name of the column as text; what isn't UTF-8 in it is replaced.
     pub fn name_str(&self, alloc: Global) -> Result<CowStr<'_, Global>, AllocError>
-        ensures { IfOk result
-            (λ t. IsUtf8 (parts_of self.now).name → cow_str_bytes t ≡ (parts_of self.now).name) }
+        ensures { IfOk result (λ t. cow_str_bytes t ≡ utf8_lossy ((parts_of self.now).name)) }
     {
         lossy(alloc, &self.name)
     }
@@ -187,7 +183,7 @@ impl Column {
 
 /// The bytes as text, which is borrowed where they are UTF-8.
 fn lossy<'a>(alloc: Global, bytes: &'a [u8]) -> Result<CowStr<'a, Global>, AllocError>
-    ensures { IfOk result (λ t. IsUtf8 bytes.now → cow_str_bytes t ≡ bytes.now) }
+    ensures { IfOk result (λ t. cow_str_bytes t ≡ utf8_lossy bytes.now) }
 {
     match str::from_utf8(bytes) {
         Ok(text) => Ok(CowStr::Borrowed(text)),

@@ -5,8 +5,8 @@ use Rattle.rows_plan.specs.ImageShapes.{table_plan, shape_of}
 use Rattle.rows_events.proofs.ShapeLemmas.{shown_bits, no_bits, picked_shape, ok_still, one_image, after_image, two_images}
 use Rattle.rows_events.proofs.event_columns.EventColumns.fill.Goals as goal
 
-pub returns-in_default-clause-ok : goal.returns-in_default-clause-ok
-returns-in_default-clause-ok c =
+pub returns-in_default-fill-clause-ok : goal.returns-in_default-fill-clause-ok
+returns-in_default-fill-clause-ok c =
     let r = body_of c.args.event.now in
     let p = table_plan c.args.plan.now in
     let part = has_partial_after (images_of r.event_type) in
@@ -15,11 +15,9 @@ returns-in_default-clause-ok c =
     let a = shown_bits r.columns r.after c.columns_after_image.result c.in-Some-Some.after c.columns_after_image.ensures c.in-Some-Some.is-1 in
     let first = shape_of c.fill.new.self in
     let second = shape_of c.fill-in-Some-Some.new.self in
-    ok_still c.fill-in-Some-Some.result _ _
-    (λ h. two_images p r.columns part r.before r.after b.bytes a.bytes first second b.all_are a.all_are
+    two_images p r.columns part r.before r.after b.bytes a.bytes first second b.all_are a.all_are
     (picked_shape p r.columns false false r.before c.in-Some-Some.before b (Ok first) refl c.in_default.ensures.ok)
-    (picked_shape p r.columns c.has_partial_after-is_partial.result part r.after c.in-Some-Some.after a (Ok second) partial h))
-    c.fill-in-Some-Some.ensures.ok
+    (picked_shape p r.columns c.has_partial_after-is_partial.result part r.after c.in-Some-Some.after a (Ok second) partial c.in_default-fill.ensures.ok)
 
 pub returns-in-Some-None-clause-ok : goal.returns-in-Some-None-clause-ok
 returns-in-Some-None-clause-ok c =
