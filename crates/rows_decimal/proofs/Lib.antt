@@ -18,3 +18,4 @@ pub mod PackedFrontLemmas
 pub mod Computed
 pub mod CheckLemmas
 pub mod NumberLemmas
+pub mod SideLemmas

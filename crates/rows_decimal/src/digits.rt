@@ -36,6 +36,7 @@ pub const POWERS_10: [Digit; 10] = [
 
 /// How many bytes the packed form of a decimal takes. Of its `precision` digits, `scale` stand after
 /// the point: at most all of them.
+#[inline(always)]
 pub fn decimal_bin_size(precision: usize, scale: usize) -> usize
     requires { scale ≤ precision }
     ensures { result ≡ packed_size (precision - scale) scale }
@@ -43,11 +44,23 @@ pub fn decimal_bin_size(precision: usize, scale: usize) -> usize
     side_size(precision - scale) + side_size(scale)
 }
 
+/// How many bytes fewer than 72 digits on one side of the point take: more than MySQL's decimals have.
+static SIDE_SIZES: [u8; 72] = [
+    0, 1, 1, 2, 2, 3, 3, 4, 4, 4, 5, 5, 6, 6, 7, 7, 8, 8, 8, 9, 9, 10, 10, 11, 11, 12, 12, 12, 13,
+    13, 14, 14, 15, 15, 16, 16, 16, 17, 17, 18, 18, 19, 19, 20, 20, 20, 21, 21, 22, 22, 23, 23, 24,
+    24, 24, 25, 25, 26, 26, 27, 27, 28, 28, 28, 29, 29, 30, 30, 31, 31, 32, 32,
+];
+
 /// How many bytes the digits on one side of the point take.
+#[inline(always)]
+#[tactic(auto, using(crate::proofs::SideLemmas::side_at, crate::proofs::SideLemmas::side_most))]
 pub(crate) fn side_size(digits: usize) -> usize
     ensures size { result ≡ side_size_of digits }
     ensures bound { result ≤ 4 * (digits / 9) + 4 }
 {
+    if digits < SIDE_SIZES.len() {
+        return usize::from(SIDE_SIZES[digits]);
+    }
     GROUP_BYTES * (digits / DIG_PER_DEC) + group_size(digits % DIG_PER_DEC)
 }
 
