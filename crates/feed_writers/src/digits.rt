@@ -194,6 +194,23 @@ pub fn put_places(text: &mut [u8], at: usize, count: usize, number: u32) -> usiz
     ensures end { result ≡ at + count }
     ensures text { take result text.new ≡ take at text.old ++ padded count number }
 {
+    match count {
+        2 => put_two(text, at, number),
+        4 => put_four(text, at, number),
+        _ => put_last_of_eight(text, at, count, number),
+    }
+}
+
+/// The same by the last of eight digits.
+#[inline(always)]
+fn put_last_of_eight(text: &mut [u8], at: usize, count: usize, number: u32) -> usize
+    requires some { 1 ≤ count }
+    requires few { count ≤ 8 }
+    requires small { number < 10 ^ count }
+    requires room { at + 8 ≤ length text.old }
+    ensures end { result ≡ at + count }
+    ensures text { take result text.new ≡ take at text.old ++ padded count number }
+{
     let mut digits = [b'0'; 8];
     put_eight(&mut digits, 0, number);
     put_bytes(text, at, &last_in_front(digits, count));

@@ -42,18 +42,16 @@ pub(crate) fn group_number(bytes: &[u8], negative: bool, top: bool) -> u32
 {
     let size = bytes.len();
     let packed = number_of(bytes);
-    let number = if negative {
-        LARGEST[size] - packed
-    } else {
-        packed
-    };
+    // (both are loaded whatever the signs are, so that no branch hangs on these)
+    let (largest, highest) = (LARGEST[size], TOPS[size]);
+    let number = if negative { largest - packed } else { packed };
     if !top {
         return number;
     }
-    if number >= TOPS[size] {
-        number - TOPS[size]
+    if number >= highest {
+        number - highest
     } else {
-        number + TOPS[size]
+        number + highest
     }
 }
 

@@ -6,18 +6,18 @@ use Rattle.rows_decimal.proofs.TurnLemmas.{minus_number, plus_number, high_numbe
 use Rattle.rows_decimal.proofs.group_number.group_number.Goals as goal
 use Rattle.rows_decimal.proofs.group_number.group_number.Goals.{then-negative, else-negative}
 
-pub returns-then-number-size : goal.returns-then-number-size
-returns-then-number-size c =
+pub returns-then-number-highest : goal.returns-then-number-highest
+returns-then-number-highest c =
     let bytes = c.args.bytes.now in
     let are : AreBytes bytes = λ k. omega (arith, c.type_inv.bytes k) in
     let number : c.if-negative.number ≡ big_number (length bytes) (signed c.args.negative bytes) = elim c.if-negative.branch [
       | then-negative w ↦ minus_number c.args.negative bytes c.number_of-packed.result c.if-negative.number c.requires are w.if-negative.true c.number_of-packed.ensures w.number-is
       | else-negative w ↦ plus_number c.args.negative bytes c.number_of-packed.result c.if-negative.number w.if-negative.false c.number_of-packed.ensures w.number-is
     ] in
-    high_number c.args.negative c.args.top bytes c.if-negative.number c.requires are c.if-not-top.false number c.if-number-size.true
+    high_number c.args.negative c.args.top bytes c.if-negative.number c.requires are c.if-not-top.false number c.if-number-highest.true
 
-pub returns-else-number-size : goal.returns-else-number-size
-returns-else-number-size c =
+pub returns-else-number-highest : goal.returns-else-number-highest
+returns-else-number-highest c =
     let bytes = c.args.bytes.now in
     let are : AreBytes bytes = λ k. omega (arith, c.type_inv.bytes k) in
     let number : c.if-negative.number ≡ big_number (length bytes) (signed c.args.negative bytes) = elim c.if-negative.branch [

@@ -1,6 +1,6 @@
 use Rattle.std.proofs.Common.{◌≡◌, length, arith, rules}
 use Rattle.feed_writers.proofs.DigitLemmas.{front_counts, small_digits, below_eight}
-use Rattle.feed_writers.proofs.digits.put_places.Goals as goal
+use Rattle.feed_writers.proofs.digits.put_last_of_eight.Goals as goal
 
 pub put_eight-requires-clause-small : goal.put_eight-requires-clause-small
 put_eight-requires-clause-small c = below_eight c.args.number c.args.count c.requires.few c.requires.small
