@@ -1,5 +1,5 @@
 -- From a vector's mask to bytes that stand for themselves. A mask that is computed lane by lane is held to a test of each of the 256 bytes.
-use Rattle.std.proofs.Common.{◌≡◌, ℕ, zero, suc, ◌+◌, ◌-◌, ◌%◌, ◌^◌, ◌<◌, ◌≤◌, ltb, eqb, Bool, true, false, not, ◌&&◌, ◌==◌, ◌⊎◌, inl, inr, cond, T, List, [], ◌∷◌, length, drop, get_or, map, replicate, Fits, w8, refl, sym, ap, ap₂, ◌∙◌, subst, arith, add-one, get_or-take, not-suc-le-zero}
+use Rattle.std.proofs.Common.{◌≡◌, ℕ, zero, suc, ◌+◌, ◌-◌, ◌%◌, ◌^◌, ◌<◌, ◌≤◌, ltb, eqb, Bool, true, false, not, ◌&&◌, ◌==◌, ◌⊎◌, inl, inr, cond, T, List, [], ◌∷◌, length, take, drop, get_or, map, replicate, Fits, w8, refl, sym, ap, ap₂, ◌∙◌, subst, arith, add-one, get_or-take, not-suc-le-zero}
 use Rattle.std.proofs.lemmas.Bool.{eqb-true, cases_order}
 use Rattle.std.proofs.lemmas.Simd.{length-chunk, leading_from_mask_l, chunk-fits, zip2_splat, mask_l-mod, trailing_mask_l}
 use Rattle.std.proofs.lemmas.List.{length-map}
@@ -109,19 +109,6 @@ pub plain_from_lanes : (d : List ℕ) (n : ℕ) → n ≤ length d → n ≤ 64 
     (PlainTo d n)
 plain_from_lanes d n room few fits = on_true _ _ (λ e. plain_from_mask d n room (sym (stops_from_lanes d n room few fits) ∙ eqb-true _ 0 e))
 
--- the bytes before the first that stops
-plain_before : (d : List ℕ) (n r : ℕ) → n ≤ length d → r ≡ prefix_len (λ x. not (is_stop x)) (chunk 0 n d) → PlainTo d r
-plain_before d n r room e k q =
-    let long = length-chunk 0 n d (omega (arith, room)) in
-    let all = prefix_len-le-length (λ x. not (is_stop x)) (chunk 0 n d) in
-    ap is_plain_byte (sym (get_or-take n d k 0 (omega (arith, long, all, e, q)))) ∙ no_stop _ (prefix_len_passes (λ x. not (is_stop x)) (chunk 0 n d) k 0 (omega (arith, e, q)))
-
--- as many as lanes come before the lowest bit of their mask
-pub plain_before_stop : (d : List ℕ) (n m : ℕ) → n ≤ length d → n ≤ 64 → m ≡ mask_l (map is_stop (chunk 0 n d)) → 0 < m → PlainTo d (count_trailing_zeros 64 m)
-plain_before_stop d n m room few e some =
-    let long = length-chunk 0 n d (omega (arith, room)) in
-    plain_before d n (count_trailing_zeros 64 m) room (ap (count_trailing_zeros 64) e ∙ trailing_mask_l is_stop 64 (chunk 0 n d) (omega arith) (omega (arith, e, some)))
-
 one_up : (n : ℕ) → 1 + n ≡ suc n
 one_up n = omega arith
 
@@ -144,13 +131,34 @@ passed_more n all rest after le e room plain is len =
     let more : length (take_while is_plain_byte rest) ≡ n + length (take_while is_plain_byte after) = plain_more n rest room plain ∙ ap (λ (t : List ℕ). n + length (take_while is_plain_byte t)) (sym is) in
     omega (arith, le, e, more, len)
 
--- no lane stops
-pub plain_where_none : (d : List ℕ) (n m : ℕ) → n ≤ length d → m ≡ mask_l (map is_stop (chunk 0 n d)) → m ≡ 0 → PlainTo d n
-plain_where_none d n m room e none = plain_from_mask d n room (sym e ∙ none)
+-- as many bytes are before the first that stops as are plain
+plain_count : (d : List ℕ) → prefix_len (λ x. not (is_stop x)) d ≡ length (take_while is_plain_byte d)
+plain_count [] = refl
+plain_count (x ∷ d) = split (is_plain_byte x) refl (plain_count d)
+  where
+    split : (b : Bool) → is_plain_byte x ≡ b → prefix_len (λ y. not (is_stop y)) d ≡ length (take_while is_plain_byte d) → prefix_len (λ y. not (is_stop y)) (x ∷ d) ≡ length (take_while is_plain_byte (x ∷ d))
+    split true h e = rw (h, e, one_up (prefix_len is_plain_byte d)) (one_up _)
+    split false h e = rw h refl
 
-pub plain_where_some : (d : List ℕ) (n m : ℕ) → n ≤ length d → n ≤ 64 → m ≡ mask_l (map is_stop (chunk 0 n d)) → (m ≡ 0 → ⊥) → PlainTo d (count_trailing_zeros 64 m)
-plain_where_some d n m room few e some = plain_before_stop d n m room few e (positive m some)
+-- no lane stops
+pub count_where_none : (d : List ℕ) (n m : ℕ) → n ≤ length d → m ≡ mask_l (map is_stop (chunk 0 n d)) → m ≡ 0 → n ≡ length (take_while is_plain_byte (take n d))
+count_where_none d n m room e none =
+    sym (length-chunk 0 n d (omega (arith, room))) ∙ sym (leading_from_mask_l is_stop (chunk 0 n d) (sym e ∙ none)) ∙ plain_count (take n d)
+
+-- as many lanes come before the lowest bit of their mask
+pub count_where_some : (d : List ℕ) (n m : ℕ) → n ≤ length d → n ≤ 64 → m ≡ mask_l (map is_stop (chunk 0 n d)) → (m ≡ 0 → ⊥) → count_trailing_zeros 64 m ≡ length (take_while is_plain_byte (take n d))
+count_where_some d n m room few e some =
+    let long = length-chunk 0 n d (omega (arith, room)) in
+    ap (count_trailing_zeros 64) e ∙ trailing_mask_l is_stop 64 (chunk 0 n d) (omega arith) (omega (arith, e, positive m some)) ∙ plain_count (take n d)
   where
     positive : (k : ℕ) → (k ≡ 0 → ⊥) → 0 < k
     positive zero h = absurd (h refl)
     positive (suc k) h = omega arith
+
+-- what counts as plain is
+pub plain_counted : (d : List ℕ) (n k : ℕ) → n ≤ length d → k ≤ length (take_while is_plain_byte (take n d)) → PlainTo d k
+plain_counted d n k room le i q =
+    let counted = plain_count (take n d) in
+    let all = prefix_len-le-length (λ x. not (is_stop x)) (take n d) in
+    let long = length-chunk 0 n d (omega (arith, room)) in
+    ap is_plain_byte (sym (get_or-take n d i 0 (omega (arith, long, all, counted, le, q)))) ∙ no_stop _ (prefix_len_passes (λ x. not (is_stop x)) (take n d) i 0 (omega (arith, counted, le, q)))

@@ -1,6 +1,6 @@
 //! Bytes that stand for themselves between quotes, eight at a time.
 
-ghost use Rattle.std.specs.Prelude.{◌≡◌, ◌≤◌, length, take_while};
+ghost use Rattle.std.specs.Prelude.{◌≡◌, ◌≤◌, length, take, take_while};
 ghost use Rattle.std.specs.Bool.{OnTrue};
 ghost use Rattle.feed_writers.specs.Quoting.{is_plain_byte};
 ghost use Rattle.feed_writers.specs.PlainBytes.{PlainTo};
@@ -48,7 +48,7 @@ pub(crate) fn are_four_plain(bytes: &[u8]) -> bool
 #[inline(always)]
 pub(crate) fn sixteen_plain_len(bytes: &[u8]) -> usize
     requires { 16 ≤ length bytes.now }
-    ensures { PlainTo bytes.now result }
+    ensures { result ≡ length (take_while is_plain_byte (take 16 bytes.now)) }
 {
     let v = u8x16::from_slice(bytes);
     let stops = (v.simd_eq(u8x16::splat(b'\''))

@@ -1,6 +1,6 @@
 //! Bytes between quotes, eight at a time.
 
-ghost use Rattle.std.specs.Prelude.{◌≡◌, ◌≤◌, ◌+◌, ◌*◌, ◌++◌, IfNone, IfSome, length, take, if◌then◌else◌};
+ghost use Rattle.std.specs.Prelude.{◌≡◌, ◌≤◌, ◌<◌, ◌+◌, ◌*◌, ◌++◌, IfNone, IfSome, length, take, take_while, if◌then◌else◌};
 ghost use Rattle.std.specs.List.{flat_map};
 ghost use Rattle.feed_writers.specs.Quoting.{is_plain_byte, quoted, quoted_byte};
 
@@ -28,6 +28,7 @@ pub fn put_plain_quoted(text: &mut [u8], at: usize, bytes: &[u8], len: usize) ->
     requires sixteen { 16 ≤ length bytes.now }
     requires room { at + 18 ≤ length text.old }
     ensures none { IfNone result (text.new ≡ text.old) }
+    ensures other { IfNone result (length (take_while is_plain_byte (take 16 bytes.now)) < len) }
     ensures end { IfSome result (λ end. end ≡ at + len + 2) }
     ensures text { IfSome result (λ end. take end text.new ≡ take at text.old ++ quoted (take len bytes.now)) }
 {
