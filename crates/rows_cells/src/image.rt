@@ -148,6 +148,14 @@ impl<'p, 'a> ImageCells<'p, 'a> {
         self.rest = rest;
     }
 
+    /// How many cells are still to come.
+    #[inline(always)]
+    pub fn len(&self) -> usize
+        ensures { result ≡ cells_count self.now }
+    {
+        self.columns.len() - self.index
+    }
+
     /// The bytes behind the cells that were given.
     pub fn rest(&self) -> &'a [u8]
         ensures { result ≡ self.now.rest }
