@@ -254,7 +254,7 @@ fn few_count(number: u32) -> usize
 
 /// 1 where a number is at least another, else 0.
 #[inline(always)]
-fn is_from(number: u32, least: u32) -> usize
+pub(crate) fn is_from(number: u32, least: u32) -> usize
     ensures most { result ≤ 1 }
     ensures from { least ≤ number → result ≡ 1 }
     ensures below { number < least → result ≡ 0 }
@@ -286,32 +286,6 @@ pub fn put_number(text: &mut [u8], at: usize, number: u64) -> usize
         return put_middle(text, at, number as u32);
     }
     put_long(text, at, number)
-}
-
-/// Writes a number in decimal, as [`put_number`] does; this is for numbers that are mostly alike, as places of
-/// columns are.
-#[inline(always)]
-pub fn put_place(text: &mut [u8], at: usize, number: u32) -> usize
-    requires { at + 20 ≤ length text.old }
-    ensures end { result ≡ at + length (decimal number) }
-    ensures most { result ≤ at + 20 }
-    ensures text { take result text.new ≡ take at text.old ++ decimal number }
-{
-    if number < 1000 {
-        return put_below_thousand(text, at, number);
-    }
-    put_long_place(text, at, number)
-}
-
-/// The same of a number of four digits or more.
-#[inline(never)]
-fn put_long_place(text: &mut [u8], at: usize, number: u32) -> usize
-    requires { at + 20 ≤ length text.old }
-    ensures end { result ≡ at + length (decimal number) }
-    ensures most { result ≤ at + 20 }
-    ensures text { take result text.new ≡ take at text.old ++ decimal number }
-{
-    put_number(text, at, u64::from(number))
 }
 
 /// Writes a number of nine digits or more in decimal.

@@ -1,4 +1,4 @@
-use Rattle.std.proofs.Common.{ℕ, ◌<◌, arith, rules}
+use Rattle.std.proofs.Common.{arith, rules}
 use Rattle.feed_writers.specs.PlainBytes.{PlainTo}
 use Rattle.feed_writers.proofs.PlainLemmas.{plain_counted}
 use Rattle.feed_writers.proofs.QuotedLemmas.{plain_quoted}

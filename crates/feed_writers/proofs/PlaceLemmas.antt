@@ -1,0 +1,106 @@
+-- The table of places with `=` behind them.
+use Rattle.std.proofs.Common.{◌≡◌, ℕ, zero, suc, ◌+◌, ◌-◌, ◌*◌, ◌/◌, ◌%◌, ◌<◌, ◌≤◌, Bool, true, false, ◌&&◌, ◌⊎◌, T, eqb, List, [], ◌∷◌, ◌++◌, length, take, drop, refl, sym, ap, ap₂, ◌∙◌, subst, inl, inr, arith, eq-zero-or-pos, eqb→eq}
+use Rattle.std.proofs.lemmas.List.{drop-drop, length-drop, take-take, length-take-le}
+use Rattle.std.proofs.Math.Seq.{take-add, take-append_seam, drop-append_seam}
+use Rattle.std.specs.Fmt.{decimal}
+use Rattle.feed_writers.specs.declared.places.TheConstants.{PLACES}
+use Rattle.feed_writers.proofs.DigitLemmas.{count_two, count_three, padded_pair, decimal_two, decimal_three}
+use lib.Ieee.Fits.{and_l, and_r}
+
+-- whether two digits of a number and `=` begin the bytes
+abbrev is_two : ℕ → List ℕ → Bool
+is_two n [] = false
+is_two n (a ∷ []) = false
+is_two n (a ∷ b ∷ []) = false
+is_two n (a ∷ b ∷ c ∷ r) = eqb a (48 + n / 10) && (eqb b (48 + n % 10) && eqb c 61)
+
+-- whether three do
+abbrev is_three : ℕ → List ℕ → Bool
+is_three n [] = false
+is_three n (a ∷ r) = eqb a (48 + n / 100) && is_two (n % 100) r
+
+-- whether k numbers from n on do, each in four bytes
+abbrev each : (ℕ → List ℕ → Bool) → ℕ → ℕ → List ℕ → Bool
+each p zero n l = true
+each p (suc k) n l = p n l && each p k (suc n) (drop 4 l)
+
+each_at : (p : ℕ → List ℕ → Bool) (k n : ℕ) (l : List ℕ) → T (each p k n l) → (m : ℕ) → n ≤ m → m < n + k → T (p m (drop (4 * (m - n)) l))
+each_at p zero n l t m lo hi = absurd (omega arith)
+each_at p (suc k) n l t m lo hi =
+    elim (eq-zero-or-pos (m - n)) [
+      | inl z ↦ let e : m ≡ n = omega arith in let f : 4 * (m - n) ≡ 0 = omega arith in rw (f, e) (and_l _ (each p k (suc n) (drop 4 l)) t)
+      | inr g ↦
+          let f : 4 * (m - n) ≡ 4 + 4 * (m - suc n) = omega arith in
+          subst (λ (t : List ℕ). T (p m t)) (drop-drop (4 * (m - suc n)) 4 l ∙ ap (λ j. drop j l) (sym f)) (each_at p k (suc n) (drop 4 l) (and_r _ (each p k (suc n) (drop 4 l)) t) m (omega arith) (omega arith))
+    ]
+
+two_is : (n : ℕ) (l : List ℕ) → T (is_two n l) → take 3 l ≡ (48 + n / 10) ∷ (48 + n % 10) ∷ 61 ∷ []
+two_is n [] t = absurd t
+two_is n (a ∷ []) t = absurd t
+two_is n (a ∷ b ∷ []) t = absurd t
+two_is n (a ∷ b ∷ c ∷ r) t =
+    let u = and_r (eqb a (48 + n / 10)) _ t in
+    rw (eqb→eq a _ (and_l _ _ t), eqb→eq b _ (and_l _ (eqb c 61) u), eqb→eq c _ (and_r (eqb b (48 + n % 10)) _ u)) refl
+
+three_is : (n : ℕ) (l : List ℕ) → T (is_three n l) → take 4 l ≡ (48 + n / 100) ∷ (48 + n % 100 / 10) ∷ (48 + n % 100 % 10) ∷ 61 ∷ []
+three_is n [] t = absurd t
+three_is n (a ∷ r) t = ap₂ (λ (x : ℕ) (y : List ℕ). x ∷ y) (eqb→eq a _ (and_l _ (is_two (n % 100) r) t)) (two_is (n % 100) r (and_r (eqb a (48 + n / 100)) _ t))
+
+place_two : (n : ℕ) → 10 ≤ n → n < 100 → take 3 (drop (4 * n) PLACES) ≡ decimal n ++ 61 ∷ []
+place_two n lo hi =
+    let j : 40 + 4 * (n - 10) ≡ 4 * n = omega arith in
+    ap (λ (t : List ℕ). take 3 t) (ap (λ i. drop i PLACES) (sym j) ∙ sym (drop-drop (4 * (n - 10)) 40 PLACES))
+    ∙ two_is n _ (each_at is_two 90 10 (drop 40 PLACES) tt n lo (omega arith))
+    ∙ ap (λ (t : List ℕ). t ++ 61 ∷ []) (sym (padded_pair n hi) ∙ decimal_two n lo hi)
+
+place_three : (n : ℕ) → 100 ≤ n → n < 1000 → take 4 (drop (4 * n) PLACES) ≡ decimal n ++ 61 ∷ []
+place_three n lo hi =
+    let j : 400 + 4 * (n - 100) ≡ 4 * n = omega arith in
+    ap (λ (t : List ℕ). take 4 t) (ap (λ i. drop i PLACES) (sym j) ∙ sym (drop-drop (4 * (n - 100)) 400 PLACES))
+    ∙ three_is n _ (each_at is_three 900 100 (drop 400 PLACES) tt n lo (omega arith))
+    ∙ ap (λ (t : List ℕ). (48 + n / 100) ∷ t ++ 61 ∷ []) (sym (padded_pair (n % 100) (omega arith)))
+    ∙ ap (λ (t : List ℕ). t ++ 61 ∷ []) (decimal_three n lo hi)
+
+table_len : length PLACES ≡ 4000
+table_len = refl
+
+-- four bytes stand there
+pub four : (n : ℕ) → n < 1000 → length (take 4 (drop (4 * n) PLACES)) ≡ 4
+four n hi = length-take-le 4 (drop (4 * n) PLACES) (omega (arith, length-drop (4 * n) PLACES, table_len))
+
+-- the first j of the bytes that were written
+front_of : (at j r : ℕ) (old new piece : List ℕ) → at ≤ length old → j ≤ length piece → r ≡ at + length piece → take r new ≡ take at old ++ piece → take (at + j) new ≡ take at old ++ take j piece
+front_of at j r old new piece room le end written =
+    let front = take at old in
+    let len : length front ≡ at = length-take-le at old room in
+    sym (take-take (at + j) r new (omega (arith, le, end)))
+    ∙ ap (take (at + j)) written
+    ∙ ap (λ (i : ℕ). take (i + j) (front ++ piece)) (sym len)
+    ∙ take-add (length front) j (front ++ piece)
+    ∙ ap₂ (λ (a b : List ℕ). a ++ take j b) (take-append_seam front piece) (drop-append_seam front piece)
+
+-- the digits of a number below 1,000 and `=` were written, and after two digits a space
+pub place_written : (at r more n k : ℕ) (old new : List ℕ) → k ≡ 4 → 10 ≤ n → n < 1000 → at + 4 ≤ length old → (100 ≤ n → more ≡ 1) → (n < 100 → more ≡ 0) → r ≡ at + length (take k (drop (4 * n) PLACES))
+    → take r new ≡ take at old ++ take k (drop (4 * n) PLACES) → take (at + 3 + more) new ≡ take at old ++ (decimal n ++ 61 ∷ [])
+place_written at r more n k old new is lo hi room high low end written =
+    by_width (eq-zero-or-pos (100 - n)) (end ∙ ap (λ j. at + length (take j (drop (4 * n) PLACES))) is) (written ∙ ap (λ j. take at old ++ take j (drop (4 * n) PLACES)) is)
+  where
+    by_width : (100 - n ≡ 0) ⊎ (0 < 100 - n) → r ≡ at + length (take 4 (drop (4 * n) PLACES)) → take r new ≡ take at old ++ take 4 (drop (4 * n) PLACES) → take (at + 3 + more) new ≡ take at old ++ (decimal n ++ 61 ∷ [])
+    by_width (inl z) end written =
+        let e : at + 3 + more ≡ at + 4 = omega (arith, high (omega arith)) in
+        ap (λ i. take i new) e
+        ∙ front_of at 4 r old new _ (omega (arith, room)) (omega (arith, four n hi)) end written
+        ∙ ap (λ (t : List ℕ). take at old ++ t) (take-take 4 4 (drop (4 * n) PLACES) (omega arith) ∙ place_three n (omega arith) hi)
+    by_width (inr g) end written =
+        let e : at + 3 + more ≡ at + 3 = omega (arith, low (omega arith)) in
+        ap (λ i. take i new) e
+        ∙ front_of at 3 r old new _ (omega (arith, room)) (omega (arith, four n hi)) end written
+        ∙ ap (λ (t : List ℕ). take at old ++ t) (take-take 3 4 (drop (4 * n) PLACES) (omega arith) ∙ place_two n lo (omega arith))
+
+-- as many bytes
+pub place_len : (more n : ℕ) → 10 ≤ n → n < 1000 → (100 ≤ n → more ≡ 1) → (n < 100 → more ≡ 0) → 3 + more ≡ length (decimal n) + 1
+place_len more n lo hi high low = by_width (eq-zero-or-pos (100 - n))
+  where
+    by_width : (100 - n ≡ 0) ⊎ (0 < 100 - n) → 3 + more ≡ length (decimal n) + 1
+    by_width (inl z) = omega (arith, high (omega arith), count_three n (omega arith) hi)
+    by_width (inr g) = omega (arith, low (omega arith), count_two n lo (omega arith))
