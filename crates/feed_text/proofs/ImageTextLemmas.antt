@@ -1,5 +1,5 @@
 -- The texts of cells, one after the other.
-use Rattle.std.proofs.Common.{◌≡◌, ◌⊎◌, ◌≤◌, subst, false, true, ℕ, suc, List, [], ◌∷◌, ◌++◌, length, take, Option, Some, None, Result, Ok, Err, inl, inr, refl, sym, ap, ◌∙◌, append_assoc, arith}
+use Rattle.std.proofs.Common.{◌≡◌, ◌⊎◌, ◌≤◌, ◌+◌, ◌*◌, subst, false, true, ℕ, suc, List, [], ◌∷◌, ◌++◌, length, take, Option, Some, None, Result, Ok, Err, inl, inr, refl, sym, ap, ◌∙◌, append_assoc, arith}
 use Rattle.std.proofs.lemmas.List.{append-nil, length-take-le, take-append-le, take-take}
 use Rattle.rows_jsonb.specs.JsonbValues.{Reading, ◌>>=◌}
 use Rattle.std.proofs.Math.Seq.{take-append_seam}
@@ -93,6 +93,11 @@ front_stays old mid at end start place before one two three w le l s room = reco
 -- nothing was written yet
 pub none_written : (c : ImageCells) (at : ℕ) (before : List ℕ) → at ≤ length before → WritesFields c c at before before at
 none_written c at before le = record { text = []; gives = none_given c; within = le; written = sym (append-nil (take at before)) }
+
+-- the text of some cells was written, and there is room for the others
+pub record WritesWithRoom (old left : ImageCells) (at : ℕ) (before after : List ℕ) (end : ℕ) : Type 0 where
+  pub writes : WritesFields old left at before after end
+  pub room : end + 98 * cells_count left ≤ length after
 
 -- nothing was appended yet
 pub none_appended : (c : ImageCells) (before : List ℕ) → AppendsFields c c before before

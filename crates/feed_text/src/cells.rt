@@ -97,8 +97,7 @@ pub(crate) fn put_label(text: &mut [u8], at: usize, place: u32) -> usize
     ensures text { take result text.new ≡ take at text.old ++ label place }
 {
     let end = put_byte(text, at, b' ');
-    let end = put_place(text, end, place);
-    put_byte(text, end, b'=')
+    put_place(text, end, place)
 }
 
 /// Appends a label, or nothing.

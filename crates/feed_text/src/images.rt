@@ -12,8 +12,11 @@ use rows_cells::ImageCells;
 use rows_values::RowsError;
 use std::alloc::{Allocator, Global};
 
-/// Writes the text of cells, as long as each is short and there is room; answers where it ends, and the cells
-/// that are left.
+/// The most bytes of a label and a short text.
+const FIELD: usize = LABEL + SHORT;
+
+/// Writes the text of cells, as long as each is short; answers where it ends, and the cells that are left. Where there
+/// isn't room for so many short texts, none is written.
 fn put_fields<'p, 'a>(
     text: &mut [u8],
     at: usize,
@@ -22,12 +25,12 @@ fn put_fields<'p, 'a>(
     requires { at ≤ length text.old }
     ensures { WritesFields cells.entry result.1 at text.old text.new result.0 }
 {
+    if (text.len() - at) / FIELD < cells.len() {
+        return (at, cells);
+    }
     let mut end = at;
     let mut left = cells;
-    while text.len() - end >= LABEL + SHORT {
-        let Some(field) = left.next_field() else {
-            break;
-        };
+    while let Some(field) = left.next_field() {
         let start = put_label(text, end, field.place);
         let Some((after, rest)) = put_field(text, start, field) else {
             break;
@@ -90,11 +93,13 @@ impl<A: Allocator> TextBuffer<A> {
         }
     }
 
-    /// Appends the texts of cells, as long as each is short and there is room; answers the cells that are left.
+    /// Appends the texts of cells, as long as each is short; answers the cells that are left. Room for all of them is
+    /// asked for once; where it is refused, none is appended, and the caller asks for each cell's room.
     #[inline(always)]
     fn put_short_cells<'p, 'a>(&mut self, cells: ImageCells<'p, 'a>) -> ImageCells<'p, 'a>
         ensures { AppendsFields cells.entry result (text_in self.old) (text_in self.new) }
     {
+        let _asked = self.reserve(cells.len().saturating_mul(FIELD));
         let (end, left) = put_fields(self.bytes.as_mut_slice(), self.len, cells);
         self.len = end;
         left
