@@ -1,7 +1,8 @@
 -- Numbers as text, by pairs of digits, and how many digits they have.
-use Rattle.std.proofs.Common.{◌≡◌, ℕ, zero, suc, ◌+◌, ◌-◌, ◌*◌, ◌/◌, ◌%◌, ◌^◌, ◌<◌, ◌≤◌, Bool, true, false, ◌&&◌, T, eqb, List, [], ◌∷◌, ◌++◌, length, take, drop, get_or, replicate, refl, sym, ap, ap₂, ◌∙◌, inl, inr, arith, eq-zero-or-pos, eqb→eq, append_assoc, length-append}
-use Rattle.std.specs.Prelude.{nat_lt}
-use Rattle.std.proofs.lemmas.Bool.{ltb-true, ltb-false}
+use Rattle.std.proofs.Common.{◌≡◌, ℕ, zero, suc, ◌+◌, ◌-◌, ◌*◌, ◌/◌, ◌%◌, ◌^◌, ◌<◌, ◌≤◌, Bool, true, false, ◌&&◌, T, eqb, List, [], ◌∷◌, ◌++◌, length, take, drop, get_or, min, replicate, refl, sym, ap, ap₂, ◌∙◌, inl, inr, arith, eq-zero-or-pos, eqb→eq, append_assoc, length-append}
+use Rattle.std.specs.Prelude.{◌==◌, nat_lt, take_while}
+use Rattle.std.specs.List.{prefix_len}
+use Rattle.std.proofs.lemmas.Bool.{ne_eqb, ltb-true, ltb-false}
 use Rattle.std.proofs.lemmas.Fmt.{decimal_digit, decimal_step, length-decimal-le}
 use Rattle.std.proofs.lemmas.Bool.Decides.{leb_tells}
 use Rattle.std.proofs.lemmas.List.{replicate_more, take-take, length-take-le}
@@ -190,44 +191,63 @@ pushed_then base b c mid new a first second e = joined_is base (a ∷ []) b c mi
 
 -- ---- eight digits at once
 
--- 1 where n is at least k, else 0
-pub record IsFrom (n k r : ℕ) : Type 0 where
-  pub from : k ≤ n → r ≡ 1
-  pub below : n < k → r ≡ 0
-
--- one digit, and one more for each power of ten that is passed
-pub count_sum : (n a b c : ℕ) → n < 10000 → IsFrom n 10 a → IsFrom n 100 b → IsFrom n 1000 c → 1 + a + b + c ≡ length (decimal n)
-count_sum n a b c h ia ib ic =
-    elim (leb_tells 10 n) [
-      | inr t ↦ omega (arith, count_one n t.1, ia.below t.1, ib.below (omega arith), ic.below (omega arith))
-      | inl s ↦ elim (leb_tells 100 n) [
-        | inr t ↦ omega (arith, count_two n s.1 t.1, ia.from s.1, ib.below t.1, ic.below (omega arith))
-        | inl s2 ↦ elim (leb_tells 1000 n) [
-          | inr t ↦ omega (arith, count_three n s2.1 t.1, ia.from s.1, ib.from s2.1, ic.below t.1)
-          | inl s3 ↦ omega (arith, count_four n s3.1 h, ia.from s.1, ib.from s2.1, ic.from s3.1)
-        ]
-      ]
-    ]
-
--- a number of five digits or more, by those in front of its last four
-pub long_counted : (n few : ℕ) (r : ℕ × ℕ) → r ≡ (n / 10000, 4) → few ≡ length (decimal r.0) → 10000 ≤ n → n < 2 ^ 32 → r.1 + few ≡ length (decimal n)
-long_counted n few r e h lo hi =
-    let four : r.1 ≡ 4 = ap (λ (p : ℕ × ℕ). p.1) e in
-    let front : few ≡ length (decimal (n / 10000)) = h ∙ ap (λ (p : ℕ × ℕ). length (decimal p.0)) e in
-    omega (arith, four, front, count_more n lo (omega (arith, hi)))
-
-pub short_counted : (n few : ℕ) (r : ℕ × ℕ) → r ≡ (n, 0) → few ≡ length (decimal r.0) → r.1 + few ≡ length (decimal n)
-short_counted n few r e h =
-    let none : r.1 ≡ 0 = ap (λ (p : ℕ × ℕ). p.1) e in
-    let all : few ≡ length (decimal n) = h ∙ ap (λ (p : ℕ × ℕ). length (decimal p.0)) e in
-    omega (arith, none, all)
-
 eight_padded : (n : ℕ) → n < 2 ^ 64 → padded 4 (n / 10000) ++ padded 4 (n % 10000) ≡ padded 8 n
 eight_padded n h =
     let a : n / 100 / 100 ≡ n / 10000 = omega arith in
     let b : n / 100 % 100 ≡ n % 10000 / 100 = omega arith in
     let c : n % 100 ≡ n % 10000 % 100 = omega arith in
     sym (rw (padded_two_more 5 n h, padded_two_more 3 (n / 100) (omega (arith, h)), padded_two_more 1 (n % 10000) (omega arith), append_assoc, a, b, ← c) refl)
+
+-- the first digit isn't 0
+record Starts (l : List ℕ) : Type 0 where
+  x : ℕ
+  r : List ℕ
+  is : l ≡ x ∷ r
+  digit : 48 < x
+
+digit_behind : (all front r : List ℕ) (x d : ℕ) → all ≡ front ++ d ∷ [] → front ≡ x ∷ r → all ≡ x ∷ (r ++ d ∷ [])
+digit_behind all front r x d last first = last ∙ ap (λ (t : List ℕ). t ++ d ∷ []) first
+
+starts : (k n : ℕ) → length (decimal n) ≤ k → 1 ≤ n → n < 2 ^ 64 → Starts (decimal n)
+starts zero n few some h =
+    elim (leb_tells 10 n) [
+      | inr t ↦ absurd (omega (arith, count_one n t.1, few))
+      | inl s ↦ absurd (omega (arith, longer n s.1 h, few))
+    ]
+starts (suc k) n few some h =
+    elim (leb_tells 10 n) [
+      | inr t ↦ record { x = 48 + n; r = []; is = decimal_digit n t.1; digit = omega arith }
+      | inl s ↦
+          let w = starts k (n / 10) (omega (arith, longer n s.1 h, few)) (omega (arith, s.1)) (omega (arith, h)) in
+          record { x = w.x; r = w.r ++ (48 + n % 10) ∷ []; is = digit_behind (decimal n) (decimal (n / 10)) w.r w.x (48 + n % 10) (decimal_step n s.1 h) w.is; digit = w.digit }
+    ]
+
+one_zero_more : (l : List ℕ) → length (take_while (λ d. d == 48) (48 ∷ l)) ≡ suc (length (take_while (λ d. d == 48) l))
+one_zero_more l = let e : 1 + prefix_len (λ d. d == 48) l ≡ suc (prefix_len (λ d. d == 48) l) = omega arith in rw e refl
+
+zeros_then : (j x : ℕ) (r : List ℕ) → 48 < x → length (take_while (λ d. d == 48) (replicate j 48 ++ x ∷ r)) ≡ j
+zeros_then zero x r h = let no : (x == 48) ≡ false = ne_eqb x 48 (λ e. omega (arith, h, e)) in rw no refl
+zeros_then (suc j) x r h = one_zero_more (replicate j 48 ++ x ∷ r) ∙ ap suc (zeros_then j x r h)
+
+-- so many digits are left behind the zeros in front of eight, of a number that isn't 0; and one of 0
+pub middle_counted : (n z m end : ℕ) (digits : List ℕ) → n < 100000000 → length digits ≡ 8 → end ≡ 8 → take end digits ≡ padded 4 (n / 10000) ++ padded 4 (n % 10000) → z ≡ length (take_while (λ d. d == 48) digits) → m ≡ min z 7
+    → 8 - m ≡ length (decimal n)
+middle_counted n z m end digits small size e8 are counted least =
+    let is = sym (take-length digits) ∙ ap (λ (j : ℕ). take j digits) (size ∙ sym e8) ∙ are in
+    let eight : digits ≡ replicate (8 - length (decimal n)) 48 ++ decimal n = is ∙ eight_padded n (omega (arith, small)) ∙ padded_of 8 n in
+    elim (leb_tells 1 n) [
+      | inr t ↦
+          let none : n ≡ 0 = omega (arith, t.1) in
+          let all : digits ≡ replicate 8 48 = eight ∙ ap (λ k. replicate (8 - length (decimal k)) 48 ++ decimal k) none ∙ rw (decimal_digit 0 (omega arith)) refl in
+          let zeros : z ≡ 8 = counted ∙ ap (λ (l : List ℕ). length (take_while (λ d. d == 48) l)) {y = replicate 8 48} all in
+          omega (arith, least, zeros, none, count_one n (omega arith))
+      | inl s ↦
+          let w = starts (length (decimal n)) n (omega arith) s.1 (omega (arith, small)) in
+          let few : length (decimal n) ≤ 8 = length-decimal-le 8 n (omega (arith, small)) (omega (arith, small)) (omega (arith, small)) in
+          let zeros : z ≡ 8 - length (decimal n) = counted ∙ ap (λ (l : List ℕ). length (take_while (λ d. d == 48) l)) (eight ∙ ap (λ (t : List ℕ). replicate (8 - length (decimal n)) 48 ++ t) w.is) ∙ zeros_then (8 - length (decimal n)) w.x w.r w.digit in
+          let some : length (decimal n) ≡ suc (length w.r) = ap length w.is in
+          omega (arith, least, zeros, few, some)
+    ]
 
 -- ---- a number's lowest bytes
 

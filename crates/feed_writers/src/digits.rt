@@ -1,10 +1,11 @@
 //! Bytes and numbers in decimal.
 
-ghost use Rattle.std.specs.Prelude.{◌≡◌, ◌≤◌, ◌<◌, ◌^◌, ◌+◌, ◌-◌, ◌/◌, ◌%◌, ◌++◌, ◌∷◌, [], length, take, drop};
+ghost use Rattle.std.specs.Prelude.{◌≡◌, ◌≤◌, ◌<◌, ◌^◌, ◌+◌, ◌-◌, ◌/◌, ◌%◌, ◌==◌, ◌++◌, ◌∷◌, [], length, take, take_while, drop};
 ghost use Rattle.std.specs.Fmt.{decimal, signed_decimal};
 ghost use Rattle.rows_values.specs.TimeTexts.{padded};
 
 use itoa::write_digits;
+use std::simd::prelude::*;
 
 /// The two digits of each number below 100.
 static PAIRS: [u8; 200] =
@@ -177,11 +178,24 @@ fn put_middle(text: &mut [u8], at: usize, number: u32) -> usize
     ensures most { result ≤ at + 8 }
     ensures text { take result text.new ≡ take at text.old ++ decimal number }
 {
-    let count = middle_count(number);
     let mut digits = [b'0'; 8];
     put_eight(&mut digits, 0, number);
+    let count = 8 - zeros_in_front(&digits).min(7);
     put_bytes(text, at, &last_in_front(digits, count));
     at + count
+}
+
+/// How many zeros stand before the first of eight digits that isn't one.
+#[inline(always)]
+fn zeros_in_front(digits: &[u8; 8]) -> usize
+    ensures { result ≡ length (take_while (λ d. d == 48) digits.now) }
+{
+    let others = u8x8::from_slice(digits).simd_ne(u8x8::splat(b'0'));
+    let mask = others.to_bitmask();
+    if mask == 0 {
+        return 8;
+    }
+    mask.trailing_zeros() as usize
 }
 
 /// Writes a number in so many digits, eight at most.
@@ -226,30 +240,6 @@ fn last_in_front(bytes: [u8; 8], count: usize) -> [u8; 8]
 {
     let shifted = u64::from_le_bytes(bytes) >> (64 - 8 * count);
     shifted.to_le_bytes()
-}
-
-/// How many digits a number below 100,000,000 has.
-#[inline(always)]
-fn middle_count(number: u32) -> usize
-    requires { number < 100000000 }
-    ensures value { result ≡ length (decimal number) }
-    ensures low { 1 ≤ result }
-    ensures high { result ≤ 8 }
-{
-    let front = number / 10_000;
-    let (counted, behind) = if front > 0 { (front, 4) } else { (number, 0) };
-    behind + few_count(counted)
-}
-
-/// How many digits a number below 10,000 has, without a branch.
-#[inline(always)]
-fn few_count(number: u32) -> usize
-    requires { number < 10000 }
-    ensures value { result ≡ length (decimal number) }
-    ensures low { 1 ≤ result }
-    ensures high { result ≤ 4 }
-{
-    1 + is_from(number, 10) + is_from(number, 100) + is_from(number, 1000)
 }
 
 /// 1 where a number is at least another, else 0.
