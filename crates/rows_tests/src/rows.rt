@@ -337,7 +337,7 @@ fn nulls(columns: &[ImageColumn], bytes: &[u8]) -> Result<(usize, usize), RowsEr
     };
     let mut cells = ImageCells::of(plan, bytes)?;
     let mut count = 0usize;
-    for _ in 0..columns.len() {
+    for _ in 0..cells.len() {
         if let Some((_, CellRef::Null)) = cells.next_cell()? {
             count = count.wrapping_add(1);
         }
