@@ -1,6 +1,6 @@
 -- The table of places with `=` behind them.
-use Rattle.std.proofs.Common.{◌≡◌, ℕ, zero, suc, ◌+◌, ◌-◌, ◌*◌, ◌/◌, ◌%◌, ◌<◌, ◌≤◌, Bool, true, false, ◌&&◌, ◌⊎◌, T, eqb, List, [], ◌∷◌, ◌++◌, length, take, drop, refl, sym, ap, ap₂, ◌∙◌, subst, inl, inr, arith, eq-zero-or-pos, eqb→eq}
-use Rattle.std.proofs.lemmas.List.{drop-drop, length-drop, take-take, length-take-le}
+use Rattle.std.proofs.Common.{◌≡◌, ℕ, zero, suc, ◌+◌, ◌-◌, ◌*◌, ◌/◌, ◌%◌, ◌<◌, ◌≤◌, Bool, true, false, ◌&&◌, ◌⊎◌, T, eqb, List, [], ◌∷◌, ◌++◌, length, take, drop, get_or, append_assoc, refl, sym, ap, ap₂, ◌∙◌, subst, inl, inr, arith, eq-zero-or-pos, eqb→eq}
+use Rattle.std.proofs.lemmas.List.{drop-drop, take-take, length-take-le}
 use Rattle.std.proofs.Math.Seq.{take-add, take-append_seam, drop-append_seam}
 use Rattle.std.specs.Fmt.{decimal}
 use Rattle.feed_writers.specs.declared.places.TheConstants.{PLACES}
@@ -64,10 +64,6 @@ place_three n lo hi =
 table_len : length PLACES ≡ 4000
 table_len = refl
 
--- four bytes stand there
-pub four : (n : ℕ) → n < 1000 → length (take 4 (drop (4 * n) PLACES)) ≡ 4
-four n hi = length-take-le 4 (drop (4 * n) PLACES) (omega (arith, length-drop (4 * n) PLACES, table_len))
-
 -- the first j of the bytes that were written
 front_of : (at j r : ℕ) (old new piece : List ℕ) → at ≤ length old → j ≤ length piece → r ≡ at + length piece → take r new ≡ take at old ++ piece → take (at + j) new ≡ take at old ++ take j piece
 front_of at j r old new piece room le end written =
@@ -79,23 +75,50 @@ front_of at j r old new piece room le end written =
     ∙ take-add (length front) j (front ++ piece)
     ∙ ap₂ (λ (a b : List ℕ). a ++ take j b) (take-append_seam front piece) (drop-append_seam front piece)
 
+-- the bytes that stand there
+four_at : (k : ℕ) (l : List ℕ) → k + 4 ≤ length l → take 4 (drop k l) ≡ get_or l k 0 ∷ get_or l (k + 1) 0 ∷ get_or l (k + 2) 0 ∷ get_or l (k + 3) 0 ∷ []
+four_at zero [] room = absurd (omega arith)
+four_at zero (a ∷ []) room = absurd (omega arith)
+four_at zero (a ∷ b ∷ []) room = absurd (omega arith)
+four_at zero (a ∷ b ∷ c ∷ []) room = absurd (omega arith)
+four_at zero (a ∷ b ∷ c ∷ d ∷ l) room = refl
+four_at (suc k) [] room = absurd (omega arith)
+four_at (suc k) (x ∷ l) room =
+    let one : suc k + 1 ≡ suc (k + 1) = omega arith in
+    let two : suc k + 2 ≡ suc (k + 2) = omega arith in
+    let three : suc k + 3 ≡ suc (k + 3) = omega arith in
+    rw (one, two, three) (four_at k l (omega (arith, room)))
+
+-- four bytes, one after the other
+pub four_pushed : (base one two three new : List ℕ) (a b c d : ℕ) → one ≡ base ++ a ∷ [] → two ≡ one ++ b ∷ [] → three ≡ two ++ c ∷ [] → new ≡ three ++ d ∷ [] → new ≡ base ++ a ∷ b ∷ c ∷ d ∷ []
+four_pushed base one two three new a b c d first second third fourth =
+    fourth
+    ∙ ap (λ (t : List ℕ). t ++ d ∷ []) (third ∙ ap (λ (t : List ℕ). t ++ c ∷ []) (second ∙ ap (λ (t : List ℕ). t ++ b ∷ []) first))
+    ∙ simp append_assoc
+
 -- the digits of a number below 1,000 and `=` were written, and after two digits a space
-pub place_written : (at r more n k : ℕ) (old new : List ℕ) → k ≡ 4 → 10 ≤ n → n < 1000 → at + 4 ≤ length old → (100 ≤ n → more ≡ 1) → (n < 100 → more ≡ 0) → r ≡ at + length (take k (drop (4 * n) PLACES))
-    → take r new ≡ take at old ++ take k (drop (4 * n) PLACES) → take (at + 3 + more) new ≡ take at old ++ (decimal n ++ 61 ∷ [])
-place_written at r more n k old new is lo hi room high low end written =
-    by_width (eq-zero-or-pos (100 - n)) (end ∙ ap (λ j. at + length (take j (drop (4 * n) PLACES))) is) (written ∙ ap (λ j. take at old ++ take j (drop (4 * n) PLACES)) is)
+pub place_written : (at r more n : ℕ) (old new piece : List ℕ) → 10 ≤ n → n < 1000 → at + 4 ≤ length old → (100 ≤ n → more ≡ 1) → (n < 100 → more ≡ 0) → r ≡ at + 4
+    → piece ≡ get_or PLACES (4 * n) 0 ∷ get_or PLACES (4 * n + 1) 0 ∷ get_or PLACES (4 * n + 2) 0 ∷ get_or PLACES (4 * n + 3) 0 ∷ []
+    → take r new ≡ take at old ++ piece → take (at + 3 + more) new ≡ take at old ++ (decimal n ++ 61 ∷ [])
+place_written at r more n old new piece lo hi room high low end are written = by_width (eq-zero-or-pos (100 - n))
   where
-    by_width : (100 - n ≡ 0) ⊎ (0 < 100 - n) → r ≡ at + length (take 4 (drop (4 * n) PLACES)) → take r new ≡ take at old ++ take 4 (drop (4 * n) PLACES) → take (at + 3 + more) new ≡ take at old ++ (decimal n ++ 61 ∷ [])
-    by_width (inl z) end written =
+    is : piece ≡ take 4 (drop (4 * n) PLACES)
+    is = are ∙ sym (four_at (4 * n) PLACES (omega (arith, hi, table_len)))
+
+    size : length piece ≡ 4
+    size = ap length are
+
+    by_width : (100 - n ≡ 0) ⊎ (0 < 100 - n) → take (at + 3 + more) new ≡ take at old ++ (decimal n ++ 61 ∷ [])
+    by_width (inl z) =
         let e : at + 3 + more ≡ at + 4 = omega (arith, high (omega arith)) in
         ap (λ i. take i new) e
-        ∙ front_of at 4 r old new _ (omega (arith, room)) (omega (arith, four n hi)) end written
-        ∙ ap (λ (t : List ℕ). take at old ++ t) (take-take 4 4 (drop (4 * n) PLACES) (omega arith) ∙ place_three n (omega arith) hi)
-    by_width (inr g) end written =
+        ∙ front_of at 4 r old new piece (omega (arith, room)) (omega (arith, size)) (omega (arith, end, size)) written
+        ∙ ap (λ (t : List ℕ). take at old ++ t) (ap (take 4) is ∙ take-take 4 4 (drop (4 * n) PLACES) (omega arith) ∙ place_three n (omega arith) hi)
+    by_width (inr g) =
         let e : at + 3 + more ≡ at + 3 = omega (arith, low (omega arith)) in
         ap (λ i. take i new) e
-        ∙ front_of at 3 r old new _ (omega (arith, room)) (omega (arith, four n hi)) end written
-        ∙ ap (λ (t : List ℕ). take at old ++ t) (take-take 3 4 (drop (4 * n) PLACES) (omega arith) ∙ place_two n lo (omega arith))
+        ∙ front_of at 3 r old new piece (omega (arith, room)) (omega (arith, size)) (omega (arith, end, size)) written
+        ∙ ap (λ (t : List ℕ). take at old ++ t) (ap (take 3) is ∙ take-take 3 4 (drop (4 * n) PLACES) (omega arith) ∙ place_two n lo (omega arith))
 
 -- as many bytes
 pub place_len : (more n : ℕ) → 10 ≤ n → n < 1000 → (100 ≤ n → more ≡ 1) → (n < 100 → more ≡ 0) → 3 + more ≡ length (decimal n) + 1

@@ -3,7 +3,7 @@
 ghost use Rattle.std.specs.Prelude.{◌≡◌, ◌≤◌, ◌<◌, ◌+◌, ◌++◌, ◌∷◌, [], length, take};
 ghost use Rattle.std.specs.Fmt.{decimal};
 
-use crate::digits::{is_from, put_byte, put_bytes, put_number};
+use crate::digits::{is_from, put_byte, put_number};
 
 /// The digits of each number below 1,000 and `=`, in four bytes: where these are fewer, spaces follow.
 static PLACES: [u8; 4000] =
@@ -88,7 +88,10 @@ fn put_low_place(text: &mut [u8], at: usize, number: u32) -> usize
     ensures text { take result text.new ≡ take at text.old ++ (decimal number ++ 61 ∷ []) }
 {
     let from = 4 * number as usize;
-    put_bytes(text, at, &PLACES[from..from + 4]);
+    let end = put_byte(text, at, PLACES[from]);
+    let end = put_byte(text, end, PLACES[from + 1]);
+    let end = put_byte(text, end, PLACES[from + 2]);
+    put_byte(text, end, PLACES[from + 3]);
     at + 3 + is_from(number, 100)
 }
 
