@@ -1,9 +1,9 @@
-"""Makes binary logs of every kind, for other checks, by the makers of bench/generate and others for what these lack:
-columns of every type, updates and deletes, updates of documents in part, identifiers, and logs without a description.
+"""Makes binary logs of every kind for other checks, with the makers of bench/generate and more: columns of every type, updates
+and deletes, partial updates of JSON documents, GTIDs, and logs without a description.
 
 usage: logs.py FOLDER
 
-Writes each to a file of its name, with an underscore for each blank. As a module it has `all_logs`.
+Writes each log to a file of its name, with underscores for spaces. As a module it has `all_logs`.
 """
 import importlib.machinery
 import importlib.util
@@ -30,12 +30,12 @@ ROWS = script(ROOT / "bench/rows")
 
 
 def fixed(length):
-    """Cells of any bytes, so many."""
+    """Cells of random bytes, of this length."""
     return lambda draw: draw.randbytes(length)
 
 
 def counted(width, most):
-    """Cells of a length in so many bytes, and at most so many bytes."""
+    """Cells with a length in a number of bytes, and of at most a maximum length."""
     def cell(draw):
         data = draw.randbytes(draw.randint(0, most))
         return len(data).to_bytes(width, "little") + data
@@ -54,7 +54,7 @@ def document(draw):
     return len(data).to_bytes(4, "little") + data
 
 
-# Columns of every type: its number, its metadata and its cells. The first eight have a sign.
+# Columns of every type: number, metadata and cells. The first eight have a sign.
 COLUMNS = [
     (1, b"", fixed(1)), (2, b"", fixed(2)), (9, b"", fixed(3)), (3, b"", fixed(4)), (8, b"", fixed(8)),
     (4, b"\4", fixed(4)), (5, b"\x08", fixed(8)), (246, b"\x0e\4", decimal),
@@ -74,7 +74,7 @@ def field(number, value):
 
 
 def table_map(log, table_id, table, columns):
-    """Maps a table, with the signs, names and keys of its columns, and a character set."""
+    """A table map, with the signs, names and keys of its columns, and a character set."""
     signs = field(1, b"\x55") if columns == COLUMNS else b""
     names = b"".join(b"\2c" + bytes([97 + place]) for place in range(len(columns)))
     metadata = b"".join(column[1] for column in columns)
@@ -83,7 +83,7 @@ def table_map(log, table_id, table, columns):
 
 
 def image(draw, columns):
-    """An image of a row, some of whose cells are NULL."""
+    """An image of a row, in which some cells are NULL."""
     nulls = [draw.random() < 0.1 for _ in columns]
     bits = sum(is_null << place for place, is_null in enumerate(nulls))
     cells = b"".join(cell(draw) for (_, _, cell), is_null in zip(columns, nulls) if not is_null)
@@ -91,7 +91,7 @@ def image(draw, columns):
 
 
 def rows(log, kind, table_id, columns, images):
-    """A rows event of this type, in the old form or the new."""
+    """A rows event of this type, in version 1 or 2."""
     start = GENERATE.rows_start(table_id, len(columns))
     if kind < WRITES[0]:
         start = start[:8] + start[10:]
@@ -112,7 +112,7 @@ def changes(log):
 
 
 def partial_updates(log):
-    """Transactions that update documents in part."""
+    """Transactions with partial updates of JSON documents."""
     draw = random.Random(202)
     columns = [(3, b"", fixed(4)), (245, b"\4", document)]
     while not log.is_full():
@@ -127,7 +127,7 @@ def partial_updates(log):
 
 
 def identifiers(log):
-    """Transactions with identifiers of each form: rows and statements, committed or rolled back, and statements alone."""
+    """Transactions with GTIDs of each format: rows and statements, committed or rolled back, and statements alone."""
     draw = random.Random(203)
     columns = [(3, b"", fixed(4)), (15, b"\x28\0", counted(1, 20))]
     uuid = draw.randbytes(16)
@@ -166,7 +166,7 @@ class Undescribed(GENERATE.Log):
 
 
 def all_logs():
-    """Logs of every kind: what each is called, its bytes, and whether its events end with checksums."""
+    """Logs of every kind: the name of each, its bytes, and whether its events end with checksums."""
     one_insert = subprocess.run(["bash", ROOT / "checks/one_insert"], check=True, stdout=subprocess.PIPE).stdout
     made = [("one insert", one_insert, False)]
     makers = [

@@ -1,6 +1,6 @@
-/* Preloaded before a program: refuses its request for memory of the number REFUSE_REQUEST, counted from 1, and makes
-   the file REFUSE_MARK where it did. At the program's end it writes into the file MEMORY_COUNTS how many blocks of memory
-   were given and not taken back, a blank, and the number of all its requests. */
+/* Preloaded before a program: makes its allocation number REFUSE_REQUEST, counted from 1, fail, and creates the file
+   REFUSE_MARK if it did. At the program's end it writes into the file MEMORY_COUNTS how many blocks of memory were
+   allocated and not freed, a space, and the number of all its allocations. */
 #define _GNU_SOURCE
 #include <dlfcn.h>
 #include <fcntl.h>
@@ -25,7 +25,7 @@ static int is_refused(void) {
     return 1;
 }
 
-/* Counts a block that was given, if one was. */
+/* Counts a block that was allocated, if one was. */
 static void *given(void *block) {
     if (block) {
         blocks++;

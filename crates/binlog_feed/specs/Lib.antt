@@ -60,4 +60,4 @@ pub use Rattle.feed_text.specs.FieldText
 pub use Rattle.feed_text.specs.ImageText
 pub use Rattle.feed_writers.specs.Quoting
 pub use Rattle.feed_writers.specs.TimesOfDay
-pub use Rattle.wire_streams.specs.Watched
+pub use Rattle.wire_buf.specs.Watched

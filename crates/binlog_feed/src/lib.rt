@@ -17,4 +17,4 @@ pub use feed_runs::{Step, rehearse, rehearse_growing, rehearse_semi};
 pub use feed_serving::{Refusal, Served, serve, serve_semi};
 pub use feed_streams::{Follower, RequestError, request};
 pub use feed_text::{TextBuffer, put_cell, put_cell_ref, put_decimal, put_json, put_value, quote};
-pub use wire_streams::{MAX_READS, Watched};
+pub use wire_buf::{MAX_READS, Watched};

@@ -1,17 +1,19 @@
 //! The program `binlog-feed`: the change feed of a MySQL binary log.
 #![tactic(auto)]
 
-use binlog_feed::{
-    Follower, Served, Verdict, Watched, name_of, rehearse, report, request, serve, serve_semi,
-    status,
-};
 use crc32::crc32;
+use feed_reports::report;
+use feed_rules::{Verdict, name_of, status};
+use feed_runs::rehearse;
+use feed_serving::{Served, serve, serve_semi};
+use feed_streams::{Follower, request};
 use std::alloc::Global;
 use std::env;
 use std::fs::File;
 use std::io::{self, BufReader, BufWriter, ErrorKind, Read, Write};
 use std::process::ExitCode;
 use std::rt::{Env, Files};
+use wire_buf::Watched;
 
 /// The greatest length of a payload in bytes.
 const PACKET_LIMIT: usize = 1_073_741_824;

@@ -108,7 +108,7 @@ later : (n i x : ℕ) (xs : List ℕ) → little_from (suc i) n (x ∷ xs) ≡ l
 later zero i x xs = refl
 later (suc n) i x xs = ap (λ (y : ℕ). get_or xs i 0 + 256 * y) (later n (suc i) x xs)
 
-number_is : (n : ℕ) (xs : List ℕ) → n ≤ length xs → little_from 0 n xs ≡ number (take n xs)
+pub number_is : (n : ℕ) (xs : List ℕ) → n ≤ length xs → little_from 0 n xs ≡ number (take n xs)
 unfolding number
 number_is zero xs h = refl
 number_is (suc n) [] h = absurd (omega arith)
@@ -117,13 +117,13 @@ number_is (suc n) (x ∷ xs) h =
     let e : little_from 1 n (x ∷ xs) ≡ number (take n xs) = later n 0 x xs ∙ number_is n xs k in
     omega arith
 
-small_front : (n : ℕ) (xs : List ℕ) → ((i : ℕ) → get_or xs i 0 < 256) → (i : ℕ) → get_or (take n xs) i 0 < 256
+pub small_front : (n : ℕ) (xs : List ℕ) → ((i : ℕ) → get_or xs i 0 < 256) → (i : ℕ) → get_or (take n xs) i 0 < 256
 small_front zero xs h i = omega arith
 small_front (suc n) [] h i = omega arith
 small_front (suc n) (x ∷ xs) h zero = h 0
 small_front (suc n) (x ∷ xs) h (suc i) = small_front n xs (λ j. h (suc j)) i
 
-small_rest : (n : ℕ) (xs : List ℕ) → ((i : ℕ) → get_or xs i 0 < 256) → (i : ℕ) → get_or (drop n xs) i 0 < 256
+pub small_rest : (n : ℕ) (xs : List ℕ) → ((i : ℕ) → get_or xs i 0 < 256) → (i : ℕ) → get_or (drop n xs) i 0 < 256
 small_rest n xs h i = let P : ℕ → Type 0 = λ y. y < 256 in subst P (sym (get_or-drop n xs i 0)) (h (n + i))
 
 -- the first n bytes as one number

@@ -1,2 +1,3 @@
 pub mod Checksums
 pub mod Division
+pub mod Moves

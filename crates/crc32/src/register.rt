@@ -57,6 +57,7 @@ fn register_after_words(start: u32, bytes: &[u8]) -> u32
 }
 
 /// The register after more bytes, sixteen at a time.
+#[inline(always)]
 pub(crate) fn register_after(start: u32, bytes: &[u8]) -> u32
     ensures { result ≡ after_bytes start bytes.now }
 {

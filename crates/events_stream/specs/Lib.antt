@@ -4,6 +4,5 @@ pub mod OwnedEvents
 pub mod OwnedBodies
 pub mod EventViews
 pub mod Files
-pub mod Checksums
 pub mod WrittenEvents
 pub mod FileViews

@@ -1,13 +1,12 @@
 //! The plain bodies of events: read, made and written.
 
 use crate::written::{is_short, is_written, refusal};
-use mysql_binlog_events::{
-    BeginLoadQueryEvent, EventError, IncidentEvent, IntvarEvent, RandEvent, RotateEvent,
-    RowsQueryEvent, XidEvent, read_body,
+use events_bodies::{
+    BeginLoadQueryEvent, IncidentEvent, IntvarEvent, RandEvent, RotateEvent, RowsQueryEvent,
+    XidEvent,
 };
-use mysql_binlog_rows::{
-    IncidentType, IntvarEventType, UnknownIncidentType, UnknownIntvarEventType,
-};
+use events_frames::{EventError, read_body};
+use rows_consts::{IncidentType, IntvarEventType, UnknownIncidentType, UnknownIntvarEventType};
 use std::alloc::Global;
 use std::borrow::CowSlice;
 

@@ -1,13 +1,12 @@
 //! Format descriptions: read, made and written.
 
 use crate::worked::{DESCRIPTION, changed};
-use mysql_binlog_events::{
-    BinlogEventFooter, EventError, EventParts, EventStreamReader, FormatDescriptionEvent,
-};
-use mysql_binlog_rows::{BinlogChecksumAlg, BinlogVersion, EventType};
-use mysql_wire::{MySerialize, WireFault};
+use events_frames::{BinlogEventFooter, EventError, EventParts, FormatDescriptionEvent};
+use events_stream::EventStreamReader;
+use rows_consts::{BinlogChecksumAlg, BinlogVersion, EventType};
 use std::alloc::{AllocError, Global};
 use std::borrow::CowSlice;
+use wire_buf::{MySerialize, WireFault};
 
 /// The place of the last number of the server's version.
 const PATCH: usize = 25;
@@ -46,13 +45,17 @@ fn is_worked(alloc: Global, read: &FormatDescriptionEvent<'_>) -> bool {
         && read.len() == 57
 }
 
+/// Whether the description of server 5.6.1 is read as what it says.
+fn reads_worked(alloc: Global) -> bool {
+    match description(alloc, DESCRIPTION) {
+        Ok(read) => is_worked(alloc, &read),
+        Err(_) => false,
+    }
+}
+
 #[test]
 fn description_fields(rt: HostRuntime) {
-    let alloc = rt.alloc();
-    match description(alloc, DESCRIPTION) {
-        Ok(read) => assert!(rt; is_worked(alloc, &read)),
-        Err(_) => assert!(rt; false),
-    }
+    assert!(rt; reads_worked(rt.alloc()));
 }
 
 /// Whether the description is written as the bytes.

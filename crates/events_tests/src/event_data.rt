@@ -6,10 +6,11 @@ use crate::queries::{LOAD, QUERY};
 use crate::rows_by_type::UPDATE;
 use crate::user_vars::UNSIGNED;
 use crate::worked::{DESCRIPTION, INSERT, TABLE_MAP};
-use mysql_binlog_events::{BinlogCtx, EventData, EventError, FormatDescriptionEvent};
-use mysql_binlog_rows::{BinlogVersion, EventType};
-use mysql_wire::MySerialize;
+use events_data::EventData;
+use events_frames::{BinlogCtx, EventError, FormatDescriptionEvent};
+use rows_consts::{BinlogVersion, EventType};
 use std::alloc::Global;
+use wire_buf::MySerialize;
 
 /// The body of an event of the type, where a description says no post-header lengths.
 fn read<'a>(

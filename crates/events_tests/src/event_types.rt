@@ -1,11 +1,16 @@
 //! The types of events whose bodies have types of their own.
 
-use mysql_binlog_events::{
-    BeginLoadQueryEvent, BinlogEvent, DeleteRowsEvent, DeleteRowsEventV1, IncidentEvent,
-    IntvarEvent, PartialUpdateRowsEvent, RandEvent, RotateEvent, RowsQueryEvent, UpdateRowsEvent,
-    UpdateRowsEventV1, UserVarEvent, WriteRowsEvent, WriteRowsEventV1, XidEvent,
+use events_bodies::{
+    BeginLoadQueryEvent, IncidentEvent, IntvarEvent, RandEvent, RotateEvent, RowsQueryEvent,
+    UserVarEvent, XidEvent,
 };
-use mysql_binlog_rows::{EventType, TableMapEvent};
+use events_frames::BinlogEvent;
+use events_rows::{
+    DeleteRowsEvent, DeleteRowsEventV1, PartialUpdateRowsEvent, UpdateRowsEvent, UpdateRowsEventV1,
+    WriteRowsEvent, WriteRowsEventV1,
+};
+use rows_consts::EventType;
+use rows_meta::TableMapEvent;
 
 /// The type of the events that have such a body.
 fn type_of<'a, T: BinlogEvent<'a>>() -> EventType {

@@ -1,11 +1,9 @@
 //! Binary log files, and events that are written.
 
 use crate::worked::{BEGIN, COMMIT, DESCRIPTION, INSERT, TABLE_MAP, changed};
-use mysql_binlog_events::{
-    BinlogEventFooter, BinlogFile, BinlogFileHeader, EventError, EventParts, calc_checksum,
-    write_event,
-};
-use mysql_binlog_rows::BinlogVersion;
+use events_frames::{BinlogEventFooter, BinlogFileHeader, EventError, EventParts, calc_checksum};
+use events_stream::{BinlogFile, write_event};
+use rows_consts::BinlogVersion;
 use std::alloc::{AllocError, Global};
 
 /// The sum of the bytes, as a checksum.

@@ -1,15 +1,14 @@
 //! Which checksums a log has, and bodies that are read by what is known of their event.
 
 use crate::worked::{DESCRIPTION, TABLE_MAP};
-use mysql_binlog_events::{
+use events_frames::{
     BinlogCtx, BinlogEvent, BinlogEventFooter, BinlogEventHeader, BinlogStruct, EventError,
     FormatDescriptionEvent, read_body,
 };
-use mysql_binlog_rows::{
-    BinlogChecksumAlg, BinlogVersion, EventType, TableMapEvent, UnknownChecksumAlg,
-};
-use mysql_wire::WireFault;
+use rows_consts::{BinlogChecksumAlg, BinlogVersion, EventType, UnknownChecksumAlg};
+use rows_meta::TableMapEvent;
 use std::alloc::{AllocError, Global};
+use wire_buf::WireFault;
 
 /// Whether footers that are made say what they were made of.
 fn are_made() -> bool {

@@ -2,11 +2,11 @@
 
 use crate::devices::Trickle;
 use crate::worked::{BEGIN, COMMIT, INSERT, TABLE_MAP};
+use events_frames::{EventError, NextFrame, gather, next_frame};
 use linked_list_allocator::LocalHeap;
-use mysql_binlog_events::{EventError, NextFrame, gather, next_frame};
-use mysql_wire::Watched;
 use std::alloc::{AllocError, Global};
 use std::io::ErrorKind;
+use wire_buf::Watched;
 
 /// Whether this event stands next in the log.
 fn gives(log: &mut Watched<&[u8]>, event: &mut Vec<u8>, bytes: &[u8]) -> bool {

@@ -1,9 +1,11 @@
 //! GTID events: read, made and written.
 
-use mysql_binlog_events::{AnonymousGtidEvent, BinlogStruct, GtidEvent};
-use mysql_binlog_rows::{BinlogVersion, GtidFlags};
-use mysql_wire::{MyDeserialize, MySerialize, ParseBuf, WireFault};
+use events_frames::BinlogStruct;
+use events_gtids::{AnonymousGtidEvent, GtidEvent};
+use rows_consts::BinlogVersion;
+use rows_flags::GtidFlags;
 use std::alloc::Global;
+use wire_buf::{MyDeserialize, MySerialize, ParseBuf, WireFault};
 
 /// The uuid 01020304-0506-0708-090a-0b0c0d0e0f10.
 const SID: [u8; 16] = [1, 2, 3, 4, 5, 6, 7, 8, 9, 10, 11, 12, 13, 14, 15, 16];
@@ -51,36 +53,41 @@ fn is_full(read: &GtidEvent<'_>) -> bool {
         && read.commit_group_ticket() == 9
 }
 
+/// Whether the event without optional fields is read, and written as it was read.
+fn reads_plain(alloc: Global) -> bool {
+    match event(alloc, PLAIN) {
+        Ok(read) => {
+            read == GtidEvent::new(SID, 5)
+                && read.tx_length() == 0
+                && read.lc_typecode().is_none()
+                && is_written(alloc, &read, PLAIN)
+        }
+        Err(_) => false,
+    }
+}
+
 #[test]
 fn gtid_body(rt: HostRuntime) {
     let alloc = rt.alloc();
-    match event(alloc, PLAIN) {
-        Ok(read) => {
-            assert!(rt; read == GtidEvent::new(SID, 5));
-            assert!(rt; read.tx_length() == 0 && read.lc_typecode().is_none());
-            assert!(rt; is_written(alloc, &read, PLAIN));
-        }
-        Err(_) => assert!(rt; false),
+    assert!(rt; reads_plain(alloc) && event(alloc, &PLAIN[..24]).err() == Some(WireFault::Eof));
+}
+
+/// Whether the full event is read, and written as it was read.
+fn reads_full(alloc: Global) -> bool {
+    match event(alloc, FULL) {
+        Ok(read) => is_full(&read) && is_written(alloc, &read, FULL),
+        Err(_) => false,
     }
-    assert!(rt; event(alloc, &PLAIN[..24]) == Err(WireFault::Eof));
 }
 
 #[test]
 fn gtid_body_with_all_fields(rt: HostRuntime) {
-    let alloc = rt.alloc();
-    match event(alloc, FULL) {
-        Ok(read) => {
-            assert!(rt; is_full(&read));
-            assert!(rt; is_written(alloc, &read, FULL));
-        }
-        Err(_) => assert!(rt; false),
-    }
+    assert!(rt; reads_full(rt.alloc()));
 }
 
-#[test]
-fn gtid_made_by_setters(rt: HostRuntime) {
-    let alloc = rt.alloc();
-    let made = GtidEvent::new(SID, 5)
+/// The full event, made by setters, without the two bytes after its fields.
+fn made<'a>() -> GtidEvent<'a> {
+    GtidEvent::new(SID, 5)
         .with_flags(GtidFlags::MAY_HAVE_SBR)
         .with_commit_group_ticket(9)
         .with_original_server_version(80023)
@@ -89,43 +96,70 @@ fn gtid_made_by_setters(rt: HostRuntime) {
         .with_original_commit_timestamp(2)
         .with_immediate_commit_timestamp(3)
         .with_sequence_number(7)
-        .with_last_committed(6);
-    assert!(rt; is_full(&made));
-    assert!(rt; is_written(alloc, &made, &FULL[..75]));
-    let late = made.with_immediate_commit_timestamp(1 << 55);
+        .with_last_committed(6)
+}
+
+/// Whether the event is the full one, and is written as it.
+fn is_made(alloc: Global, made: &GtidEvent<'_>) -> bool {
+    is_full(made) && is_written(alloc, made, &FULL[..75])
+}
+
+/// Whether a commit time past 55 bits isn't written.
+fn refuses_late_commit(alloc: Global) -> bool {
+    let late = made().with_immediate_commit_timestamp(1 << 55);
     let mut out = Vec::new(alloc);
-    assert!(rt; late.serialize(&mut out) == Err(WireFault::Form));
-    assert!(rt; out.is_empty());
+    late.serialize(&mut out) == Err(WireFault::Form) && out.is_empty()
 }
 
 #[test]
-fn gtid_field_cut_off(rt: HostRuntime) {
+fn gtid_made_by_setters(rt: HostRuntime) {
     let alloc = rt.alloc();
-    // the first commit time announces a second, of which a byte is missing
-    let cut = &FULL[..55];
-    match event(alloc, cut) {
+    assert!(rt; is_made(alloc, &made()) && refuses_late_commit(alloc));
+}
+
+/// Whether the event has the commit time 3 once it is set.
+fn takes_commit_time(read: GtidEvent<'_>) -> bool {
+    let set = read.with_immediate_commit_timestamp(3);
+    set.len() == 49 && set.immediate_commit_timestamp() == 3
+}
+
+/// Whether the truncated field isn't read, is written as it was read, and is replaced by a setter.
+fn keeps_truncated(alloc: Global, bytes: &[u8]) -> bool {
+    match event(alloc, bytes) {
         Ok(read) => {
-            assert!(rt; read.sequence_number() == 7 && read.immediate_commit_timestamp() == 0);
-            assert!(rt; is_written(alloc, &read, cut));
-            let mended = read.with_immediate_commit_timestamp(3);
-            assert!(rt; mended.len() == 49 && mended.immediate_commit_timestamp() == 3);
+            read.sequence_number() == 7
+                && read.immediate_commit_timestamp() == 0
+                && is_written(alloc, &read, bytes)
+                && takes_commit_time(read)
         }
-        Err(_) => assert!(rt; false),
+        Err(_) => false,
+    }
+}
+
+// The first commit time announces a second, of which a byte is missing.
+#[test]
+fn gtid_field_cut_off(rt: HostRuntime) {
+    assert!(rt; keeps_truncated(rt.alloc(), &FULL[..55]));
+}
+
+/// Whether the event is written as the full one where it borrows nothing.
+fn is_kept(alloc: Global, read: AnonymousGtidEvent<'_>) -> bool {
+    match read.into_owned(alloc) {
+        Ok(owned) => is_written(alloc, &owned.0, FULL),
+        Err(_) => false,
+    }
+}
+
+/// Whether the full event is read as one of an anonymous transaction, and kept.
+fn reads_anonymous(alloc: Global) -> bool {
+    let mut buf = ParseBuf(FULL);
+    match AnonymousGtidEvent::deserialize(alloc, (), &mut buf) {
+        Ok(read) => is_full(&read.0) && is_kept(alloc, read),
+        Err(_) => false,
     }
 }
 
 #[test]
 fn anonymous_gtid(rt: HostRuntime) {
-    let alloc = rt.alloc();
-    let mut buf = ParseBuf(FULL);
-    match AnonymousGtidEvent::deserialize(alloc, (), &mut buf) {
-        Ok(read) => {
-            assert!(rt; is_full(&read.0));
-            match read.into_owned(alloc) {
-                Ok(owned) => assert!(rt; is_written(alloc, &owned.0, FULL)),
-                Err(_) => assert!(rt; false),
-            }
-        }
-        Err(_) => assert!(rt; false),
-    }
+    assert!(rt; reads_anonymous(rt.alloc()));
 }

@@ -1,11 +1,12 @@
 //! Headers of events, and the mark at the front of a file.
 
 use crate::devices::{NarrowWriter, Trickle};
-use mysql_binlog_events::{BinlogEventHeader, BinlogFileHeader, EventError};
-use mysql_binlog_rows::{EventFlags, EventType, UnknownEventType};
-use mysql_wire::{MySerialize, ParseBuf, WireFault};
+use events_frames::{BinlogEventHeader, BinlogFileHeader, EventError};
+use rows_consts::{EventType, UnknownEventType};
+use rows_flags::EventFlags;
 use std::alloc::Global;
 use std::io::ErrorKind;
+use wire_buf::{MySerialize, ParseBuf, WireFault};
 
 /// The header of a query event of 100 bytes.
 const HEADER: &[u8] = b"\xfd\x35\xbb\x4a\x02\x01\0\0\0\x64\0\0\0\xc6\0\0\0\0\0";

@@ -7,18 +7,23 @@ use crate::queries::{LOAD, QUERY};
 use crate::rows_by_type::UPDATE;
 use crate::user_vars::UNSIGNED;
 use crate::worked::{DESCRIPTION, INSERT, TABLE_MAP};
-use linked_list_allocator::LocalHeap;
-use mysql_binlog_events::{
-    AnonymousGtidEvent, BeginLoadQueryEvent, BinlogCtx, BinlogStruct, DeleteRowsEvent,
-    DeleteRowsEventV1, ExecuteLoadQueryEvent, FormatDescriptionEvent, GtidEvent, IncidentEvent,
-    IntvarEvent, PartialUpdateRowsEvent, QueryEvent, RandEvent, RotateEvent, RowsQueryEvent,
-    UpdateRowsEvent, UpdateRowsEventV1, UserVarEvent, WriteRowsEvent, WriteRowsEventV1, XidEvent,
-    read_struct,
+use events_bodies::{
+    BeginLoadQueryEvent, IncidentEvent, IntvarEvent, RandEvent, RotateEvent, RowsQueryEvent,
+    UserVarEvent, XidEvent,
 };
-use mysql_binlog_rows::{BinlogVersion, TableMapEvent};
-use mysql_wire::{MySerialize, WireFault};
+use events_frames::{BinlogCtx, BinlogStruct, FormatDescriptionEvent, read_struct};
+use events_gtids::{AnonymousGtidEvent, GtidEvent};
+use events_queries::{ExecuteLoadQueryEvent, QueryEvent};
+use events_rows::{
+    DeleteRowsEvent, DeleteRowsEventV1, PartialUpdateRowsEvent, UpdateRowsEvent, UpdateRowsEventV1,
+    WriteRowsEvent, WriteRowsEventV1,
+};
+use linked_list_allocator::LocalHeap;
+use rows_consts::BinlogVersion;
+use rows_meta::TableMapEvent;
 use std::alloc::Global;
 use std::borrow::CowSlice;
+use wire_buf::{MySerialize, WireFault};
 
 /// What comes of a body behind `ab` where memory is for so many bytes: the answer, how many bytes stand there then, and
 /// whether the first two are still `ab`. None where not even the two find a place.

@@ -2,14 +2,14 @@
 
 use crate::files::{added, file_with};
 use crate::worked::{BEGIN, COMMIT, DESCRIPTION, INSERT, TABLE_MAP, changed};
-use mysql_binlog_events::{
-    BinlogFile, Event, EventData, EventError, EventParts, EventStreamReader,
-    FormatDescriptionEvent, XidEvent,
-};
-use mysql_binlog_rows::{BinlogChecksumAlg, BinlogVersion};
-use mysql_wire::Watched;
+use events_bodies::XidEvent;
+use events_data::EventData;
+use events_frames::{EventError, EventParts, FormatDescriptionEvent};
+use events_stream::{BinlogFile, Event, EventStreamReader};
+use rows_consts::{BinlogChecksumAlg, BinlogVersion};
 use std::alloc::{AllocError, Global};
 use std::rc::Rc;
+use wire_buf::Watched;
 
 /// The event at the front of the bytes, by a description that says nothing.
 fn event_of(alloc: Global, bytes: &[u8]) -> Result<Event<'static>, EventError> {
@@ -17,19 +17,18 @@ fn event_of(alloc: Global, bytes: &[u8]) -> Result<Event<'static>, EventError> {
     Event::read(alloc, &fde, &mut Watched::new(bytes))
 }
 
-/// The bytes that are written for the event at the front.
-fn written(alloc: Global, bytes: &[u8]) -> Result<Vec<u8>, EventError> {
-    let event = event_of(alloc, bytes)?;
+/// Whether the event is written as these bytes.
+fn is_one_written(alloc: Global, event: &Event<'_>, bytes: &[u8]) -> bool {
     let mut output = Vec::new(alloc);
     let mut buffer = Vec::new(alloc);
-    event.write(BinlogVersion::Version4, &mut output, &mut buffer, &added)?;
-    Ok(output)
+    let answer = event.write(BinlogVersion::Version4, &mut output, &mut buffer, &added);
+    answer.is_ok() && output.as_slice() == bytes
 }
 
 /// Whether the event at the front is written as these bytes.
-fn is_written(alloc: Global, bytes: &[u8], event: &[u8]) -> bool {
-    match written(alloc, bytes) {
-        Ok(output) => output.as_slice() == event,
+fn is_written(alloc: Global, bytes: &[u8], written: &[u8]) -> bool {
+    match event_of(alloc, bytes) {
+        Ok(event) => is_one_written(alloc, &event, written),
         Err(_) => false,
     }
 }
@@ -81,26 +80,33 @@ fn is_taken_alike(
     }
 }
 
-// A description in force, an event too short for its checksum then, and an unknown algorithm.
+/// Whether two readers take a table map, a description of an unknown algorithm, one that is in force then, an event with a
+/// checksum, and one too short for it.
+fn take_alike(
+    slices: &mut EventStreamReader,
+    owned: &mut EventStreamReader,
+    unknown: &[u8],
+) -> bool {
+    is_taken_alike(slices, owned, TABLE_MAP)
+        && owned.get_tme(7).is_some()
+        && is_taken_alike(slices, owned, unknown)
+        && is_taken_alike(slices, owned, DESCRIPTION)
+        && owned.get_fde().server_version_raw() == b"5.6.1".as_slice()
+        && is_taken_alike(slices, owned, COMMIT)
+        && is_taken_alike(
+            slices,
+            owned,
+            b"\0\0\0\0\x10\x01\0\0\0\x13\0\0\0\0\0\0\0\0\0",
+        )
+}
+
 #[test]
 fn readers_take_alike(rt: HostRuntime) -> Result<(), AllocError> {
     let alloc = rt.alloc();
     let unknown = changed(alloc, DESCRIPTION, 76, 2)?;
     let mut slices = EventStreamReader::new(alloc, BinlogVersion::Version4)?;
     let mut owned = EventStreamReader::new(alloc, BinlogVersion::Version4)?;
-    assert!(rt;
-        is_taken_alike(&mut slices, &mut owned, TABLE_MAP)
-            && owned.get_tme(7).is_some()
-            && is_taken_alike(&mut slices, &mut owned, &unknown)
-            && is_taken_alike(&mut slices, &mut owned, DESCRIPTION)
-            && owned.get_fde().server_version_raw() == b"5.6.1".as_slice()
-            && is_taken_alike(&mut slices, &mut owned, COMMIT)
-            && is_taken_alike(
-                &mut slices,
-                &mut owned,
-                b"\0\0\0\0\x10\x01\0\0\0\x13\0\0\0\0\0\0\0\0\0"
-            )
-    );
+    assert!(rt; take_alike(&mut slices, &mut owned, &unknown));
     Ok(())
 }
 
@@ -117,57 +123,96 @@ fn gives_four(file: &mut BinlogFile<&[u8]>) -> bool {
     gives(file, BEGIN) && gives(file, TABLE_MAP) && gives(file, INSERT) && gives(file, COMMIT)
 }
 
+/// Whether the file gives no event next, and this fault, if any.
+fn gives_none(file: &mut BinlogFile<&[u8]>, fault: Option<EventError>) -> bool {
+    match file.next() {
+        Some(Ok(_)) => false,
+        Some(Err(given)) => fault == Some(given),
+        None => fault.is_none(),
+    }
+}
+
+/// Whether a file of four events and these bytes ends with this fault, if any, and gives nothing more.
+fn ends_with(alloc: Global, rest: &[u8], fault: Option<EventError>) -> bool {
+    let Ok(bytes) = file_with(alloc, rest) else {
+        return false;
+    };
+    match BinlogFile::new(alloc, BinlogVersion::Version4, bytes.as_slice()) {
+        Ok(mut file) => {
+            gives_four(&mut file) && gives_none(&mut file, fault) && gives_none(&mut file, None)
+        }
+        Err(_) => false,
+    }
+}
+
 // A file that ends within an event, and one with a broken header.
 #[test]
-fn file_iterators_end(rt: HostRuntime) -> Result<(), AllocError> {
+fn file_iterators_end(rt: HostRuntime) {
     let alloc = rt.alloc();
-    let cut = file_with(alloc, &COMMIT[..26])?;
-    let broken = file_with(alloc, &[0; 19])?;
-    let (Ok(mut cut), Ok(mut broken)) = (
-        BinlogFile::new(alloc, BinlogVersion::Version4, cut.as_slice()),
-        BinlogFile::new(alloc, BinlogVersion::Version4, broken.as_slice()),
-    ) else {
-        return Err(AllocError);
-    };
-    assert!(rt; gives_four(&mut cut) && cut.next().is_none() && cut.next().is_none());
     assert!(rt;
-        gives_four(&mut broken)
-            && matches!(broken.next(), Some(Err(EventError::Frame)))
-            && broken.next().is_none()
+        ends_with(alloc, &COMMIT[..26], None) && ends_with(alloc, &[0; 19], Some(EventError::Frame))
     );
-    Ok(())
 }
 
-/// The text of the query event at the front.
-fn query_of(alloc: Global, bytes: &[u8]) -> Option<Vec<u8>> {
-    let event = event_of(alloc, bytes).ok()?;
-    match event.read_data(alloc).ok()?? {
-        EventData::QueryEvent(query) => Vec::from_slice(alloc, query.query_raw()).ok(),
-        _ => None,
+/// What the tests look at in a body.
+#[derive(Clone, Copy, PartialEq)]
+enum Seen {
+    /// The query BEGIN.
+    Begin,
+    /// A description with this algorithm of checksums.
+    Description(Option<u8>),
+    /// The commit of the transaction with this number.
+    Commit(u64),
+    /// Any other body.
+    Other,
+    /// None: the event has a type that nobody knows.
+    Unknown,
+}
+
+/// What is seen in a body.
+fn seen_in(data: &EventData<'_>) -> Seen {
+    match data {
+        EventData::QueryEvent(query) if query.query_raw() == b"BEGIN".as_slice() => Seen::Begin,
+        EventData::FormatDescriptionEvent(description) => {
+            Seen::Description(description.footer().checksum_alg_raw())
+        }
+        EventData::XidEvent(commit) => Seen::Commit(commit.xid()),
+        _ => Seen::Other,
     }
 }
 
-/// The algorithm of the description at the front.
-fn algorithm_of(alloc: Global, bytes: &[u8]) -> Option<u8> {
-    let event = event_of(alloc, bytes).ok()?;
-    match event.read_data(alloc).ok()?? {
-        EventData::FormatDescriptionEvent(description) => description.footer().checksum_alg_raw(),
-        _ => None,
+/// The same of a body that is dropped then.
+fn seen_once(data: EventData<'_>) -> Seen {
+    let seen = seen_in(&data);
+    drop(data);
+    seen
+}
+
+/// What is seen in the body of the event, or why it isn't read.
+fn seen_of(alloc: Global, event: &Event<'_>) -> Result<Seen, EventError> {
+    match event.read_data(alloc) {
+        Ok(Some(data)) => Ok(seen_once(data)),
+        Ok(None) => Ok(Seen::Unknown),
+        Err(fault) => Err(fault),
     }
 }
 
-/// The transaction's number of the commit at the front.
-fn xid_of(alloc: Global, bytes: &[u8]) -> Option<u64> {
-    let event = event_of(alloc, bytes).ok()?;
-    let xid: XidEvent = event.read_event(alloc).ok()?;
-    Some(xid.xid())
-}
-
-/// Whether the event at the front has a type that nobody knows.
-fn is_unknown(alloc: Global, bytes: &[u8]) -> bool {
+/// The same of the event at the front.
+fn seen_in_bytes(alloc: Global, bytes: &[u8]) -> Result<Seen, EventError> {
     match event_of(alloc, bytes) {
-        Ok(event) => matches!(event.read_data(alloc), Ok(None)),
-        Err(_) => false,
+        Ok(event) => seen_of(alloc, &event),
+        Err(fault) => Err(fault),
+    }
+}
+
+/// The transaction's number of the commit at the front, which is read as such.
+fn xid_of(alloc: Global, bytes: &[u8]) -> Option<u64> {
+    match event_of(alloc, bytes) {
+        Ok(event) => match event.read_event::<XidEvent>(alloc) {
+            Ok(commit) => Some(commit.xid()),
+            Err(_) => None,
+        },
+        Err(_) => None,
     }
 }
 
@@ -176,25 +221,22 @@ fn bodies_by_type(rt: HostRuntime) -> Result<(), AllocError> {
     let alloc = rt.alloc();
     let unknown = changed(alloc, COMMIT, 4, 200)?;
     assert!(rt;
-        match query_of(alloc, BEGIN) {
-            Some(text) => text.as_slice() == b"BEGIN".as_slice(),
-            None => false,
-        }
-    );
-    assert!(rt;
-        algorithm_of(alloc, DESCRIPTION) == Some(1)
+        seen_in_bytes(alloc, BEGIN) == Ok(Seen::Begin)
+            && seen_in_bytes(alloc, DESCRIPTION) == Ok(Seen::Description(Some(1)))
+            && seen_in_bytes(alloc, COMMIT) == Ok(Seen::Commit(11))
             && xid_of(alloc, COMMIT) == Some(11)
-            && is_unknown(alloc, &unknown)
-            && !is_unknown(alloc, COMMIT)
+            && seen_in_bytes(alloc, &unknown) == Ok(Seen::Unknown)
     );
     Ok(())
 }
 
 /// The checksum of the event at the front under an algorithm.
 fn sum_of(alloc: Global, bytes: &[u8], alg: BinlogChecksumAlg) -> Option<u32> {
-    let event = event_of(alloc, bytes).ok()?;
     let mut buffer = Vec::new(alloc);
-    event.calc_checksum(alg, &mut buffer, &added).ok()
+    match event_of(alloc, bytes) {
+        Ok(event) => event.calc_checksum(alg, &mut buffer, &added).ok(),
+        Err(_) => None,
+    }
 }
 
 // The flag that the log is being written counts as cleared: place 17 holds 1 or 0.

@@ -1,8 +1,8 @@
 //! The parts of events.
 
 use crate::worked::{BEGIN, COMMIT, DESCRIPTION, INSERT, SIZE, TABLE_MAP, changed, shortened};
-use mysql_binlog_events::{BinlogEventFooter, EventError, EventParts};
-use mysql_binlog_rows::BinlogChecksumAlg;
+use events_frames::{BinlogEventFooter, EventError, EventParts};
+use rows_consts::BinlogChecksumAlg;
 use std::alloc::Global;
 
 /// Whether the event is cut into a header of this type and position, a body and a checksum.

@@ -1,11 +1,12 @@
 //! QUERY_EVENT and EXECUTE_LOAD_QUERY_EVENT: read, made and written.
 
 use crate::written::{is_short, is_written};
-use mysql_binlog_events::{ExecuteLoadQueryEvent, QueryEvent, read_body};
-use mysql_binlog_rows::{LoadDuplicateHandling, StatusVarKey, UnknownDuplicateHandling};
-use mysql_wire::MySerialize;
+use events_frames::read_body;
+use events_queries::{ExecuteLoadQueryEvent, QueryEvent};
+use rows_consts::{LoadDuplicateHandling, StatusVarKey, UnknownDuplicateHandling};
 use std::alloc::Global;
 use std::borrow::CowSlice;
+use wire_buf::MySerialize;
 
 /// `drop table t` in the schema `test`, which the thread 9 ran in 1 second with the error 1051, with its options and
 /// its character sets.

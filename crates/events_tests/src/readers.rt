@@ -1,8 +1,9 @@
 //! Readers of a log's events: the description in force, and table maps.
 
 use crate::worked::{BEGIN, DESCRIPTION, TABLE_MAP, changed};
-use mysql_binlog_events::{EventError, EventStreamReader};
-use mysql_binlog_rows::BinlogVersion;
+use events_frames::EventError;
+use events_stream::EventStreamReader;
+use rows_consts::BinlogVersion;
 use std::alloc::{AllocError, Global};
 
 /// A rotate to the byte 0 of a file without a name.

@@ -1,15 +1,14 @@
 //! Rows events by their types.
 
 use crate::worked::{INSERT, TABLE_MAP, changed};
-use mysql_binlog_events::{
-    BinlogCtx, BinlogStruct, EventError, FormatDescriptionEvent, RowsEventData, WriteRowsEvent,
-    read_struct,
-};
-use mysql_binlog_rows::{
-    BinlogRow, BinlogVersion, EventType, RowsEventRows, RowsEventType, TableMapEvent,
-};
-use mysql_wire::MySerialize;
+use events_frames::{BinlogCtx, BinlogStruct, EventError, FormatDescriptionEvent, read_struct};
+use events_rows::{RowsEventData, WriteRowsEvent};
+use rows_consts::{BinlogVersion, EventType};
+use rows_events::{RowsEventRows, RowsEventType};
+use rows_images::BinlogRow;
+use rows_meta::TableMapEvent;
 use std::alloc::{AllocError, Global};
+use wire_buf::MySerialize;
 
 /// Table 7, the flag of a statement's end and no extra data; two columns, of which the image before the change has the
 /// first and the one after it both.

@@ -1,18 +1,27 @@
 //! Status variables: each key's value, and how a block of them ends.
 
-use mysql_binlog_events::{StatusVar, StatusVarVal, StatusVars, StatusVarsIterator};
-use mysql_binlog_rows::StatusVarKey as Key;
-use mysql_wire::{MySerialize, ParseBuf, RawBytes, RawFlags, Seq};
+use events_queries::{StatusVar, StatusVarVal, StatusVars, StatusVarsIterator};
+use rows_consts::StatusVarKey as Key;
 use std::alloc::Global;
 use std::borrow::CowSlice;
+use wire_buf::{MySerialize, ParseBuf};
+use wire_forms::{RawBytes, RawFlags};
+use wire_seqs::Seq;
 
 /// The options 0, the character sets 33, 33 and 8, and a key that is never written.
 const BLOCK: &[u8] = b"\0\0\0\0\0\x04\x21\0\x21\0\x08\0\x0e\0";
 
+/// Whether a value that is dropped then is the same as this one.
+fn is_same(given: StatusVarVal<'_>, value: &StatusVarVal<'_>) -> bool {
+    let is_same = given == *value;
+    drop(given);
+    is_same
+}
+
 /// Whether the variable says this value.
 fn is_value(alloc: Global, var: &StatusVar<'_>, value: &StatusVarVal<'_>) -> bool {
     match var.get_value(alloc) {
-        Ok(given) => given == *value,
+        Ok(given) => is_same(given, value),
         Err(_) => false,
     }
 }
@@ -31,7 +40,9 @@ fn is_first(alloc: Global, block: &[u8], key: Key, value: &StatusVarVal<'_>) -> 
 
 /// Whether the block says this value of its one variable, which has the key.
 fn says(alloc: Global, block: &[u8], key: Key, value: StatusVarVal<'_>) -> bool {
-    is_first(alloc, block, key, &value)
+    let is_first = is_first(alloc, block, key, &value);
+    drop(value);
+    is_first
 }
 
 /// Whether the next variable has this key and these bytes.
@@ -98,26 +109,31 @@ fn options_and_mode(rt: HostRuntime) {
 #[test]
 fn counters_and_character_sets(rt: HostRuntime) {
     let alloc = rt.alloc();
-    let counter = StatusVarVal::AutoIncrement {
-        increment: 10,
-        offset: 258,
-    };
-    let charset = StatusVarVal::Charset {
-        charset_client: 33,
-        collation_connection: 255,
-        collation_server: 8,
-    };
-    assert!(rt; says(alloc, b"\x03\x0a\0\x02\x01", Key::AutoIncrement, counter));
-    assert!(rt; says(alloc, b"\x04\x21\0\xff\0\x08\0", Key::Charset, charset));
+    assert!(rt;
+        says(
+            alloc,
+            b"\x03\x0a\0\x02\x01",
+            Key::AutoIncrement,
+            StatusVarVal::AutoIncrement {
+                increment: 10,
+                offset: 258,
+            }
+        ) && says(
+            alloc,
+            b"\x04\x21\0\xff\0\x08\0",
+            Key::Charset,
+            StatusVarVal::Charset {
+                charset_client: 33,
+                collation_connection: 255,
+                collation_server: 8,
+            }
+        )
+    );
 }
 
 #[test]
 fn texts(rt: HostRuntime) {
     let alloc = rt.alloc();
-    let invoker = StatusVarVal::Invoker {
-        username: b"root",
-        hostname: b"localhost",
-    };
     assert!(rt;
         says(
             alloc,
@@ -134,7 +150,15 @@ fn texts(rt: HostRuntime) {
             b"\x06\x03std",
             Key::CatalogNz,
             StatusVarVal::CatalogNz(b"std")
-        ) && says(alloc, b"\x0b\x04root\x09localhost", Key::Invoker, invoker)
+        ) && says(
+            alloc,
+            b"\x0b\x04root\x09localhost",
+            Key::Invoker,
+            StatusVarVal::Invoker {
+                username: b"root",
+                hostname: b"localhost",
+            }
+        )
     );
 }
 
@@ -212,17 +236,33 @@ fn settings(rt: HostRuntime) {
     );
 }
 
-#[test]
-fn names_of_schemas(rt: HostRuntime) {
-    let alloc = rt.alloc();
+/// Whether the block says the names of two schemas.
+fn says_two_names(alloc: Global, block: &[u8]) -> bool {
     let names = [
         RawBytes::new(CowSlice::Borrowed(b"test")),
         RawBytes::new(CowSlice::Borrowed(b"db")),
     ];
-    let two = StatusVarVal::UpdatedDbNames(Some(Seq::new(CowSlice::Borrowed(&names))));
-    let many = StatusVarVal::UpdatedDbNames(None);
-    assert!(rt; says(alloc, b"\x0c\x02test\0db\0", Key::UpdatedDbNames, two));
-    assert!(rt; says(alloc, b"\x0c\xfe", Key::UpdatedDbNames, many));
+    let two = Seq::new(CowSlice::Borrowed(&names));
+    says(
+        alloc,
+        block,
+        Key::UpdatedDbNames,
+        StatusVarVal::UpdatedDbNames(Some(two)),
+    )
+}
+
+#[test]
+fn names_of_schemas(rt: HostRuntime) {
+    let alloc = rt.alloc();
+    assert!(rt;
+        says_two_names(alloc, b"\x0c\x02test\0db\0")
+            && says(
+                alloc,
+                b"\x0c\xfe",
+                Key::UpdatedDbNames,
+                StatusVarVal::UpdatedDbNames(None)
+            )
+    );
 }
 
 /// Whether no variable stands whole at the front of the bytes.

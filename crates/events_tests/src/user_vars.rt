@@ -2,10 +2,11 @@
 
 use crate::written::{is_short, is_written, refusal};
 use bitflags::Flags;
-use mysql_binlog_events::{EventError, UserVarEvent, read_body};
-use mysql_binlog_rows::UserVarFlags;
-use mysql_wire::{ItemResult, UnknownItemResultType};
+use events_bodies::UserVarEvent;
+use events_frames::{EventError, read_body};
+use rows_flags::UserVarFlags;
 use std::alloc::Global;
+use wire_consts::{ItemResult, UnknownItemResultType};
 
 /// `@n`, an unsigned integer, 300.
 pub(crate) const UNSIGNED: &[u8] = b"\x01\0\0\0n\0\x02\x3f\0\0\0\x08\0\0\0\x2c\x01\0\0\0\0\0\0\x01";

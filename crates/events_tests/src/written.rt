@@ -1,9 +1,9 @@
 //! What tests of bodies have in common: how a body is written, and how it is refused.
 
-use mysql_binlog_events::{BinlogStruct, EventError, read_body};
-use mysql_binlog_rows::BinlogVersion;
-use mysql_wire::{MyDeserialize, MySerialize, WireFault};
+use events_frames::{BinlogStruct, EventError, read_body};
+use rows_consts::BinlogVersion;
 use std::alloc::Global;
+use wire_buf::{MyDeserialize, MySerialize, WireFault};
 
 /// Whether the body is written as the bytes, and says how many they are.
 pub(crate) fn is_written<'a, T: BinlogStruct<'a> + MySerialize>(

@@ -4,9 +4,9 @@ use Rattle.std.specs.Prelude.{◌==◌, Result}
 use Rattle.std.proofs.lemmas.List.{length-map}
 use Rattle.rows_cells.specs.Images.{PlacedValue}
 use Rattle.rows_jsonb.specs.Items.{Walked, items_at}
-use Rattle.rows_jsonb.specs.JsonbValues.{Reading, ◌>>=◌}
+use Rattle.rows_times.specs.Readings.{Reading, ◌>>=◌}
 use Rattle.rows_jsonb.proofs.ItemLemmas.{walk_done}
-use Rattle.rows_values.specs.declared.fault.RowsError.{RowsError}
+use Rattle.rows_times.specs.declared.fault.RowsError.{RowsError}
 use Rattle.rows_meta.specs.TableMaps.{TableMap}
 use Rattle.rows_events.specs.EventShapes.{event_rows, row_read}
 use Rattle.rows_events.specs.RowsEvents.{RowsBody}

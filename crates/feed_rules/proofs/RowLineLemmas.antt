@@ -12,19 +12,19 @@ use Rattle.rows_cells.specs.ImageViews.{cells_left}
 use Rattle.rows_cells.specs.declared.image.ImageCells.{ImageCells}
 use Rattle.rows_jsonb.specs.Items.{Walked, item_before, walk, items_at}
 use Rattle.rows_jsonb.specs.JsonParsing.{IsNone, Parses}
-use Rattle.rows_jsonb.specs.JsonbValues.{Reading, ◌>>=◌}
+use Rattle.rows_times.specs.Readings.{Reading, ◌>>=◌}
 use Rattle.rows_jsonb.proofs.ItemLemmas.{walk_on, walk_done}
-use Rattle.rows_values.specs.declared.fault.RowsError.{RowsError}
-use Rattle.rows_values.specs.declared.fault.RowsError.TheVariants as fault
+use Rattle.rows_times.specs.declared.fault.RowsError.{RowsError}
+use Rattle.rows_times.specs.declared.fault.RowsError.TheVariants as fault
 use Rattle.std.specs.Bool.{⊤}
-use Rattle.rows_plan.specs.ImageShapes.{TablePlan}
+use Rattle.rows_images.specs.ImageShapes.{TablePlan}
 use Rattle.rows_events.specs.EventShapes.{event_shapes, row_read}
 use Rattle.rows_events.specs.RowsEvents.{RowsBody}
 use Rattle.feed_text.specs.CellText.{cell_text}
 use Rattle.feed_text.specs.ImageText.{cells_text, Cells, behind, PutsCells, StopsAt, IsCellsRefused}
 use Rattle.feed_rules.specs.declared.verdict.Verdict.{Verdict}
 use Rattle.feed_rules.specs.Rows.{image_texts, row_texts, value_or_none, walked_texts, event_texts}
-use Rattle.feed_rules.specs.RowLines.{row_verdict, IsRowRefused, with_text, image_text_at, with_texts, images_texts_at, row_texts_at, PutsImage, PutsImages, PutsRow, PutsLines, PutsRows, IsLinesRefused, line_of}
+use Rattle.feed_rules.specs.RowLines.{row_verdict, IsRowRefused, with_text, image_text_at, with_texts, images_texts_at, row_texts_at, rows_texts_at, PutsImage, PutsImages, PutsRow, PutsLines, PutsRows, IsLinesRefused, line_of}
 use Rattle.feed_rules.specs.Texts.{images_text}
 
 -- ---- readings without a value
@@ -339,3 +339,8 @@ pub lines_put : (r : RowsBody) (p : TablePlan) (shapes : List ImageShape) (start
     → OnOk a (PutsRows r p start before after)
 lines_put r p shapes start bytes before after (Ok x) h e l = rows_put r p shapes start before after h (subst (λ (b : List ℕ). PutsLines shapes start b before after) e l)
 lines_put r p shapes start bytes before after (Err v) h e l = tt
+
+pub lines_unput : (r : RowsBody) (p : TablePlan) (shapes : List ImageShape) (bytes : List ℕ) (a : Result ⊤ Verdict) → event_shapes r p ≡ Ok shapes → bytes ≡ r.rows_data → IfErr a (IsLinesRefused (rows_texts_at shapes bytes)) → IfErr a (IsLinesRefused (event_texts r p))
+lines_unput r p shapes bytes a h e l =
+    let P : Option (List (List (List ℕ))) → Type 0 = λ texts. IfErr a (IsLinesRefused texts) in
+    subst P (ap (λ (b : List ℕ). rows_texts_at shapes b) e ∙ sym (texts_by r p shapes h)) l

@@ -5,10 +5,10 @@ use Rattle.rows_cells.specs.Images.{PlacedValue, ImageShape, image_at}
 use Rattle.rows_cells.specs.EventRows.{images_at, row_at}
 use Rattle.rows_jsonb.specs.Items.{items_at}
 use Rattle.rows_jsonb.specs.JsonParsing.{IsNone}
-use Rattle.rows_jsonb.specs.JsonbValues.{Reading, ◌>>=◌}
-use Rattle.rows_values.specs.declared.fault.RowsError.{RowsError}
-use Rattle.rows_values.specs.declared.fault.RowsError.TheVariants as fault
-use Rattle.rows_plan.specs.ImageShapes.{TablePlan}
+use Rattle.rows_times.specs.Readings.{Reading, ◌>>=◌}
+use Rattle.rows_times.specs.declared.fault.RowsError.{RowsError}
+use Rattle.rows_times.specs.declared.fault.RowsError.TheVariants as fault
+use Rattle.rows_images.specs.ImageShapes.{TablePlan}
 use Rattle.rows_events.specs.RowsEvents.{RowsBody}
 use Rattle.feed_text.specs.ImageText.{cells_text}
 use Rattle.feed_rules.specs.declared.verdict.Verdict.{Verdict}

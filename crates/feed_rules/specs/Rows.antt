@@ -2,14 +2,14 @@
 use Rattle.std.specs.Prelude.{ℕ, true, false, List, [], ◌∷◌, length, map, Option, Some, None, Result, Ok, Err, ◌==◌}
 use Rattle.rows_cells.specs.Images.{PlacedValue}
 use Rattle.rows_jsonb.specs.Items.{Walked}
-use Rattle.rows_jsonb.specs.JsonbValues.{Reading, ◌>>=◌}
+use Rattle.rows_times.specs.Readings.{Reading, ◌>>=◌}
 use Rattle.rows_meta.specs.ColumnMetadata.{columns_of}
 use Rattle.rows_meta.specs.TableMaps.{TableMap}
 use Rattle.rows_optional.specs.Extracted.{extracted}
 use Rattle.rows_optional.specs.MetadataFields.{fields}
-use Rattle.rows_plan.specs.ImageShapes.{TablePlan}
-use Rattle.rows_plan.specs.Plans.{table_of, first_columns}
-use Rattle.rows_plan.specs.PlanViews.{json_count}
+use Rattle.rows_images.specs.ImageShapes.{TablePlan}
+use Rattle.rows_images.specs.Plans.{table_of, first_columns}
+use Rattle.rows_images.specs.PlanViews.{json_count}
 use Rattle.rows_events.specs.EventShapes.{event_rows}
 use Rattle.rows_events.specs.RowsEvents.{RowsBody}
 use Rattle.rows_events.specs.RowsEventTypes.{images_of}

@@ -6,15 +6,15 @@ ghost use Rattle.rows_cells.specs.RowViews.{row_shape};
 ghost use Rattle.feed_text.specs.Buffers.{text_in};
 ghost use Rattle.feed_rules.specs.RowLines.{row_verdict, IsRowRefused, image_text_at, images_texts_at, row_texts_at, rows_texts_at, PutsImage, PutsImages, PutsRow, PutsLines, PutsRows, IsLinesRefused};
 ghost use Rattle.feed_rules.specs.Rows.{event_texts};
-ghost use Rattle.rows_plan.specs.ImageShapes.{table_plan};
+ghost use Rattle.rows_images.specs.ImageShapes.{table_plan};
 ghost use Rattle.rows_events.specs.Views.{body_of};
 
 use crate::verdict::Verdict;
 use feed_text::TextBuffer;
 use rows_cells::{ImageCells, ImagePlan, RowPlan};
 use rows_events::{EventColumns, RowsEvent};
-use rows_plan::ColumnPlan;
-use rows_values::RowsError;
+use rows_images::ColumnPlan;
+use rows_times::RowsError;
 use std::alloc::{Allocator, Global};
 
 /// Appends a line for each row of an event, by the plan of its table. Each line begins with `start`: what happened to the row,
@@ -36,10 +36,12 @@ pub fn put_rows<A: Allocator>(
     if event.rows_data().is_empty() {
         return Ok(());
     }
-    if let Err(fault) = columns.fill(event, plan) {
-        return Err(row_verdict(fault));
-    }
-    put_lines(alloc, columns.row_plan(), start, event.rows_data(), text)
+    let rows = event.rows_by(alloc, plan);
+    let images = match rows.images_in(columns) {
+        Ok(images) => images,
+        Err(fault) => return Err(row_verdict(fault)),
+    };
+    put_lines(alloc, images, start, rows.rest(), text)
 }
 
 /// What a fault of rows is to the feed.

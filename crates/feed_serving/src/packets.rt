@@ -2,7 +2,7 @@
 
 ghost use Rattle.std.specs.Prelude.{◌≡◌, ℕ, List, ◌+◌, ◌≤◌, ◌++◌, length, OnOk, IfOk, IfErr};
 ghost use Rattle.std.specs.Io.KnownBytes.{Appends};
-ghost use Rattle.wire_streams.specs.Watched.{inner_of, has_failed};
+ghost use Rattle.wire_buf.specs.Watched.{inner_of, has_failed};
 ghost use Rattle.wire_packets.specs.Framing.{longest, chunk, framing, next_number};
 ghost use Rattle.feed_reports.specs.Writing.{IsCutWrite};
 
@@ -10,9 +10,9 @@ use feed_reports::put_all;
 use feed_rules::Verdict;
 use feed_writers::put_bytes;
 use std::io::Write;
+use wire_buf::Watched;
 use wire_consts::MAX_PAYLOAD_LEN;
 use wire_packets::{PACKET_HEADER_LEN, chunk_header};
-use wire_streams::Watched;
 
 /// The greatest length of what stands before an event in a payload, in bytes.
 const MAX_LEAD_LEN: usize = 3;

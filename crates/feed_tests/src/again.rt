@@ -1,16 +1,15 @@
 //! Answers that break off, and the requests that go on.
 
+use crate::following::LIMIT;
 use crate::samples::{TEXT, two_inserts};
-use binlog_feed::{Follower, RequestError, Verdict, Watched, request, serve};
+use crate::serving::NAME;
 use crc32::crc32;
+use feed_rules::Verdict;
+use feed_serving::serve;
+use feed_streams::{Follower, RequestError, request};
 use std::alloc::Global;
 use std::test::*;
-
-/// The greatest length of a payload that the program allows.
-const LIMIT: usize = 1_073_741_824;
-
-/// The name of the binary log that is served.
-const NAME: &[u8] = b"master-bin.000002";
+use wire_buf::Watched;
 
 /// The report of the log of two transactions.
 const BOTH: &str =
@@ -24,10 +23,28 @@ pub fn answered(alloc: Global, asked: &[u8], log: &[u8]) -> Vec<u8> {
     writer.into_inner()
 }
 
+/// What is answered to a request for a log from a place on.
+fn answer_from(alloc: Global, place: u32, log: &[u8]) -> Result<Vec<u8>, RequestError> {
+    let asked = request(alloc, place, 1, NAME)?;
+    Ok(answered(alloc, &asked, log))
+}
+
 /// Whether a follower asks so for the next answer.
 fn asks_for<F: Fn(&[u8]) -> u32>(follower: &mut Follower<F>, wanted: &[u8]) -> bool {
     match follower.again() {
         Ok(question) => question.as_slice() == wanted,
+        Err(_) => false,
+    }
+}
+
+/// Whether a follower asks so for the next answer, from this position.
+fn asks_from<F: Fn(&[u8]) -> u32>(
+    alloc: Global,
+    follower: &mut Follower<F>,
+    position: u32,
+) -> bool {
+    match request(alloc, position, 1, NAME) {
+        Ok(wanted) => asks_for(follower, &wanted),
         Err(_) => false,
     }
 }
@@ -39,47 +56,52 @@ fn again_before_anything_came(rt: HostRuntime) -> Result<(), Fail> {
     Ok(())
 }
 
+/// Whether a follower that was fed these bytes and not finished shows the first transaction and asks for the rest.
+fn asks_for_the_second(alloc: Global, prefix: &[u8]) -> Result<bool, RequestError> {
+    let (mut follower, _request) = Follower::start(alloc, 4, 1, NAME, LIMIT, crc32)?;
+    let mut writer = Watched::new(Vec::new(alloc));
+    let is_open = follower.feed(prefix, &mut writer).is_none();
+    Ok(
+        is_open
+            && writer.into_inner().as_slice() == TEXT.as_bytes()
+            && asks_from(alloc, &mut follower, 142),
+    )
+}
+
 #[test]
 fn again_before_finish(rt: HostRuntime) -> Result<(), Fail> {
     let alloc = rt.alloc();
-    let (mut follower, first) = Follower::start(alloc, 4, 1, NAME, LIMIT, crc32)?;
-    let answer = answered(alloc, &first, &two_inserts(alloc)?);
-    let (front, _) = answer.split_at(200.min(answer.len()));
-    let mut writer = Watched::new(Vec::new(alloc));
-    let is_open = follower.feed(front, &mut writer).is_none();
-    let wanted = request(alloc, 142, 1, NAME)?;
-    assert!(rt;
-        answer.len() == 325
-            && is_open
-            && writer.into_inner().as_slice() == TEXT.as_bytes()
-            && asks_for(&mut follower, &wanted)
-    );
+    let answer = answer_from(alloc, 4, &two_inserts(alloc)?)?;
+    let (prefix, _) = answer.split_at(200.min(answer.len()));
+    assert!(rt; answer.len() == 325 && asks_for_the_second(alloc, prefix)?);
     Ok(())
+}
+
+/// Whether a follower of the first transaction's answer asks for the rest, and after its answer for what comes then; and
+/// whether after a fault nothing is asked for or taken, and both transactions are shown.
+fn ends_with_a_fault(alloc: Global, first: &[u8], rest: &[u8]) -> Result<bool, RequestError> {
+    let (mut follower, _request) = Follower::start(alloc, 4, 1, NAME, LIMIT, crc32)?;
+    let mut writer = Watched::new(Vec::new(alloc));
+    let was_whole = follower.feed(first, &mut writer) == Some(Verdict::End)
+        && asks_from(alloc, &mut follower, 142);
+    let is_whole = follower.feed(rest, &mut writer) == Some(Verdict::End)
+        && asks_from(alloc, &mut follower, 280);
+    let fault = Some(Verdict::OutOfNumber);
+    let is_fault = follower.feed(&[1, 0, 0, 2, 0], &mut writer) == fault
+        && follower.again().err() == fault
+        && follower.feed(rest, &mut writer) == fault
+        && follower.finish() == Verdict::OutOfNumber;
+    Ok(was_whole && is_whole && is_fault && writer.into_inner().as_slice() == BOTH.as_bytes())
 }
 
 #[test]
 fn again_after_end_and_fault(rt: HostRuntime) -> Result<(), Fail> {
     let alloc = rt.alloc();
-    let (mut follower, first) = Follower::start(alloc, 4, 1, NAME, LIMIT, crc32)?;
     let log = two_inserts(alloc)?;
     let (small, _) = log.split_at(142.min(log.len()));
-    let mut writer = Watched::new(Vec::new(alloc));
-    let end = Some(Verdict::End);
-    let was_whole = follower.feed(&answered(alloc, &first, small), &mut writer) == end;
-    let question = follower.again().unwrap_or(Vec::new(alloc));
-    assert!(rt; was_whole && question.get(5..9) == Some([0x8e, 0, 0, 0].as_slice()));
-    let rest = answered(alloc, &question, &log);
-    let is_whole = follower.feed(&rest, &mut writer) == end;
-    assert!(rt; is_whole && asks_for(&mut follower, &request(alloc, 280, 1, NAME)?));
-    let fault = Some(Verdict::OutOfNumber);
-    let is_fault = follower.feed(&[1, 0, 0, 2, 0], &mut writer) == fault;
-    assert!(rt;
-        is_fault
-            && follower.again().err() == fault
-            && follower.feed(&rest, &mut writer) == fault
-            && follower.finish() == Verdict::OutOfNumber
-            && writer.into_inner().as_slice() == BOTH.as_bytes()
-    );
+    let first = answer_from(alloc, 4, small)?;
+    let rest = answer_from(alloc, 142, &log)?;
+    assert!(rt; ends_with_a_fault(alloc, &first, &rest)?);
     Ok(())
 }
 
@@ -104,7 +126,7 @@ fn goes_on(alloc: Global, log: &[u8], broken: &[u8]) -> Result<bool, RequestErro
 fn answers_that_break_off_anywhere(rt: HostRuntime) -> Result<(), Fail> {
     let alloc = rt.alloc();
     let log = two_inserts(alloc)?;
-    let answer = answered(alloc, &request(alloc, 4, 1, NAME)?, &log);
+    let answer = answer_from(alloc, 4, &log)?;
     for len in 0..answer.len() + 1 {
         let (broken, _) = answer.split_at(len);
         assert!(rt; goes_on(alloc, &log, broken)?);

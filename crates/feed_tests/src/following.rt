@@ -1,52 +1,21 @@
-//! Worked streams of packets.
+//! Streams of packets that come in pieces of any length, limits of a payload, and what a follower answers at each piece.
 
-use crate::samples::{BEGIN, MAP, ROWS, TEXT, XID, checksummed, description, put_packet};
-use binlog_feed::{Follower, RequestError, Verdict, Watched};
+use crate::samples::{
+    BEGIN, DESCRIPTION, MAP, ROWS, SUMMED_BEGIN, SUMMED_MAP, SUMMED_ROWS, SUMMED_TEXT, SUMMED_XID,
+    TEXT, XID, answer_of, put_packet,
+};
 use crc32::crc32;
+use feed_rules::Verdict;
+use feed_streams::{Follower, RequestError};
 use std::alloc::{AllocError, Global};
-use std::process::Abort;
 use std::test::*;
+use wire_buf::Watched;
 
 /// The greatest length of a payload that the program allows.
-const LIMIT: usize = 1_073_741_824;
+pub const LIMIT: usize = 1_073_741_824;
 
-/// The packet that closes an answer, with number 5.
-const CLOSING: [u8; 9] = [0x05, 0x00, 0x00, 0x05, 0xfe, 0x00, 0x00, 0x02, 0x00];
-
-/// A server's answer to a request for the whole of the small binary log, without its closing packet.
-fn open_answer(alloc: Global) -> Result<Vec<u8>, AllocError> {
-    let mut answer = Vec::from_slice(alloc, &[0x27, 0x00, 0x00, 0x01, 0x00])?;
-    answer.extend_from_slice(&BEGIN)?;
-    answer.extend_from_slice(&[0x26, 0x00, 0x00, 0x02, 0x00])?;
-    answer.extend_from_slice(&MAP)?;
-    answer.extend_from_slice(&[0x25, 0x00, 0x00, 0x03, 0x00])?;
-    answer.extend_from_slice(&ROWS)?;
-    answer.extend_from_slice(&[0x1c, 0x00, 0x00, 0x04, 0x00])?;
-    answer.extend_from_slice(&XID)?;
-    Ok(answer)
-}
-
-/// The same with its closing packet, 167 bytes.
-fn whole_answer(alloc: Global) -> Result<Vec<u8>, AllocError> {
-    let mut answer = open_answer(alloc)?;
-    answer.extend_from_slice(&CLOSING)?;
-    Ok(answer)
-}
-
-/// A server's answer of a log of one transaction with checksums, with its closing packet, 269 bytes.
-fn checksummed_answer(alloc: Global) -> Result<Vec<u8>, AllocError> {
-    let mut answer = Vec::new(alloc);
-    put_packet(&mut answer, 1, &description(alloc, 1)?)?;
-    put_packet(&mut answer, 2, &checksummed(alloc, 2, 127, &BEGIN[19..])?)?;
-    put_packet(&mut answer, 3, &checksummed(alloc, 19, 168, &MAP[19..])?)?;
-    put_packet(&mut answer, 4, &checksummed(alloc, 30, 208, &ROWS[19..])?)?;
-    put_packet(&mut answer, 5, &checksummed(alloc, 16, 239, &XID[19..])?)?;
-    answer.extend_from_slice(&[0x05, 0x00, 0x00, 0x06, 0xfe, 0x00, 0x00, 0x02, 0x00])?;
-    Ok(answer)
-}
-
-/// Feeds a stream in pieces, and finishes.
-pub fn followed(
+/// Feeds a stream in pieces of these lengths and then in single bytes, and finishes.
+fn followed(
     alloc: Global,
     stream: &[u8],
     limit: usize,
@@ -56,8 +25,8 @@ pub fn followed(
     let mut writer = Watched::new(Vec::new(alloc));
     let mut rest = stream;
     for piece in pieces {
-        let (front, after) = rest.split_at((*piece).min(rest.len()));
-        let _verdict = follower.feed(front, &mut writer);
+        let (piece, after) = rest.split_at((*piece).min(rest.len()));
+        let _verdict = follower.feed(piece, &mut writer);
         rest = after;
     }
     for byte in rest {
@@ -67,168 +36,188 @@ pub fn followed(
     Ok((writer.into_inner(), verdict))
 }
 
-/// Checks what a follower makes of a stream in several cuttings.
-fn expect(
-    rt: &impl Abort,
+/// Whether a stream in these pieces gives this text and this verdict.
+fn is_followed_in(
     alloc: Global,
     stream: &[u8],
     limit: usize,
+    pieces: &[usize],
     text: &str,
     verdict: Verdict,
-) -> Result<(), RequestError> {
-    let cuttings: [&[usize]; 4] = [&[], &[usize::MAX], &[3, 1, 40, 0, 7], &[43, 42, 41]];
-    for pieces in cuttings {
-        let (written, found) = followed(alloc, stream, limit, pieces)?;
-        assert_eq!(rt; written.as_slice(), text.as_bytes());
-        assert_eq!(rt; found, verdict);
+) -> bool {
+    match followed(alloc, stream, limit, pieces) {
+        Ok((written, found)) => found == verdict && written.as_slice() == text.as_bytes(),
+        Err(_) => false,
     }
-    Ok(())
 }
 
-#[test]
-fn stream_in_single_bytes(rt: HostRuntime) -> Result<(), Fail> {
-    let answer = whole_answer(rt.alloc())?;
-    assert_eq!(rt; answer.len(), 167);
-    expect(&rt, rt.alloc(), &answer, LIMIT, TEXT, Verdict::End)?;
-    Ok(())
-}
-
-#[test]
-fn checksummed_answer_in_pieces(rt: HostRuntime) -> Result<(), Fail> {
-    let answer = checksummed_answer(rt.alloc())?;
-    assert_eq!(rt; answer.len(), 269);
-    let text = "begin -\ninsert 'd' 't' 0=5\ncommit 239\n";
-    let cuttings: [&[usize]; 3] = [&[], &[7; 39], &[4096]];
+/// Whether a stream gives this text and this verdict, however it is cut.
+fn is_followed(alloc: Global, stream: &[u8], limit: usize, text: &str, verdict: Verdict) -> bool {
+    let cuttings: [&[usize]; 5] = [
+        &[],
+        &[usize::MAX],
+        &[3, 1, 40, 0, 7],
+        &[43, 42, 41],
+        &[7; 39],
+    ];
     for pieces in cuttings {
-        let (written, verdict) = followed(rt.alloc(), &answer, LIMIT, pieces)?;
-        assert_eq!(rt; written.as_slice(), text.as_bytes());
-        assert_eq!(rt; verdict, Verdict::End);
+        if !is_followed_in(alloc, stream, limit, pieces, text, verdict) {
+            return false;
+        }
     }
-    Ok(())
+    true
+}
+
+/// The same of an answer of so many bytes with these events, which is whole or has no closing packet.
+fn is_answer_followed(
+    alloc: Global,
+    events: &[&[u8]],
+    is_whole: bool,
+    len: usize,
+    text: &str,
+    verdict: Verdict,
+) -> bool {
+    match answer_of(alloc, events, is_whole) {
+        Ok(answer) => answer.len() == len && is_followed(alloc, &answer, LIMIT, text, verdict),
+        Err(_) => false,
+    }
 }
 
 #[test]
-fn packet_faults(rt: HostRuntime) -> Result<(), Fail> {
-    let mut answer = whole_answer(rt.alloc())?;
-    answer.truncate(60);
-    expect(&rt, rt.alloc(), &answer, LIMIT, "", Verdict::Closed)?;
-    let header = [0x27, 0x00, 0x00, 0x02];
-    expect(&rt, rt.alloc(), &header, 38, "", Verdict::TooLarge)?;
-    expect(
-        &rt,
-        rt.alloc(),
-        &[0x27, 0x00, 0x00, 0x01],
-        38,
-        "",
-        Verdict::TooLarge,
-    )?;
-    expect(&rt, rt.alloc(), &header, 39, "", Verdict::Closed)?;
-    Ok(())
-}
-
-#[test]
-fn packet_faults_out_of_number(rt: HostRuntime) -> Result<(), Fail> {
-    let mut stream = Vec::from_slice(rt.alloc(), &[0x27, 0x00, 0x00, 0x01, 0x00])?;
-    stream.extend_from_slice(&BEGIN)?;
-    stream.extend_from_slice(&[0x26, 0x00, 0x00, 0x03, 0x00])?;
-    stream.extend_from_slice(&MAP[..36])?;
-    expect(&rt, rt.alloc(), &stream, LIMIT, "", Verdict::Closed)?;
-    stream.extend_from_slice(&MAP[36..])?;
-    expect(&rt, rt.alloc(), &stream, LIMIT, "", Verdict::OutOfNumber)?;
-    Ok(())
-}
-
-#[test]
-fn payloads_that_are_no_event(rt: HostRuntime) -> Result<(), Fail> {
+fn stream_in_single_bytes(rt: HostRuntime) {
     let alloc = rt.alloc();
-    expect(&rt, alloc, &[0, 0, 0, 1], LIMIT, "", Verdict::NotAnEvent)?;
-    let mut longer = Vec::from_slice(alloc, &[9, 0, 0, 1, 0xfe])?;
-    longer.extend_from_slice(&[0; 8])?;
-    expect(&rt, alloc, &longer, LIMIT, "", Verdict::NotAnEvent)?;
-    let mut short = Vec::from_slice(alloc, &[19, 0, 0, 1, 0])?;
-    short.extend_from_slice(&XID[..18])?;
-    expect(&rt, alloc, &short, LIMIT, "", Verdict::NotAnEvent)?;
-    expect(
-        &rt,
-        alloc,
-        &[3, 0, 0, 1, 0xff, 1, 0],
-        LIMIT,
-        "",
-        Verdict::ServerError,
-    )?;
-    let mut shorter = Vec::from_slice(alloc, &[27, 0, 0, 1, 0])?;
-    shorter.extend_from_slice(&XID[..26])?;
-    expect(&rt, alloc, &shorter, LIMIT, "", Verdict::NotAnEvent)?;
-    Ok(())
+    let events: [&[u8]; 4] = [&BEGIN, &MAP, &ROWS, &XID];
+    assert!(rt;
+        is_answer_followed(alloc, &events, true, 167, TEXT, Verdict::End)
+            && is_answer_followed(alloc, &events, false, 158, TEXT, Verdict::Closed)
+    );
 }
 
 #[test]
-fn bytes_after_the_closing_packet(rt: HostRuntime) -> Result<(), Fail> {
-    let stream = [5, 0, 0, 1, 0xfe, 0, 0, 2, 0, 0xff, 0xff, 0xff, 0xff];
-    expect(&rt, rt.alloc(), &stream, LIMIT, "", Verdict::End)?;
-    Ok(())
+fn checksummed_answer_in_pieces(rt: HostRuntime) {
+    let events: [&[u8]; 5] = [
+        &DESCRIPTION,
+        &SUMMED_BEGIN,
+        &SUMMED_MAP,
+        &SUMMED_ROWS,
+        &SUMMED_XID,
+    ];
+    assert!(rt; is_answer_followed(rt.alloc(), &events, true, 269, SUMMED_TEXT, Verdict::End));
+}
+
+// A packet past the limit is a fault as soon as its header came.
+#[test]
+fn packet_faults(rt: HostRuntime) {
+    let alloc = rt.alloc();
+    let first = [0x27, 0, 0, 1];
+    let second = [0x27, 0, 0, 2];
+    let whole_chunk = [0xff, 0xff, 0xff, 1];
+    assert!(rt;
+        is_followed(alloc, &first, 38, "", Verdict::TooLarge)
+            && is_followed(alloc, &second, 38, "", Verdict::TooLarge)
+            && is_followed(alloc, &second, 39, "", Verdict::Closed)
+            && is_followed(alloc, &whole_chunk, 16_777_214, "", Verdict::TooLarge)
+            && is_followed(alloc, &whole_chunk, 16_777_215, "", Verdict::Closed)
+    );
+}
+
+/// Two packets of events, the second with this number.
+fn two_packets(
+    alloc: Global,
+    first: &[u8],
+    number: u8,
+    second: &[u8],
+) -> Result<Vec<u8>, AllocError> {
+    let mut stream = Vec::new(alloc);
+    put_packet(&mut stream, 1, first)?;
+    put_packet(&mut stream, number, second)?;
+    Ok(stream)
+}
+
+/// Whether such a stream shows nothing and has this verdict, and `Closed` without its last byte.
+fn is_refused(alloc: Global, first: &[u8], number: u8, second: &[u8], verdict: Verdict) -> bool {
+    match two_packets(alloc, first, number, second) {
+        Ok(stream) => {
+            let (prefix, _) = stream.split_at(stream.len().saturating_sub(1));
+            is_followed(alloc, &stream, LIMIT, "", verdict)
+                && is_followed(alloc, prefix, LIMIT, "", Verdict::Closed)
+        }
+        Err(_) => false,
+    }
+}
+
+// Packets out of number, an event shorter than its size, and one shorter than a header.
+#[test]
+fn faults_in_pieces(rt: HostRuntime) {
+    let alloc = rt.alloc();
+    let (short, _) = XID.split_at(26);
+    let (header, _) = XID.split_at(18);
+    assert!(rt;
+        is_refused(alloc, &BEGIN, 3, &MAP, Verdict::OutOfNumber)
+            && is_refused(alloc, &BEGIN, 2, short, Verdict::NotAnEvent)
+            && is_refused(alloc, &BEGIN, 2, header, Verdict::NotAnEvent)
+    );
+}
+
+// No bytes, a closing payload that is too long, a server's error, and bytes after the closing packet.
+#[test]
+fn ends_in_pieces(rt: HostRuntime) {
+    let alloc = rt.alloc();
+    let longer = [9, 0, 0, 1, 0xfe, 0, 0, 0, 0, 0, 0, 0, 0];
+    let closed = [5, 0, 0, 1, 0xfe, 0, 0, 2, 0, 0xff, 0xff, 0xff, 0xff];
+    assert!(rt;
+        is_followed(alloc, &[0, 0, 0, 1], LIMIT, "", Verdict::NotAnEvent)
+            && is_followed(alloc, &longer, LIMIT, "", Verdict::NotAnEvent)
+            && is_followed(
+                alloc,
+                &[3, 0, 0, 1, 0xff, 1, 0],
+                LIMIT,
+                "",
+                Verdict::ServerError
+            )
+            && is_followed(alloc, &closed, LIMIT, "", Verdict::End)
+    );
+}
+
+/// Whether a follower that was finished takes nothing of an answer.
+fn takes_nothing(alloc: Global, answer: &[u8]) -> Result<bool, RequestError> {
+    let (mut follower, _request) = Follower::start(alloc, 4, 1, b"", LIMIT, crc32)?;
+    let mut writer = Watched::new(Vec::new(alloc));
+    let is_closed = follower.finish() == Verdict::Closed;
+    let found = follower.feed(answer, &mut writer);
+    Ok(is_closed && found == Some(Verdict::Closed) && writer.into_inner().is_empty())
 }
 
 #[test]
 fn nothing_taken_after_closed(rt: HostRuntime) -> Result<(), Fail> {
-    let alloc = rt.alloc();
-    let (mut follower, _request) = Follower::start(alloc, 4, 1, b"", LIMIT, crc32)?;
-    let mut writer = Watched::new(Vec::new(alloc));
-    assert_eq!(rt; follower.finish(), Verdict::Closed);
-    let answer = whole_answer(alloc)?;
-    let again = follower.feed(&answer, &mut writer);
-    assert_eq!(rt; again, Some(Verdict::Closed));
-    assert_eq!(rt; writer.into_inner().len(), 0);
+    let answer = answer_of(rt.alloc(), &[&BEGIN, &MAP, &ROWS, &XID], true)?;
+    assert!(rt; takes_nothing(rt.alloc(), &answer)?);
     Ok(())
 }
 
-#[test]
-fn stream_without_closing_packet(rt: HostRuntime) -> Result<(), Fail> {
-    let answer = open_answer(rt.alloc())?;
-    expect(&rt, rt.alloc(), &answer, LIMIT, TEXT, Verdict::Closed)?;
-    Ok(())
+/// Whether the answer for the small log, byte by byte, shows its transaction with the byte that completes the commit, and ends
+/// with the last.
+fn shows_at_once(alloc: Global, answer: &[u8]) -> Result<bool, RequestError> {
+    let (mut follower, _request) = Follower::start(alloc, 4, 1, b"", LIMIT, crc32)?;
+    let mut written = Vec::new(alloc);
+    for (index, byte) in answer.iter().enumerate() {
+        let found = follower.feed(&[*byte], &mut Watched::new(&mut written));
+        let wanted = if index == 166 {
+            Some(Verdict::End)
+        } else {
+            None
+        };
+        let text = if index < 157 { "" } else { TEXT };
+        if found != wanted || written.as_slice() != text.as_bytes() {
+            return Ok(false);
+        }
+    }
+    Ok(true)
 }
 
 #[test]
 fn answer_at_each_piece(rt: HostRuntime) -> Result<(), Fail> {
-    let answer = whole_answer(rt.alloc())?;
-    let committed = 158;
-    let (mut follower, _request) = Follower::start(rt.alloc(), 4, 1, b"", LIMIT, crc32)?;
-    let mut written = Vec::new(rt.alloc());
-    for (index, byte) in answer.iter().enumerate() {
-        let found = follower.feed(&[*byte], &mut Watched::new(&mut written));
-        let taken = index + 1;
-        let is_over = taken == answer.len();
-        assert_eq!(rt; found, if is_over { Some(Verdict::End) } else { None });
-        let text = if taken < committed { "" } else { TEXT };
-        assert_eq!(rt; written.as_slice(), text.as_bytes());
-    }
-    Ok(())
-}
-
-#[test]
-fn event_of_a_whole_chunk(rt: HostRuntime) -> Result<(), Fail> {
-    let mut stream = Vec::from_slice(rt.alloc(), &[0xff, 0xff, 0xff, 0x01, 0x00])?;
-    stream.extend_from_slice(&[0, 0, 0, 0, 0x29, 1, 0, 0, 0, 0xfe, 0xff, 0xff])?;
-    stream.extend_from_slice(&[0, 0, 0, 0, 0, 0x80, 0])?;
-    stream.resize(4 + 16_777_215, 0)?;
-    stream.extend_from_slice(&[0x00, 0x00, 0x00, 0x02])?;
-    let events = [
-        (3u8, &BEGIN[..]),
-        (4, &MAP[..]),
-        (5, &ROWS[..]),
-        (6, &XID[..]),
-    ];
-    for (number, event) in events {
-        stream.extend_from_slice(&[event.len() as u8 + 1, 0, 0, number, 0])?;
-        stream.extend_from_slice(event)?;
-    }
-    let all = [usize::MAX];
-    let (written, verdict) = followed(rt.alloc(), &stream, LIMIT, &all)?;
-    assert_eq!(rt; written.as_slice(), TEXT.as_bytes());
-    assert_eq!(rt; verdict, Verdict::Closed);
-    let (written, verdict) = followed(rt.alloc(), &stream, 16_777_214, &all)?;
-    assert_eq!(rt; written.len(), 0);
-    assert_eq!(rt; verdict, Verdict::TooLarge);
+    let answer = answer_of(rt.alloc(), &[&BEGIN, &MAP, &ROWS, &XID], true)?;
+    assert!(rt; answer.len() == 167 && shows_at_once(rt.alloc(), &answer)?);
     Ok(())
 }

@@ -1,6 +1,6 @@
 //! What is kept of a text that was cut off.
 
-use binlog_feed::{Keeper, kept};
+use feed_kept::{Keeper, kept};
 use std::alloc::{AllocError, Global};
 use std::test::*;
 
@@ -10,14 +10,14 @@ const TWO_INSERTS: &[u8] =
 
 #[test]
 fn kept_of_each_front(rt: HostRuntime) {
-    assert_eq!(rt; TWO_INSERTS.len(), 76);
+    assert!(rt; TWO_INSERTS.len() == 76);
     for len in 0..=TWO_INSERTS.len() {
         let wanted = match len {
             0..=37 => (0, None),
             38..=75 => (38, Some(142)),
             _ => (76, Some(280)),
         };
-        assert_eq!(rt; kept(&TWO_INSERTS[..len]), wanted);
+        assert!(rt; kept(&TWO_INSERTS[..len]) == wanted);
     }
 }
 
@@ -40,19 +40,18 @@ fn commit_lines(rt: HostRuntime) {
         (b"commit 7\xff\n", 0, None),
     ];
     for (text, len, place) in rows {
-        assert_eq!(rt; kept(text), (len, place));
+        assert!(rt; kept(text) == (len, place));
     }
 }
 
 #[test]
 fn lines_behind_a_commit_line(rt: HostRuntime) {
-    assert_eq!(rt; kept(b"\n"), (0, None));
-    assert_eq!(rt; kept(b"commit 7\n\n"), (9, Some(7)));
-    assert_eq!(rt; kept(b"\n\ncommit 7\n"), (11, Some(7)));
-    assert_eq!(rt; kept(b"commit 7\ncommit 8"), (9, Some(7)));
-    assert_eq!(rt;
-        kept(b"commit 7\ncommit 4294967296\nbegin -\n"),
-        (9, Some(7))
+    assert!(rt;
+        kept(b"\n") == (0, None)
+            && kept(b"commit 7\n\n") == (9, Some(7))
+            && kept(b"\n\ncommit 7\n") == (11, Some(7))
+            && kept(b"commit 7\ncommit 8") == (9, Some(7))
+            && kept(b"commit 7\ncommit 4294967296\nbegin -\n") == (9, Some(7))
     );
 }
 
@@ -75,10 +74,7 @@ fn kept_of_each_front_in_pieces(rt: HostRuntime) -> Result<(), Fail> {
         for len in 0..=TWO_INSERTS.len() {
             let text = &TWO_INSERTS[..len];
             let (whole, place) = kept(text);
-            assert_eq!(rt;
-                kept_of_pieces(rt.alloc(), text, at_once)?,
-                (whole as u64, place)
-            );
+            assert!(rt; kept_of_pieces(rt.alloc(), text, at_once)? == (whole as u64, place));
         }
     }
     Ok(())

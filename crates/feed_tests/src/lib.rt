@@ -1,12 +1,10 @@
-//! Tests of the change feed through its public calls: worked binary logs with events of each kind and cells of several types,
-//! worked streams, requests and answers to them, plain and semi-synchronous, runs whose answers break off, texts that were cut
-//! off, names, readers and writers that fail, hostile bytes, and checksums.
+//! Tests of the change feed through its public calls, of what no table of cases can say (`checks/feed_cases` has the cases): bytes that
+//! come in pieces of any length, readers and writers that fail, limits, connections that drop after each byte, logs that grow,
+//! acknowledgements, requests that go on, texts that were truncated, a log damaged at each of its bytes, and checksums.
 #![tactic(auto)]
 
 #[cfg(test)]
 mod again;
-#[cfg(test)]
-mod cells;
 #[cfg(test)]
 mod checksums;
 #[cfg(test)]
@@ -18,15 +16,9 @@ mod hostile;
 #[cfg(test)]
 mod keeping;
 #[cfg(test)]
-mod kinds;
-#[cfg(test)]
 mod rehearsing;
 #[cfg(test)]
 mod reporting;
-#[cfg(test)]
-mod requesting;
-#[cfg(test)]
-mod rows;
 #[cfg(test)]
 mod samples;
 #[cfg(test)]

@@ -1,10 +1,10 @@
-//! A small binary log and its report, events of any kind, and a reader that gives a log in pieces.
+//! A small binary log and its report, with checksums and without, the packets of its events, and a reader that gives a log in
+//! pieces.
 
-use crc32::crc32;
 use std::alloc::{AllocError, Global};
 use std::io::{self, ErrorKind, Read};
 
-/// `fe 62 69 6e`.
+/// The magic number, `fe 62 69 6e`.
 pub const MARK: [u8; 4] = [0xfe, 0x62, 0x69, 0x6e];
 
 /// QUERY_EVENT of BEGIN, to position 42.
@@ -34,92 +34,58 @@ pub const XID: [u8; 27] = [
     0x00, 0x00, 0x00, 0x0b, 0x00, 0x00, 0x00, 0x00, 0x00, 0x00, 0x00,
 ];
 
-/// The report of the mark and these events.
+/// The report of the magic number and these events.
 pub const TEXT: &str = "begin -\ninsert 'd' 't' 0=5\ncommit 142\n";
 
-/// The header and the body of an event of server 1, behind which stand so many bytes more.
-fn front_of_event(
-    alloc: Global,
-    event_type: u8,
-    flags: u16,
-    log_pos: u32,
-    body: &[u8],
-    more: usize,
-) -> Result<Vec<u8>, AllocError> {
-    let size = body
-        .len()
-        .saturating_add(19)
-        .saturating_add(more)
-        .to_le_bytes();
-    let mut front = Vec::from_slice(alloc, &[0, 0, 0, 0, event_type, 1, 0, 0, 0])?;
-    front.extend_from_slice(&size[..4])?;
-    front.extend_from_slice(&log_pos.to_le_bytes())?;
-    front.extend_from_slice(&flags.to_le_bytes())?;
-    front.extend_from_slice(body)?;
-    Ok(front)
-}
+/// FORMAT_DESCRIPTION_EVENT of server 5.6.1 with checksums, to position 85.
+pub const DESCRIPTION: [u8; 81] = [
+    0x00, 0x00, 0x00, 0x00, 0x0f, 0x01, 0x00, 0x00, 0x00, 0x51, 0x00, 0x00, 0x00, 0x55, 0x00, 0x00,
+    0x00, 0x00, 0x00, 0x04, 0x00, 0x35, 0x2e, 0x36, 0x2e, 0x31, 0x00, 0x00, 0x00, 0x00, 0x00, 0x00,
+    0x00, 0x00, 0x00, 0x00, 0x00, 0x00, 0x00, 0x00, 0x00, 0x00, 0x00, 0x00, 0x00, 0x00, 0x00, 0x00,
+    0x00, 0x00, 0x00, 0x00, 0x00, 0x00, 0x00, 0x00, 0x00, 0x00, 0x00, 0x00, 0x00, 0x00, 0x00, 0x00,
+    0x00, 0x00, 0x00, 0x00, 0x00, 0x00, 0x00, 0x00, 0x00, 0x00, 0x00, 0x13, 0x01, 0x48, 0xc1, 0x50,
+    0x16,
+];
 
-/// An event of server 1 without a checksum.
-pub fn event(
-    alloc: Global,
-    event_type: u8,
-    flags: u16,
-    log_pos: u32,
-    body: &[u8],
-) -> Result<Vec<u8>, AllocError> {
-    front_of_event(alloc, event_type, flags, log_pos, body, 0)
-}
+/// The small log's events with their checksums, to positions 127, 168, 208 and 239.
+pub const SUMMED_BEGIN: [u8; 42] = [
+    0x00, 0x00, 0x00, 0x00, 0x02, 0x01, 0x00, 0x00, 0x00, 0x2a, 0x00, 0x00, 0x00, 0x7f, 0x00, 0x00,
+    0x00, 0x00, 0x00, 0x01, 0x00, 0x00, 0x00, 0x00, 0x00, 0x00, 0x00, 0x00, 0x00, 0x00, 0x00, 0x00,
+    0x00, 0x42, 0x45, 0x47, 0x49, 0x4e, 0x39, 0x7f, 0x62, 0x74,
+];
 
-/// An event of server 1 with its checksum.
-pub fn checksummed(
-    alloc: Global,
-    event_type: u8,
-    log_pos: u32,
-    body: &[u8],
-) -> Result<Vec<u8>, AllocError> {
-    let mut event = front_of_event(alloc, event_type, 0, log_pos, body, 4)?;
-    let checksum = crc32(&event);
-    event.extend_from_slice(&checksum.to_le_bytes())?;
-    Ok(event)
-}
+pub const SUMMED_MAP: [u8; 41] = [
+    0x00, 0x00, 0x00, 0x00, 0x13, 0x01, 0x00, 0x00, 0x00, 0x29, 0x00, 0x00, 0x00, 0xa8, 0x00, 0x00,
+    0x00, 0x00, 0x00, 0x07, 0x00, 0x00, 0x00, 0x00, 0x00, 0x01, 0x00, 0x01, 0x64, 0x00, 0x01, 0x74,
+    0x00, 0x01, 0x03, 0x00, 0x01, 0xc6, 0x19, 0xef, 0x63,
+];
 
-/// FORMAT_DESCRIPTION_EVENT of server 5.6.1 with this checksum algorithm, to position 85.
-pub fn description(alloc: Global, algorithm: u8) -> Result<Vec<u8>, AllocError> {
-    let mut body = Vec::from_slice(alloc, b"\x04\x005.6.1")?;
-    body.resize(56, 0)?;
-    body.extend_from_slice(&[19, algorithm])?;
-    checksummed(alloc, 15, 85, &body)
-}
+pub const SUMMED_ROWS: [u8; 40] = [
+    0x00, 0x00, 0x00, 0x00, 0x1e, 0x01, 0x00, 0x00, 0x00, 0x28, 0x00, 0x00, 0x00, 0xd0, 0x00, 0x00,
+    0x00, 0x00, 0x00, 0x07, 0x00, 0x00, 0x00, 0x00, 0x00, 0x01, 0x00, 0x02, 0x00, 0x01, 0x01, 0x00,
+    0x05, 0x00, 0x00, 0x00, 0x94, 0x99, 0x0b, 0x37,
+];
 
-/// QUERY_EVENT without status variables.
-pub fn query(
-    alloc: Global,
-    log_pos: u32,
-    schema: &[u8],
-    text: &[u8],
-) -> Result<Vec<u8>, AllocError> {
-    let schema_len = schema.len().to_le_bytes();
-    let mut body = Vec::from_slice(alloc, &[1, 0, 0, 0, 0, 0, 0, 0])?;
-    body.extend_from_slice(&schema_len[..1])?;
-    body.extend_from_slice(&[0; 4])?;
-    body.extend_from_slice(schema)?;
-    body.push(0)?;
-    body.extend_from_slice(text)?;
-    event(alloc, 2, 0, log_pos, &body)
-}
+pub const SUMMED_XID: [u8; 31] = [
+    0x00, 0x00, 0x00, 0x00, 0x10, 0x01, 0x00, 0x00, 0x00, 0x1f, 0x00, 0x00, 0x00, 0xef, 0x00, 0x00,
+    0x00, 0x00, 0x00, 0x0b, 0x00, 0x00, 0x00, 0x00, 0x00, 0x00, 0x00, 0x24, 0x80, 0xac, 0xd0,
+];
 
-/// XID_EVENT.
-pub fn xid(alloc: Global, log_pos: u32) -> Result<Vec<u8>, AllocError> {
-    event(alloc, 16, 0, log_pos, &[11, 0, 0, 0, 0, 0, 0, 0])
-}
+/// The report of the magic number and these five.
+pub const SUMMED_TEXT: &str = "begin -\ninsert 'd' 't' 0=5\ncommit 239\n";
 
-/// A mark and events.
+/// The magic number and events.
 pub fn file_of(alloc: Global, events: &[&[u8]]) -> Result<Vec<u8>, AllocError> {
     let mut file = Vec::from_slice(alloc, &MARK)?;
     for event in events {
         file.extend_from_slice(event)?;
     }
     Ok(file)
+}
+
+/// The small binary log, 142 bytes.
+pub fn one_insert(alloc: Global) -> Result<Vec<u8>, AllocError> {
+    file_of(alloc, &[&BEGIN, &MAP, &ROWS, &XID])
 }
 
 /// The small binary log with its transaction a second time, to position 280.
@@ -140,6 +106,20 @@ pub fn put_packet(stream: &mut Vec<u8>, number: u8, event: &[u8]) -> Result<(), 
     stream.extend_from_slice(&len[..3])?;
     stream.extend_from_slice(&[number, 0])?;
     stream.extend_from_slice(event)
+}
+
+/// The packets of events, numbered from 1, and after them the closing packet where the answer is whole.
+pub fn answer_of(alloc: Global, events: &[&[u8]], is_whole: bool) -> Result<Vec<u8>, AllocError> {
+    let mut answer = Vec::new(alloc);
+    let mut number = 1u8;
+    for event in events {
+        put_packet(&mut answer, number, event)?;
+        number = number.wrapping_add(1);
+    }
+    if is_whole {
+        answer.extend_from_slice(&[5, 0, 0, number, 0xfe, 0, 0, 2, 0])?;
+    }
+    Ok(answer)
 }
 
 /// A reader that gives some bytes, at most so many at once, and then ends or fails.

@@ -1,18 +1,17 @@
 //! Semi-synchronous answers: what is sent, what is shown of it, and what is acknowledged.
 
 use crate::failing::Full;
-use crate::samples::{BEGIN, MAP, ROWS, TEXT, XID, file_of};
-use binlog_feed::{
-    Follower, RequestError, Served, Step, Verdict, Watched, rehearse_semi, request, serve,
-    serve_semi,
-};
+use crate::following::LIMIT;
+use crate::samples::{BEGIN, MAP, ROWS, TEXT, XID, answer_of, one_insert};
 use crc32::crc32;
+use feed_rules::Verdict;
+use feed_runs::{Step, rehearse_semi};
+use feed_serving::{Served, serve_semi};
+use feed_streams::{Follower, RequestError, request};
 use linked_list_allocator::LocalHeap;
 use std::alloc::{AllocError, Global};
 use std::test::*;
-
-/// The greatest length of a payload that the program allows.
-const LIMIT: usize = 1_073_741_824;
+use wire_buf::Watched;
 
 /// The name of the binary log.
 const NAME: &[u8] = b"m";
@@ -36,12 +35,7 @@ const FIRST_END: usize = 45;
 
 const LAST_END: usize = 166;
 
-/// The small binary log, 142 bytes.
-fn one_insert(alloc: Global) -> Result<Vec<u8>, AllocError> {
-    file_of(alloc, &[&BEGIN, &MAP, &ROWS, &XID])
-}
-
-/// Its answer from the start with these flag bytes, and this number of the last event's packet.
+/// The answer for the small binary log with these flag bytes, and this number of the last event's packet.
 fn answer_with(alloc: Global, flags: [u8; 2], number: u8) -> Result<Vec<u8>, AllocError> {
     let mut answer = Vec::from_slice(alloc, &[0x29, 0, 0, 1, 0, 0xef, flags[0]])?;
     answer.extend_from_slice(&BEGIN)?;
@@ -117,16 +111,12 @@ fn served(alloc: Global, log: &[u8], limit: usize) -> Result<(Vec<u8>, Served), 
     Ok((writer.into_inner(), outcome))
 }
 
-#[test]
-fn semi_serve(rt: HostRuntime) -> Result<(), Fail> {
-    let alloc = rt.alloc();
-    let log = one_insert(alloc)?;
-    let (answer, outcome) = served(alloc, &log, LIMIT)?;
-    let wanted = answer_with(alloc, [1, 1], 4)?;
-    assert!(rt;
-        wanted.len() == WHOLE && answer.as_slice() == wanted.as_slice() && outcome == Served::Whole
-    );
-    Ok(())
+/// Whether a log is answered so within a limit.
+fn gives(alloc: Global, log: &[u8], limit: usize, answer: &[u8], outcome: Served) -> bool {
+    match served(alloc, log, limit) {
+        Ok((written, found)) => found == outcome && written.as_slice() == answer,
+        Err(_) => false,
+    }
 }
 
 // The first payload has 41 bytes.
@@ -134,125 +124,119 @@ fn semi_serve(rt: HostRuntime) -> Result<(), Fail> {
 fn semi_serve_limit(rt: HostRuntime) -> Result<(), Fail> {
     let alloc = rt.alloc();
     let log = one_insert(alloc)?;
-    let (none, too_large) = served(alloc, &log, 40)?;
-    let (answer, whole) = served(alloc, &log, 41)?;
+    let answer = answer_with(alloc, [1, 1], 4)?;
     assert!(rt;
-        none.is_empty()
-            && too_large == Served::Fault(Verdict::TooLarge)
-            && answer.len() == WHOLE
-            && whole == Served::Whole
+        answer.len() == WHOLE
+            && gives(alloc, &log, 40, b"", Served::Fault(Verdict::TooLarge))
+            && gives(alloc, &log, 41, &answer, Served::Whole)
     );
     Ok(())
+}
+
+/// Whether that is what comes of a stream.
+fn is_followed(alloc: Global, stream: &[u8], text: &str, verdict: Verdict, acks: &[&[u8]]) -> bool {
+    match followed(alloc, stream) {
+        Ok(outcome) => outcome.is(text, verdict, acks),
+        Err(_) => false,
+    }
 }
 
 #[test]
 fn semi_follow(rt: HostRuntime) -> Result<(), Fail> {
     let answer = answer_with(rt.alloc(), [1, 1], 4)?;
-    let found = followed(rt.alloc(), &answer)?;
-    assert!(rt; found.is(TEXT, Verdict::End, &[&FIRST_ACK, &LAST_ACK]));
+    let acks: [&[u8]; 2] = [&FIRST_ACK, &LAST_ACK];
+    assert!(rt; is_followed(rt.alloc(), &answer, TEXT, Verdict::End, &acks));
     Ok(())
 }
 
 #[test]
 fn semi_unknown_flag_bits(rt: HostRuntime) -> Result<(), Fail> {
     let answer = answer_with(rt.alloc(), [0xfe, 0xff], 4)?;
-    let found = followed(rt.alloc(), &answer)?;
-    assert!(rt; found.is(TEXT, Verdict::End, &[&LAST_ACK]));
+    assert!(rt; is_followed(rt.alloc(), &answer, TEXT, Verdict::End, &[&LAST_ACK]));
     Ok(())
 }
 
 #[test]
 fn semi_out_of_number(rt: HostRuntime) -> Result<(), Fail> {
     let answer = answer_with(rt.alloc(), [1, 1], 5)?;
-    let found = followed(rt.alloc(), &answer)?;
-    assert!(rt; found.is("", Verdict::OutOfNumber, &[&FIRST_ACK]));
+    assert!(rt; is_followed(rt.alloc(), &answer, "", Verdict::OutOfNumber, &[&FIRST_ACK]));
     Ok(())
-}
-
-/// The plain answer to a request for the whole of the small binary log.
-fn plain_answer(alloc: Global) -> Result<Vec<u8>, RequestError> {
-    let question = request(alloc, 4, 1, NAME)?;
-    let log = one_insert(alloc)?;
-    let mut reader = Watched::new(log.as_slice());
-    let mut writer = Watched::new(Vec::new(alloc));
-    let _served = serve(
-        alloc,
-        &question,
-        NAME,
-        LIMIT,
-        &mut reader,
-        &crc32,
-        &mut writer,
-    );
-    Ok(writer.into_inner())
 }
 
 #[test]
 fn plain_answer_to_semi_follower(rt: HostRuntime) -> Result<(), Fail> {
-    let answer = plain_answer(rt.alloc())?;
-    let found = followed(rt.alloc(), &answer)?;
-    assert!(rt; answer.len() == 167 && found.is("", Verdict::NotAnEvent, &[]));
-    Ok(())
-}
-
-#[test]
-fn semi_answer_to_plain_follower(rt: HostRuntime) -> Result<(), Fail> {
-    let alloc = rt.alloc();
-    let (mut follower, _request) = Follower::start(alloc, 4, 1, NAME, LIMIT, crc32)?;
-    let mut writer = Watched::new(Vec::new(alloc));
-    let verdict = follower.feed(&answer_with(alloc, [1, 1], 4)?, &mut writer);
-    let acks = follower.acks();
+    let answer = answer_of(rt.alloc(), &[&BEGIN, &MAP, &ROWS, &XID], true)?;
     assert!(rt;
-        verdict == Some(Verdict::NotAnEvent) && acks.is_empty() && writer.into_inner().is_empty()
+        answer.len() == 167 && is_followed(rt.alloc(), &answer, "", Verdict::NotAnEvent, &[])
     );
     Ok(())
 }
 
+/// Whether a plain follower ends so with an answer, shows this, and acknowledges nothing.
+fn has_no_acks(alloc: Global, answer: &[u8], text: &str, verdict: Verdict) -> bool {
+    let Ok((mut follower, _request)) = Follower::start(alloc, 4, 1, NAME, LIMIT, crc32) else {
+        return false;
+    };
+    let mut writer = Watched::new(Vec::new(alloc));
+    follower.feed(answer, &mut writer) == Some(verdict)
+        && follower.acks().is_empty()
+        && writer.into_inner().as_slice() == text.as_bytes()
+}
+
+// Of a plain answer, and of a semi-synchronous one.
 #[test]
 fn plain_follower_acknowledges_nothing(rt: HostRuntime) -> Result<(), Fail> {
     let alloc = rt.alloc();
-    let (mut follower, _request) = Follower::start(alloc, 4, 1, NAME, LIMIT, crc32)?;
-    let mut writer = Watched::new(Vec::new(alloc));
-    let verdict = follower.feed(&plain_answer(alloc)?, &mut writer);
-    let acks = follower.acks();
-    assert!(rt; verdict == Some(Verdict::End) && acks.is_empty());
+    let plain = answer_of(alloc, &[&BEGIN, &MAP, &ROWS, &XID], true)?;
+    let semi = answer_with(alloc, [1, 1], 4)?;
+    assert!(rt;
+        has_no_acks(alloc, &plain, TEXT, Verdict::End)
+            && has_no_acks(alloc, &semi, "", Verdict::NotAnEvent)
+    );
     Ok(())
 }
 
-// What waits is handed out once, before a verdict and behind it; `again` keeps it.
-#[test]
-fn acks_are_handed_out_once(rt: HostRuntime) -> Result<(), Fail> {
-    let alloc = rt.alloc();
-    let answer = answer_with(alloc, [1, 1], 4)?;
-    let (front, back) = answer.split_at(FIRST_END.min(answer.len()));
+/// Whether a follower gives its acknowledgements once: the first after the first event, the last after the last, where `again` was
+/// called before it was asked for them.
+fn acknowledges_once(alloc: Global, first: &[u8], rest: &[u8]) -> Result<bool, RequestError> {
     let (mut follower, _request) = Follower::start_semi(alloc, 4, 1, NAME, LIMIT, crc32)?;
     let mut writer = Watched::new(Vec::new(alloc));
-    let is_open = follower.feed(front, &mut writer).is_none();
-    let has_first = are_joined(&follower.acks(), &[&FIRST_ACK]);
-    let has_none = follower.acks().is_empty();
-    assert!(rt; is_open && has_first && has_none);
-    let is_end = follower.feed(back, &mut writer) == Some(Verdict::End);
-    let asks_again = follower.again().is_ok();
-    let has_last = are_joined(&follower.acks(), &[&LAST_ACK]);
-    assert!(rt; is_end && asks_again && has_last && follower.acks().is_empty());
+    let has_first = follower.feed(first, &mut writer).is_none()
+        && are_joined(&follower.acks(), &[&FIRST_ACK])
+        && follower.acks().is_empty();
+    let has_last = follower.feed(rest, &mut writer) == Some(Verdict::End)
+        && follower.again().is_ok()
+        && are_joined(&follower.acks(), &[&LAST_ACK])
+        && follower.acks().is_empty();
+    Ok(has_first && has_last)
+}
+
+#[test]
+fn acks_are_handed_out_once(rt: HostRuntime) -> Result<(), Fail> {
+    let answer = answer_with(rt.alloc(), [1, 1], 4)?;
+    let (first, rest) = answer.split_at(FIRST_END.min(answer.len()));
+    assert!(rt; acknowledges_once(rt.alloc(), first, rest)?);
     Ok(())
+}
+
+/// Whether a follower whose writer has room for so many bytes acknowledges the first event alone, and writes a prefix of the text.
+fn acknowledges_what_is_written(alloc: Global, answer: &[u8], room: usize) -> bool {
+    let Ok((mut follower, _request)) = Follower::start_semi(alloc, 4, 1, NAME, LIMIT, crc32) else {
+        return false;
+    };
+    let taken = Vec::new(alloc);
+    let mut writer = Watched::new(Full { taken, room });
+    follower.feed(answer, &mut writer) == Some(Verdict::Write)
+        && are_joined(&follower.acks(), &[&FIRST_ACK])
+        && TEXT.as_bytes().starts_with(&writer.into_inner().taken)
 }
 
 // What an event shows is written before its acknowledgement waits.
 #[test]
 fn semi_follow_with_a_failing_writer(rt: HostRuntime) -> Result<(), Fail> {
-    let alloc = rt.alloc();
-    let answer = answer_with(alloc, [1, 1], 4)?;
+    let answer = answer_with(rt.alloc(), [1, 1], 4)?;
     for room in 0..TEXT.len() {
-        let (mut follower, _request) = Follower::start_semi(alloc, 4, 1, NAME, LIMIT, crc32)?;
-        let taken = Vec::new(alloc);
-        let mut writer = Watched::new(Full { taken, room });
-        let verdict = follower.feed(&answer, &mut writer);
-        let acks = follower.acks();
-        let is_front = TEXT.as_bytes().starts_with(&writer.into_inner().taken);
-        assert!(rt;
-            verdict == Some(Verdict::Write) && is_front && are_joined(&acks, &[&FIRST_ACK])
-        );
+        assert!(rt; acknowledges_what_is_written(rt.alloc(), &answer, room));
     }
     Ok(())
 }
@@ -317,20 +301,22 @@ fn semi_rehearse_a_growing_log(rt: HostRuntime) -> Result<(), Fail> {
     Ok(())
 }
 
-// Memory is refused for the acknowledgements alone: what the step shows is written, and whole packets are kept.
-#[test]
-fn semi_rehearse_with_refused_memory(rt: HostRuntime) -> Result<(), Fail> {
-    let alloc = rt.alloc();
-    let log = one_insert(alloc)?;
-    let heap = LocalHeap::new(alloc, 16)?;
-    let mut kept = Vec::new(&heap);
+/// Whether a run whose acknowledgements get no more memory than this keeps the first, has written the text, and ends with `Memory`.
+fn runs_out_of_memory(alloc: Global, log: &[u8], heap: &LocalHeap) -> bool {
+    let mut kept = Vec::new(heap);
     let mut writer = Watched::new(Vec::new(alloc));
     let steps = [step(142, FIRST_END), step(142, ALL)];
-    let verdict = rehearse_semi(alloc, &log, NAME, &steps, &crc32, &mut writer, &mut kept);
-    assert!(rt;
-        verdict == Verdict::Memory
-            && are_joined(&kept, &[&FIRST_ACK])
-            && writer.into_inner().as_slice() == TEXT.as_bytes()
-    );
+    let verdict = rehearse_semi(alloc, log, NAME, &steps, &crc32, &mut writer, &mut kept);
+    verdict == Verdict::Memory
+        && are_joined(&kept, &[&FIRST_ACK])
+        && writer.into_inner().as_slice() == TEXT.as_bytes()
+}
+
+// What the step shows is written, and whole packets are kept.
+#[test]
+fn semi_rehearse_with_refused_memory(rt: HostRuntime) -> Result<(), Fail> {
+    let log = one_insert(rt.alloc())?;
+    let heap = LocalHeap::new(rt.alloc(), 16)?;
+    assert!(rt; runs_out_of_memory(rt.alloc(), &log, &heap));
     Ok(())
 }

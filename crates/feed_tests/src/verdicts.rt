@@ -1,12 +1,18 @@
 //! Names and exit statuses.
 
-use binlog_feed::{Verdict, name_of, status};
+use feed_rules::{Verdict, name_of, status};
+use feed_serving::Served;
+use feed_streams::RequestError;
 use std::test::*;
 
 #[test]
 fn names_and_statuses(rt: HostRuntime) {
-    assert_eq!(rt; name_of(&Verdict::End), "End");
-    assert_eq!(rt; name_of(&Verdict::UnknownKind), "UnknownKind");
-    assert_eq!(rt; status(&Verdict::End), 0);
-    assert_eq!(rt; status(&Verdict::Closed), 1);
+    assert!(rt;
+        name_of(&Verdict::End) == "End"
+            && name_of(&Verdict::UnknownKind) == "UnknownKind"
+            && Served::Whole.name() == "Whole"
+            && RequestError::Memory.name() == "Memory"
+            && status(&Verdict::End) == 0
+            && status(&Verdict::Closed) == 1
+    );
 }

@@ -4,7 +4,8 @@ use Rattle.std.proofs.lemmas.List.{append-nil}
 use Rattle.std.specs.List.{join_with_byte}
 use Rattle.std.specs.Str.{is_utf8}
 use Rattle.rows_jsonb.specs.JsonTrees.{Tree, array, object, Items, no_items, item, Members, no_members}
-use Rattle.rows_jsonb.specs.JsonbValues.{JsonbValue, Reading, ◌>>=◌, elem_in, key_of, count_in, is_array_in, is_object_in}
+use Rattle.rows_jsonb.specs.JsonbValues.{JsonbValue, elem_in, key_of, count_in, is_array_in, is_object_in}
+use Rattle.rows_times.specs.Readings.{Reading, ◌>>=◌}
 use Rattle.rows_jsonb.specs.DocumentTrees.{Counted, items, members, tree_of, utf8}
 use Rattle.rows_jsonb.proofs.Building.{array_tree, object_tree, behind_members, none_behind_members, members_turn, members_end}
 use Rattle.feed_writers.specs.Quoting.{quoted}

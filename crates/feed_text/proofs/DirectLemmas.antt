@@ -5,9 +5,9 @@ use Rattle.std.proofs.lemmas.List.{length-take-le}
 use Rattle.std.proofs.lemmas.Bool.Decides.{leb_tells}
 use Rattle.std.proofs.Math.Seq.{take-length}
 use Rattle.byteorder.specs.Endian.{little_number}
-use Rattle.rows_values.specs.declared.fault.RowsError.{RowsError}
-use Rattle.rows_values.specs.declared.fault.RowsError.TheVariants.{Jsonb}
-use Rattle.rows_values.specs.declared.fault.JsonbError.TheVariants.{SizeOverflow}
+use Rattle.rows_times.specs.declared.fault.RowsError.{RowsError}
+use Rattle.rows_times.specs.declared.fault.RowsError.TheVariants.{Jsonb}
+use Rattle.rows_times.specs.declared.fault.JsonbError.TheVariants.{SizeOverflow}
 use Rattle.rows_jsonb.specs.JsonTrees as tree
 use Rattle.rows_jsonb.specs.JsonTrees.{Tree}
 use Rattle.rows_jsonb.specs.JsonbValues as seen
@@ -20,7 +20,8 @@ use Rattle.feed_writers.specs.Quoting.{quoted}
 use Rattle.feed_text.specs.JsonText.{document_text, scalar_text}
 use Rattle.rows_jsonb.specs.JsonbLayout.{Form, form, offset_size, header_size}
 use Rattle.rows_jsonb.specs.JsonbViews.{IsEaten, jsonb_value}
-use Rattle.rows_jsonb.specs.JsonbValues.{JsonbValue, container, Reading, ◌>>=◌, elem, key, elem_up_to, key_up_to, is_array_in, is_object_in, count_in, element_count_in, bad, container_in, container_at, container_taken, document, document_taken}
+use Rattle.rows_jsonb.specs.JsonbValues.{JsonbValue, container, elem, key, elem_up_to, key_up_to, is_array_in, is_object_in, count_in, element_count_in, bad, container_in, container_at, container_taken, document, document_taken}
+use Rattle.rows_times.specs.Readings.{Reading, ◌>>=◌}
 use Rattle.rows_jsonb.specs.DocumentTrees.{utf8, tree_of, bare_tree, size_of, within, document_tree}
 use Rattle.rows_jsonb.proofs.Building.{flat_tree, other_tree}
 use Rattle.feed_text.specs.DirectText.{WritesScalar, WritesTree, WritesDocument}

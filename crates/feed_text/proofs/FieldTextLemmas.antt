@@ -1,7 +1,7 @@
 -- The text of the cell at the front of bytes.
 use Rattle.std.proofs.Common.{◌≡◌, ℕ, List, Option, Some, None, Ok, refl, ap}
 use Rattle.std.specs.Option.{option_map}
-use Rattle.rows_jsonb.specs.JsonbValues.{Reading, ◌>>=◌}
+use Rattle.rows_times.specs.Readings.{Reading, ◌>>=◌}
 use Rattle.rows_decimal.specs.Unpacked.{packed_text}
 use Rattle.rows_cells.specs.declared.form.CellForm.TheVariants.{Decimal}
 use Rattle.rows_cells.specs.CellForms.{decimal_size}

@@ -6,7 +6,7 @@ use Rattle.std.proofs.Math.Nat.{pow-suc, pow-le-pow_right}
 use Rattle.std.proofs.lemmas.Bool.Decides.{leb_tells, eqb_tells}
 use Rattle.std.proofs.lemmas.Fmt.{decimal_digit, decimal_step, length-decimal-le}
 use Rattle.std.proofs.lemmas.List.{map-append, append-nil, length-map}
-use Rattle.rows_values.specs.TimeTexts.{padded}
+use Rattle.rows_times.specs.TimeTexts.{padded}
 use Rattle.rows_decimal.specs.Digits.{digits_in}
 use Rattle.rows_decimal.specs.Texts.{glyphs, significant, fraction_text, sign_text}
 use Rattle.rows_decimal.specs.Unpacked.{packed_text, text_of}

@@ -2,7 +2,8 @@
 use Rattle.std.specs.Prelude.{ℕ, List, [], ◌∷◌, ◌++◌, codes, Option, Some, None}
 use Rattle.std.specs.declared.result.Result.TheVariants.{Ok}
 use Rattle.std.specs.List.{join_with_byte}
-use Rattle.rows_jsonb.specs.JsonbValues.{JsonbValue, Reading, ◌>>=◌}
+use Rattle.rows_jsonb.specs.JsonbValues.{JsonbValue}
+use Rattle.rows_times.specs.Readings.{Reading, ◌>>=◌}
 use Rattle.rows_jsonb.specs.DocumentTrees.{tree_in}
 use Rattle.rows_jsonb.specs.JsonDiffs.{Diff}
 use Rattle.rows_jsonb.specs.declared.diff.JsonDiffOperation.{JsonDiffOperation}

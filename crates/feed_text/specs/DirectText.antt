@@ -4,7 +4,8 @@ use Rattle.std.specs.declared.result.Result.TheVariants.{Ok}
 use Rattle.std.specs.Str.{is_utf8}
 use Rattle.std.specs.List.{join_with_byte}
 use Rattle.rows_jsonb.specs.JsonTrees.{Tree, Items, Members, no_members, Scalar, scalar}
-use Rattle.rows_jsonb.specs.JsonbValues.{JsonbValue, Reading, elem_in, key_of, count_in}
+use Rattle.rows_jsonb.specs.JsonbValues.{JsonbValue, elem_in, key_of, count_in}
+use Rattle.rows_times.specs.Readings.{Reading}
 use Rattle.rows_jsonb.specs.DocumentTrees.{tree_of, bare_tree, items, members}
 use Rattle.feed_writers.specs.Quoting.{quoted}
 use Rattle.feed_text.specs.JsonText.{document_text, scalar_text, item_texts, member_texts}

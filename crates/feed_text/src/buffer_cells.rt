@@ -19,7 +19,7 @@ use crate::parts::CellParts;
 use crate::short::{FEW, FEW_DIGITS, SHORT, Short, put_short};
 use feed_writers::{put_between, put_byte, put_quoted};
 use rows_cells::CellRef;
-use rows_values::RowsError;
+use rows_times::RowsError;
 use std::alloc::{Allocator, Global};
 
 /// How many bytes are quoted at once, where they are many.

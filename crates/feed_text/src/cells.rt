@@ -25,7 +25,8 @@ use crate::values::put_value;
 use feed_writers::{put_byte, put_place};
 use rows_cells::{BinlogValue, CellRef};
 use rows_jsonb::{JsonDiff, JsonDom, Value as JsonbValue, json_diffs};
-use rows_values::{RowsError, Value};
+use rows_times::RowsError;
+use rows_values::Value;
 use std::alloc::{Allocator, Global};
 use wire_buf::ParseBuf;
 

@@ -5,7 +5,7 @@ ghost use Rattle.rows_decimal.specs.PackedTexts.{PutsOrNone};
 ghost use Rattle.feed_text.specs.DecimalText.{quoted_decimal, AppendsSome, IsDecimalRefused};
 
 use rows_decimal::put_decimal_text;
-use rows_values::RowsError;
+use rows_times::RowsError;
 use std::alloc::Allocator;
 
 /// Appends the quoted text of the decimal that the bytes pack, of `precision` digits with `scale` of them

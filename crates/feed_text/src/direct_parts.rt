@@ -3,10 +3,11 @@
 ghost use Rattle.std.specs.Prelude.{◌≡◌, IfOk, Ok, Some, option_map};
 ghost use Rattle.wire_forms.specs.RawTexts.{text_of};
 ghost use Rattle.rows_jsonb.specs.JsonbValues.{elem_in, key_of};
-ghost use Rattle.rows_jsonb.specs.JsonbViews.{jsonb_value, shown};
+ghost use Rattle.rows_jsonb.specs.JsonbViews.{jsonb_value};
+ghost use Rattle.rows_times.specs.Readings.{shown};
 
 use rows_jsonb::{ObjectKey, Value};
-use rows_values::RowsError;
+use rows_times::RowsError;
 use std::alloc::AllocError;
 
 /// The text isn't written straight from the bytes.

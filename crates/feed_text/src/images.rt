@@ -9,7 +9,7 @@ use crate::cells::{LABEL, put_label};
 use crate::fields::put_field;
 use crate::short::SHORT;
 use rows_cells::ImageCells;
-use rows_values::RowsError;
+use rows_times::RowsError;
 use std::alloc::{Allocator, Global};
 
 /// The most bytes of a label and a short text.

@@ -2,7 +2,7 @@
 
 ghost use Rattle.std.specs.Prelude.{◌≡◌, ◌≤◌, ◌<◌, ◌^◌, ◌+◌, ◌-◌, ◌/◌, ◌%◌, ◌==◌, ◌++◌, ◌∷◌, [], length, take, take_while, drop};
 ghost use Rattle.std.specs.Fmt.{decimal, signed_decimal};
-ghost use Rattle.rows_values.specs.TimeTexts.{padded};
+ghost use Rattle.rows_times.specs.TimeTexts.{padded};
 
 use itoa::write_digits;
 use std::simd::prelude::*;

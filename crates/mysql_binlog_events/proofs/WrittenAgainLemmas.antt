@@ -17,7 +17,7 @@ use Rattle.rows_meta.specs.TableMaps.{number}
 use Rattle.events_frames.specs.Headers.{Header, IsHeader, header_spelling}
 use Rattle.events_frames.specs.Footers.{Footer}
 use Rattle.events_frames.specs.EventParts.{Parts, IsChecksum, IsOwnEnd, IsContent, IsEvent, describes}
-use Rattle.events_stream.specs.Checksums.{covered}
+use Rattle.events_frames.specs.Checksums.{covered}
 use Rattle.events_stream.specs.WrittenEvents.{front_of, EndsWithSum}
 use Rattle.mysql_binlog_events.specs.WrittenAgain.{IsWrittenBack, IsReadWithSum}
 

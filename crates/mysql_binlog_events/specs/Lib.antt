@@ -21,6 +21,7 @@ pub use Rattle.events_frames.specs.Contexts
 pub use Rattle.events_frames.specs.EventParts
 pub use Rattle.events_frames.specs.Events
 pub use Rattle.events_frames.specs.Frames
+pub use Rattle.events_frames.specs.Checksums
 pub use Rattle.events_gtids.specs.Stamps
 pub use Rattle.events_gtids.specs.OptionalFields
 pub use Rattle.events_gtids.specs.Gtids
@@ -44,6 +45,5 @@ pub use Rattle.events_stream.specs.EventViews
 pub use Rattle.events_stream.specs.OwnedEvents
 pub use Rattle.events_stream.specs.OwnedBodies
 pub use Rattle.events_stream.specs.Files
-pub use Rattle.events_stream.specs.Checksums
 pub use Rattle.events_stream.specs.WrittenEvents
 pub use Rattle.events_stream.specs.FileViews

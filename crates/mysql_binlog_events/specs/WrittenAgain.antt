@@ -3,7 +3,7 @@ use Rattle.std.specs.Prelude.{◌≡◌, ◌<◌, ◌^◌, ℕ, List, Option, So
 use Rattle.wire_buf.specs.Spelling.{AreBytes}
 use Rattle.events_frames.specs.Footers.{Footer}
 use Rattle.events_frames.specs.EventParts.{Parts, IsEvent}
-use Rattle.events_stream.specs.Checksums.{covered}
+use Rattle.events_frames.specs.Checksums.{covered}
 use Rattle.events_stream.specs.WrittenEvents.{front_of, IsWritten}
 
 -- the checksum of an event, where it has one, is what the function answers for the event's bytes

@@ -17,8 +17,8 @@ pub use events_bodies::{
 pub use events_data::{BodyForm, EventData};
 pub use events_frames::{
     BinlogCtx, BinlogEvent, BinlogEventFooter, BinlogEventHeader, BinlogFileHeader, BinlogStruct,
-    EventError, EventParts, FormatDescriptionEvent, NextFrame, gather, next_frame, read_body,
-    read_struct,
+    EventError, EventParts, FormatDescriptionEvent, NextFrame, calc_checksum, gather, next_frame,
+    read_body, read_struct,
 };
 pub use events_gtids::{AnonymousGtidEvent, GtidEvent};
 pub use events_queries::{
@@ -30,4 +30,4 @@ pub use events_rows::{
     RowsKind, UpdateRows, UpdateRowsEvent, UpdateRowsEventV1, UpdateRowsV1, WriteRows,
     WriteRowsEvent, WriteRowsEventV1, WriteRowsV1,
 };
-pub use events_stream::{BinlogFile, Event, EventStreamReader, calc_checksum, write_event};
+pub use events_stream::{BinlogFile, Event, EventStreamReader, write_event};

@@ -19,7 +19,8 @@ pub use rows_jsonb::laws::{
 };
 pub use rows_meta::laws::{equal_maps_say_the_same, maps_are_written_whole};
 pub use rows_optional::laws::{entries_are_read, lists_are_read};
+pub use rows_times::laws::{fields_stand_at_their_places, times_by_cases, worked_time};
 pub use rows_values::laws::{
     equal_columns_and_times_are_the_same, equal_rows_are_the_same, equal_values_are_the_same,
-    fields_stand_at_their_places, times_by_cases, worked_bits, worked_date_and_time, worked_time,
+    worked_bits, worked_time_values,
 };

@@ -2,11 +2,11 @@
 //! that their cells hold, columns and bits, table maps, rows events, and the rows in these.
 //!
 //! Each thing is made in a part of its own, which is re-exported whole: `rows_consts` and `rows_flags` have
-//! the constants, `rows_values` times, values, columns, bits and the faults of rows, `rows_decimal` the
-//! decimals, `rows_jsonb` JSON documents, whose values are `jsonb::Value`, `rows_cells` the cells of columns,
-//! the images of rows, and rows, `rows_optional` the optional metadata of table maps, `rows_meta` table maps,
-//! `rows_plan` the plan of a table's columns, `rows_owned` rows in memory of their own, and `rows_events` rows
-//! events. The parts stand on those of `mysql_wire`.
+//! the constants, `rows_times` the faults of rows and packed times, `rows_values` values, columns, rows and bits,
+//! `rows_decimal` the decimals, `rows_jsonb` JSON documents, whose values are `jsonb::Value`, `rows_cells` the cells
+//! of columns, the images of rows, and rows, `rows_optional` the optional metadata of table maps, `rows_meta` table
+//! maps, `rows_images` the plan of a table's columns and rows in memory of their own, and `rows_events` rows events.
+//! The parts stand on those of `mysql_wire`.
 #![tactic(auto)]
 
 pub mod laws;
@@ -96,6 +96,13 @@ pub use rows_flags::UnknownRowsEventFlags;
 pub use rows_flags::UnknownSemiSyncFlags;
 pub use rows_flags::UnknownUserVarFlags;
 pub use rows_flags::UserVarFlags;
+pub use rows_images::BinlogRow;
+pub use rows_images::BinlogRowCtx;
+pub use rows_images::BinlogRowToRowError;
+pub use rows_images::ColumnPlan;
+pub use rows_images::ImageColumns;
+pub use rows_images::PlannedColumn;
+pub use rows_images::RowImage;
 pub use rows_jsonb::Array;
 pub use rows_jsonb::ArrayIter;
 pub use rows_jsonb::ComplexType;
@@ -168,36 +175,29 @@ pub use rows_optional::SimplePrimaryKey;
 pub use rows_optional::StrValue;
 pub use rows_optional::StrValues;
 pub use rows_optional::VectorDimensionalities;
-pub use rows_owned::BinlogRow;
-pub use rows_owned::BinlogRowCtx;
-pub use rows_owned::BinlogRowToRowError;
-pub use rows_owned::RowImage;
-pub use rows_plan::ColumnPlan;
-pub use rows_plan::ImageColumns;
-pub use rows_plan::PlannedColumn;
+pub use rows_times::DATETIMEF_INT_OFS;
+pub use rows_times::JsonbError;
+pub use rows_times::MysqlTime;
+pub use rows_times::MysqlTimestampType;
+pub use rows_times::RowsError;
+pub use rows_times::TIMEF_INT_OFS;
+pub use rows_times::TIMEF_OFS;
+pub use rows_times::datetime_of;
+pub use rows_times::fraction_size;
+pub use rows_times::my_datetime_packed_from_binary;
+pub use rows_times::my_packed_time_get_frac_part;
+pub use rows_times::my_packed_time_get_int_part;
+pub use rows_times::my_packed_time_make;
+pub use rows_times::my_packed_time_make_int;
+pub use rows_times::my_time_packed_from_binary;
+pub use rows_times::my_timestamp_from_binary;
+pub use rows_times::time_of;
+pub use rows_times::timestamp_of;
 pub use rows_values::Bits;
 pub use rows_values::BitsIter;
 pub use rows_values::Column;
-pub use rows_values::DATETIMEF_INT_OFS;
-pub use rows_values::JsonbError;
-pub use rows_values::MysqlTime;
-pub use rows_values::MysqlTimestampType;
 pub use rows_values::Row;
-pub use rows_values::RowsError;
-pub use rows_values::TIMEF_INT_OFS;
-pub use rows_values::TIMEF_OFS;
 pub use rows_values::Value;
 pub use rows_values::datetime_from_packed;
-pub use rows_values::datetime_of;
-pub use rows_values::fraction_size;
-pub use rows_values::my_datetime_packed_from_binary;
-pub use rows_values::my_packed_time_get_frac_part;
-pub use rows_values::my_packed_time_get_int_part;
-pub use rows_values::my_packed_time_make;
-pub use rows_values::my_packed_time_make_int;
-pub use rows_values::my_time_packed_from_binary;
-pub use rows_values::my_timestamp_from_binary;
 pub use rows_values::new_row_raw;
 pub use rows_values::time_from_packed;
-pub use rows_values::time_of;
-pub use rows_values::timestamp_of;

@@ -10,8 +10,8 @@ pub use Rattle.wire_ints.specs.Strings
 pub use Rattle.wire_ints.specs.Sevens
 pub use Rattle.wire_ints.specs.TrailingOnes
 pub use Rattle.wire_ints.specs.Streams
-pub use Rattle.wire_streams.specs.Transfers
-pub use Rattle.wire_streams.specs.Watched
+pub use Rattle.wire_buf.specs.Transfers
+pub use Rattle.wire_buf.specs.Watched
 pub use Rattle.wire_consts.specs.Numbering
 pub use Rattle.wire_consts.specs.ColumnTypes
 pub use Rattle.wire_consts.specs.Constants

@@ -7,7 +7,7 @@ use Rattle.wire_buf.specs.Spelling.{Begins, Alone}
 use Rattle.wire_buf.specs.Numbers.{IsLenenc}
 use Rattle.wire_buf.specs.Fronts.{lenenc_front}
 use Rattle.wire_buf.proofs.LenencLemmas.{lenenc_front-complete, lenenc_front-sound}
-use Rattle.rows_jsonb.specs.JsonbValues.{Reading}
+use Rattle.rows_times.specs.Readings.{Reading}
 use Rattle.rows_cells.specs.declared.image.ImageColumn.{ImageColumn}
 use Rattle.rows_cells.specs.Fields.{front}
 use Rattle.rows_cells.specs.Images.{bit, form_in, PlacedValue, ImageShape, IsShared, nothing, whole, partial, AreCells, IsImage, cells_at, lenenc_fault, lenenc_of, lenenc_at, bits_at, shared_at, image_at}

@@ -1,8 +1,8 @@
 -- How many bytes the cells of a column take.
 use Rattle.std.specs.Prelude.{ℕ, ◌+◌, ◌-◌, nat_le, if◌then◌else◌}
-use Rattle.rows_values.specs.PackedTimes.{fraction_len}
-use Rattle.rows_values.specs.declared.fault.RowsError.{RowsError}
-use Rattle.rows_values.specs.declared.fault.RowsError.TheVariants.{Metadata, Cell, Decimal as BadDecimal}
+use Rattle.rows_times.specs.PackedTimes.{fraction_len}
+use Rattle.rows_times.specs.declared.fault.RowsError.{RowsError}
+use Rattle.rows_times.specs.declared.fault.RowsError.TheVariants.{Metadata, Cell, Decimal as BadDecimal}
 use Rattle.rows_decimal.specs.Decimals.{packed_size}
 use Rattle.rows_cells.specs.declared.form.Width.{Width}
 use Rattle.rows_cells.specs.declared.form.Width.TheVariants as width

@@ -2,7 +2,7 @@
 use Rattle.std.specs.Prelude.{◌≡◌, ⊤, ◌<◌, ◌++◌, ◌⊎◌, ℕ, List, length}
 use Rattle.std.specs.declared.result.Result.TheVariants.{Ok, Err}
 use Rattle.wire_buf.specs.Numbers.{IsLittle}
-use Rattle.rows_jsonb.specs.JsonbValues.{Reading, ◌>>=◌}
+use Rattle.rows_times.specs.Readings.{Reading, ◌>>=◌}
 use Rattle.rows_cells.specs.declared.form.CellForm.{CellForm}
 use Rattle.rows_cells.specs.Fields.{front, counted}
 use Rattle.rows_cells.specs.CellForms.{Size, exactly, behind, nowhere, size_of}

@@ -1,8 +1,8 @@
 -- Rows: the images of each, the one before a change, the one after it, or both, and rows one after the other to the end of the rows data.
 use Rattle.std.specs.Prelude.{◌≡◌, ◌<◌, ℕ, List, [], ◌∷◌, ◌++◌, length, nat_lt, if◌then◌else◌}
 use Rattle.std.specs.declared.result.Result.TheVariants.{Ok, Err}
-use Rattle.rows_values.specs.declared.fault.RowsError.TheVariants.{EmptyPair}
-use Rattle.rows_jsonb.specs.JsonbValues.{Reading, ◌>>=◌}
+use Rattle.rows_times.specs.declared.fault.RowsError.TheVariants.{EmptyPair}
+use Rattle.rows_times.specs.Readings.{Reading, ◌>>=◌}
 use Rattle.rows_cells.specs.Images.{PlacedValue, ImageShape, IsImage, image_at}
 
 -- images of these shapes, one after the other

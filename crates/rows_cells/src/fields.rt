@@ -3,13 +3,13 @@
 ghost use Rattle.std.specs.Prelude.{◌≡◌, ◌≤◌, length};
 ghost use Rattle.byteorder.specs.Endian.{little_number};
 ghost use Rattle.wire_buf.specs.Numbers.{little_signed};
-ghost use Rattle.rows_jsonb.specs.JsonbViews.{shown};
+ghost use Rattle.rows_times.specs.Readings.{shown};
 ghost use Rattle.rows_cells.specs.Fields.{front, counted};
 ghost use Rattle.rows_cells.specs.CellForms.{bytes_of};
 
 use crate::form::Width;
 use byteorder::{ByteOrder, LittleEndian};
-use rows_values::RowsError;
+use rows_times::RowsError;
 
 /// The first `len` bytes and what follows them; `EndOfBody` where fewer are there.
 #[inline(always)]

@@ -2,7 +2,7 @@
 
 ghost use Rattle.std.specs.Prelude.{◌≡◌, ◌≤◌, IfOk, IfSome, IfNone, Ok, length, take, drop};
 ghost use Rattle.rows_decimal.specs.Unpacked.{packed_text};
-ghost use Rattle.rows_jsonb.specs.JsonbViews.{shown};
+ghost use Rattle.rows_times.specs.Readings.{shown};
 ghost use Rattle.rows_cells.specs.CellForms.{size_of, decimal_size};
 ghost use Rattle.rows_cells.specs.declared.form.Width.TheVariants.{One};
 ghost use Rattle.rows_cells.specs.declared.form.CellForm.TheVariants.{Signed, Unsigned, Counted, Datetime2, Time2};
@@ -16,7 +16,7 @@ use crate::form::{CellForm, Width};
 use byteorder::{ByteOrder, LittleEndian};
 use rows_decimal::{decimal_bin_size, packs_decimal};
 use rows_jsonb::{Value, check_json_diffs};
-use rows_values::{RowsError, datetime_of, fraction_size, time_of, timestamp_of};
+use rows_times::{RowsError, datetime_of, fraction_size, time_of, timestamp_of};
 use wire_buf::ParseBuf;
 
 /// The cell at the front and what follows it. It takes no memory.

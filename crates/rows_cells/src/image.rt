@@ -1,7 +1,7 @@
 //! The image of a row: its null bits, and the cells of the columns in it, one at a time.
 
 ghost use Rattle.std.specs.Prelude.{◌≡◌, ◌≤◌, ◌<◌, ◌*◌, ℕ, List, length, IfOk};
-ghost use Rattle.rows_jsonb.specs.JsonbViews.{shown};
+ghost use Rattle.rows_times.specs.Readings.{shown};
 ghost use Rattle.rows_cells.specs.CellViews.{cell_value, IsReadable};
 ghost use Rattle.rows_cells.specs.Images.{bit, form_in, field_at, lenenc_fault as fault_of_lenenc, lenenc_at, shared_at};
 
@@ -9,7 +9,7 @@ use crate::cell::CellRef;
 use crate::fields::split_front;
 use crate::form::CellForm;
 use crate::front::cell_front;
-use rows_values::RowsError;
+use rows_times::RowsError;
 use wire_buf::ParseBuf;
 
 /// A column that is in an image.

@@ -3,9 +3,9 @@ use Rattle.std.proofs.Common.{◌≡◌, inl, inr, ℕ, List, [], ◌∷◌, len
 use Rattle.std.proofs.lemmas.Result.{err_from_is_err_and, IfErr-weaker}
 use Rattle.std.specs.Io.KnownBytes.{Consumes}
 use Rattle.wire_buf.specs.declared.fault.WireFault.{WireFault}
-use Rattle.wire_streams.specs.Transfers.{FallsShort}
-use Rattle.rows_values.specs.declared.fault.RowsError.{RowsError}
-use Rattle.rows_values.specs.Faults.{rows_error}
+use Rattle.wire_buf.specs.Transfers.{FallsShort}
+use Rattle.rows_times.specs.declared.fault.RowsError.{RowsError}
+use Rattle.rows_times.specs.Faults.{rows_error}
 use Rattle.rows_decimal.specs.declared.fields.Decimal.{Decimal}
 use Rattle.rows_decimal.specs.Decimals.{FailsDecimal, FailsPacked, early, behind}
 

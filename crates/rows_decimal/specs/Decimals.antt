@@ -8,11 +8,11 @@ use Rattle.std.specs.declared.cmp.Ordering.TheVariants.{Less, Greater}
 use Rattle.std.specs.Io.KnownBytes.{Consumes, Appends, IsAtEnd}
 use Rattle.wire_buf.specs.declared.fault.WireFault.{WireFault}
 use Rattle.wire_buf.specs.declared.fault.WireFault.TheVariants as wire
-use Rattle.wire_streams.specs.Transfers.{WritesSome}
+use Rattle.wire_buf.specs.Transfers.{WritesSome}
 use Rattle.rows_decimal.specs.Digits.{AreDigits, side_size, before_bytes, after_bytes, top_flipped, signed}
 use Rattle.rows_decimal.specs.declared.fields.Decimal.{Decimal}
-use Rattle.rows_values.specs.declared.fault.RowsError.{RowsError}
-use Rattle.rows_values.specs.declared.fault.RowsError.TheVariants.{EndOfBody, Decimal as BadDecimal, Memory, Read}
+use Rattle.rows_times.specs.declared.fault.RowsError.{RowsError}
+use Rattle.rows_times.specs.declared.fault.RowsError.TheVariants.{EndOfBody, Decimal as BadDecimal, Memory, Read}
 
 -- the digits, each 0 to 9, the highest first, and the sign; a zero may be negative
 pub record DecimalParts : Type 0 where

@@ -4,8 +4,8 @@ use Rattle.byteorder.specs.Endian.{big_number}
 use Rattle.rows_decimal.specs.Digits.{group_size, side_size, top_flipped, signed, digits_in, has_minus_bit}
 use Rattle.rows_decimal.specs.Decimals.{DecimalParts, packed_size, kept}
 use Rattle.rows_decimal.specs.Texts.{decimal_text}
-use Rattle.rows_values.specs.declared.fault.RowsError.{RowsError}
-use Rattle.rows_values.specs.declared.fault.RowsError.TheVariants.{EndOfBody, Decimal as BadDecimal}
+use Rattle.rows_times.specs.declared.fault.RowsError.{RowsError}
+use Rattle.rows_times.specs.declared.fault.RowsError.TheVariants.{EndOfBody, Decimal as BadDecimal}
 
 -- two runs of digits, one behind the other; none where one of them is missing
 abbrev pub joined : Option (List ℕ) → Option (List ℕ) → Option (List ℕ)

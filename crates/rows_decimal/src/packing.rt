@@ -12,8 +12,7 @@ use crate::fields::Decimal;
 use crate::groups::split_group;
 use std::alloc::{AllocError, Global};
 use std::io::Write;
-use wire_buf::WireFault;
-use wire_streams::write_all;
+use wire_buf::{WireFault, write_all};
 
 impl Decimal {
     /// Writes the packed form, which column values have: the digits in groups of nine from the point

@@ -1,7 +1,7 @@
 //! The packed form of a decimal, read.
 
 ghost use Rattle.std.specs.Prelude.{◌≡◌, ◌≤◌, ◌<◌, ◌-◌, ◌*◌, ◌^◌, ◌++◌, ◌/◌, ◌⊎◌, Some, None, OnOk, IfOk, IfErr, true, false, length, if◌then◌else◌};
-ghost use Rattle.rows_values.specs.declared.fault.RowsError.TheVariants.{Decimal as BadDecimal, Memory};
+ghost use Rattle.rows_times.specs.declared.fault.RowsError.TheVariants.{Decimal as BadDecimal, Memory};
 ghost use Rattle.rows_decimal.specs.Digits.{AreDigits, group_size as group_size_of, side_size as side_size_of, group_bytes, nines_bytes, before_bytes, after_bytes, digits_in};
 ghost use Rattle.rows_decimal.specs.Steps.{Gains, NoDigits};
 ghost use Rattle.rows_decimal.specs.PackedTexts.{turned};
@@ -11,10 +11,10 @@ ghost use Rattle.rows_decimal.specs.Unpacked.{unpacked, kept_of, packed_value, p
 use crate::digits::{DIG_PER_DEC, GROUP_BYTES, decimal_bin_size, group_size, leading, side_size};
 use crate::fields::Decimal;
 use crate::group_number::{group_number, has_minus_bit, is_first};
-use rows_values::RowsError;
+use rows_times::RowsError;
 use std::alloc::{AllocError, Global};
 use std::io::Read;
-use wire_streams::{read_exact, read_more};
+use wire_buf::{read_exact, read_more};
 
 impl Decimal {
     /// Reads the packed form of `precision` digits, `scale` of them after the point, as column values

@@ -6,15 +6,15 @@ use Rattle.std.specs.Rc.{rc_slice_items}
 use Rattle.std.specs.declared.result.Result.{Result}
 use Rattle.rows_values.specs.Columns.{parts_of}
 use Rattle.rows_values.specs.declared.rows.column.Column.{Column}
-use Rattle.rows_values.specs.declared.fault.RowsError.{RowsError}
-use Rattle.rows_values.specs.declared.fault.RowsError.TheVariants.{Memory}
-use Rattle.rows_jsonb.specs.JsonbValues.{Reading, ◌>>=◌}
+use Rattle.rows_times.specs.declared.fault.RowsError.{RowsError}
+use Rattle.rows_times.specs.declared.fault.RowsError.TheVariants.{Memory}
+use Rattle.rows_times.specs.Readings.{Reading, ◌>>=◌}
 use Rattle.rows_cells.specs.Images.{PlacedValue, ImageShape}
 use Rattle.rows_cells.specs.declared.image.ImageColumn.{ImageColumn}
 use Rattle.rows_cells.specs.EventRows.{images_at, row_at}
-use Rattle.rows_owned.specs.RowImages.{IsReadRow, IsRowOf, image_read}
-use Rattle.rows_owned.specs.declared.binlog_row.BinlogRow.{BinlogRow}
-use Rattle.rows_owned.specs.declared.row_image.RowImage.{RowImage}
+use Rattle.rows_images.specs.RowImages.{IsReadRow, IsRowOf, image_read}
+use Rattle.rows_images.specs.declared.binlog_row.BinlogRow.{BinlogRow}
+use Rattle.rows_images.specs.declared.row_image.RowImage.{RowImage}
 use Rattle.rows_events.specs.EventImages.{shapes_read, Reads, ReadsBoth, ReadsEvent, HoldsPair, ReadsImages, ReadsPair}
 use Rattle.rows_events.specs.EventRowSteps.{StandsBefore, Fronts}
 use Rattle.rows_events.specs.EventShapes.{shapes_by, row_read}

@@ -4,18 +4,18 @@ use Rattle.std.specs.Prelude.{filter, nat_lt, IfOk}
 use Rattle.std.specs.declared.result.Result.{Result}
 use Rattle.rows_values.specs.BitLists.{bit_of, bit_at, len_of, lowest_bit}
 use Rattle.rows_values.specs.declared.bits.Bits.{Bits}
-use Rattle.rows_jsonb.specs.JsonbValues.{Reading, ◌>>=◌}
+use Rattle.rows_times.specs.Readings.{Reading, ◌>>=◌}
 use Rattle.rows_cells.specs.Images.{ImageShape}
 use Rattle.rows_cells.specs.declared.image.ImageColumn.{ImageColumn}
-use Rattle.rows_plan.specs.Plans.{PlannedColumn}
-use Rattle.rows_plan.specs.PickedColumns.{is_picked, picked_as, is_set, in_image, definition}
+use Rattle.rows_images.specs.Plans.{PlannedColumn}
+use Rattle.rows_images.specs.PickedColumns.{is_picked, picked_as, is_set, in_image, definition}
 use Rattle.std.specs.Rc.{rc_slice_items}
 use Rattle.rows_values.specs.Columns.{parts_of}
-use Rattle.rows_plan.specs.PlanViews.{planned}
-use Rattle.rows_plan.specs.ImageShapes.{TablePlan, table_plan, shape_picked}
-use Rattle.rows_plan.specs.declared.plan.ColumnPlan.{ColumnPlan}
-use Rattle.rows_owned.specs.RowImages.{image_read}
-use Rattle.rows_owned.specs.declared.row_image.RowImage.{RowImage}
+use Rattle.rows_images.specs.PlanViews.{planned}
+use Rattle.rows_images.specs.ImageShapes.{TablePlan, table_plan, shape_picked}
+use Rattle.rows_images.specs.declared.plan.ColumnPlan.{ColumnPlan}
+use Rattle.rows_images.specs.RowImages.{image_read}
+use Rattle.rows_images.specs.declared.row_image.RowImage.{RowImage}
 use Rattle.rows_events.specs.RowPairs.{planned_table}
 use Rattle.rows_events.specs.EventImages.{Reads}
 use Rattle.rows_events.specs.FieldViews.{ShowsBits}

@@ -3,10 +3,12 @@ use Rattle.std.specs.Borrow.{Bor}
 use Rattle.std.specs.Prelude.{◌≡◌, ◌⊎◌, ⊤, ℕ, List, [], Option, Some, None}
 use Rattle.std.specs.declared.result.Result.{Result}
 use Rattle.std.specs.declared.result.Result.TheVariants.{Ok, Err}
-use Rattle.rows_values.specs.declared.fault.RowsError.{RowsError}
-use Rattle.rows_values.specs.declared.fault.RowsError.TheVariants.{Memory}
+use Rattle.rows_times.specs.declared.fault.RowsError.{RowsError}
+use Rattle.rows_times.specs.declared.fault.RowsError.TheVariants.{Memory}
 use Rattle.rows_cells.specs.Images.{PlacedValue}
-use Rattle.rows_owned.specs.declared.binlog_row.BinlogRow.{BinlogRow}
+use Rattle.rows_cells.specs.RowViews.{row_shape}
+use Rattle.rows_cells.specs.declared.rows.RowPlan.{RowPlan}
+use Rattle.rows_images.specs.declared.binlog_row.BinlogRow.{BinlogRow}
 use Rattle.rows_events.specs.EventShapes.{event_shapes, row_read}
 use Rattle.rows_events.specs.EventImages.{ReadsEvent}
 use Rattle.rows_events.specs.RowPairs.{TableView, mapped_table, planned_table, IsPair}
@@ -72,3 +74,15 @@ Makes t r (Err e) new = e ≡ Memory ⊎ event_shapes r t.plan ≡ Err e
 
 abbrev pub MakesImages : RowsEventRows → Result ⊤ RowsError → RowsEventRows → Type 0
 MakesImages old result new = (t : TableView) (r : RowsBody) (bytes : List ℕ) → StandsBefore old t r bytes → Makes t r result new × StandsBefore new t r bytes
+
+-- these are the columns of the images, or there are none
+abbrev pub Plans : TableView → RowsBody → Result RowPlan RowsError → Type 0
+Plans t r (Ok p) = event_shapes r t.plan ≡ Ok (row_shape p)
+Plans t r (Err e) = e ≡ Memory ⊎ event_shapes r t.plan ≡ Err e
+
+abbrev pub PlansImages : RowsEventRows → Result RowPlan RowsError → Type 0
+PlansImages it result = (t : TableView) (r : RowsBody) (bytes : List ℕ) → StandsBefore it t r bytes → Plans t r result
+
+-- this is what is left of the rows data
+abbrev pub IsRest : RowsEventRows → List ℕ → Type 0
+IsRest it rest = (t : TableView) (r : RowsBody) (bytes : List ℕ) → StandsBefore it t r bytes → rest ≡ bytes

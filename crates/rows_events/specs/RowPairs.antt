@@ -3,17 +3,17 @@ use Rattle.std.specs.Prelude.{◌≡◌, ℕ, List, [], ◌∷◌, map, Option, 
 use Rattle.std.specs.List.{AllZip}
 use Rattle.std.specs.declared.result.Result.TheVariants.{Ok}
 use Rattle.rows_values.specs.Columns.{parts_of}
-use Rattle.rows_jsonb.specs.JsonbValues.{Reading}
+use Rattle.rows_times.specs.Readings.{Reading}
 use Rattle.rows_cells.specs.Images.{PlacedValue}
 use Rattle.rows_cells.specs.declared.image.ImageColumn.{ImageColumn}
 use Rattle.rows_meta.specs.MapViews.{map_of}
 use Rattle.rows_meta.specs.declared.table_map.TableMapEvent.{TableMapEvent}
-use Rattle.rows_plan.specs.PickedColumns.{in_image, definition, picked_as}
-use Rattle.rows_plan.specs.ImageShapes.{TablePlan, table_plan, map_plan}
-use Rattle.rows_plan.specs.declared.plan.ColumnPlan.{ColumnPlan}
-use Rattle.rows_owned.specs.OwnedRows.{values_of, columns_of, image_of}
-use Rattle.rows_owned.specs.RowImages.{IsHeld}
-use Rattle.rows_owned.specs.declared.binlog_row.BinlogRow.{BinlogRow}
+use Rattle.rows_images.specs.PickedColumns.{in_image, definition, picked_as}
+use Rattle.rows_images.specs.ImageShapes.{TablePlan, table_plan, map_plan}
+use Rattle.rows_images.specs.declared.plan.ColumnPlan.{ColumnPlan}
+use Rattle.rows_images.specs.OwnedRows.{values_of, columns_of, image_of}
+use Rattle.rows_images.specs.RowImages.{IsHeld}
+use Rattle.rows_images.specs.declared.binlog_row.BinlogRow.{BinlogRow}
 use Rattle.rows_events.specs.EventShapes.{column_bit}
 use Rattle.rows_events.specs.RowsEvents.{RowsBody}
 

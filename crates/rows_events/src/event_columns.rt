@@ -1,17 +1,17 @@
 //! The columns of the images of an event's rows.
 
 ghost use Rattle.std.specs.Prelude.{◌≡◌, ◌⊎◌, ◌∷◌, [], IfOk, IfErr, OnErr, Ok, Err};
-ghost use Rattle.rows_values.specs.declared.fault.RowsError.TheVariants.{Memory};
+ghost use Rattle.rows_times.specs.declared.fault.RowsError.TheVariants.{Memory};
 ghost use Rattle.rows_cells.specs.RowViews.{row_shape, IsBetween};
-ghost use Rattle.rows_plan.specs.ImageShapes.{table_plan, no_columns};
+ghost use Rattle.rows_images.specs.ImageShapes.{table_plan, no_columns};
 ghost use Rattle.rows_events.specs.EventShapes.{event_shapes};
 ghost use Rattle.rows_events.specs.EventColumnViews.{shapes_of};
 ghost use Rattle.rows_events.specs.Views.{body_of};
 
 use crate::rows_event::RowsEvent;
 use rows_cells::{RowPlan, RowsCursor};
-use rows_plan::{ColumnPlan, ImageColumns};
-use rows_values::RowsError;
+use rows_images::{ColumnPlan, ImageColumns};
+use rows_times::RowsError;
 use std::alloc::Global;
 
 /// The columns of the images of a rows event. It keeps its memory from event to event.

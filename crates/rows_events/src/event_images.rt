@@ -1,18 +1,17 @@
 //! The readers of an event's images into rows in memory of their own.
 
 ghost use Rattle.std.specs.Prelude.{◌≡◌, ◌⊎◌, ◌<◌, length, IfOk, IfErr, Err};
-ghost use Rattle.rows_values.specs.declared.fault.RowsError.TheVariants.{Memory};
+ghost use Rattle.rows_times.specs.declared.fault.RowsError.TheVariants.{Memory};
 ghost use Rattle.rows_cells.specs.EventRows.{images_at, row_at};
-ghost use Rattle.rows_plan.specs.ImageShapes.{table_plan};
+ghost use Rattle.rows_images.specs.ImageShapes.{table_plan};
 ghost use Rattle.rows_events.specs.EventShapes.{event_shapes};
 ghost use Rattle.rows_events.specs.EventImages.{shapes_read, ReadsEvent, ReadsImages, ReadsPair};
 ghost use Rattle.rows_events.specs.RowPairs.{planned_table};
 ghost use Rattle.rows_events.specs.Views.{body_of};
 
 use crate::rows_event::RowsEvent;
-use rows_owned::{BinlogRow, RowImage};
-use rows_plan::ColumnPlan;
-use rows_values::RowsError;
+use rows_images::{BinlogRow, ColumnPlan, RowImage};
+use rows_times::RowsError;
 use std::alloc::Global;
 
 /// A row of an event before the change and after it, as far as the event has them.

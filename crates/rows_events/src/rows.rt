@@ -2,18 +2,20 @@
 
 ghost use Rattle.std.specs.Prelude.{◌≡◌, ◌⊎◌, ◌<◌, IfOk, IfErr, IsSome, Err, length};
 ghost use Rattle.std.specs.Iterator.{at_most};
-ghost use Rattle.rows_values.specs.declared.fault.RowsError.TheVariants.{Memory};
+ghost use Rattle.rows_times.specs.declared.fault.RowsError.TheVariants.{Memory};
 ghost use Rattle.rows_events.specs.EventShapes.{event_shapes};
 ghost use Rattle.rows_events.specs.EventImages.{ReadsEvent};
-ghost use Rattle.rows_events.specs.EventRowSteps.{table_of, StandsBefore, TakesRow, MakesImages, ReadsNext};
+ghost use Rattle.rows_events.specs.EventRowSteps.{table_of, StandsBefore, TakesRow, MakesImages, ReadsNext, PlansImages, IsRest};
 ghost use Rattle.rows_events.specs.RowPairs.{mapped_table, planned_table};
 ghost use Rattle.rows_events.specs.Views.{body_of};
 
+use crate::event_columns::EventColumns;
 use crate::event_images::{EventImages, RowPair};
 use crate::rows_event::RowsEvent;
+use rows_cells::RowPlan;
+use rows_images::ColumnPlan;
 use rows_meta::TableMapEvent;
-use rows_plan::ColumnPlan;
-use rows_values::RowsError;
+use rows_times::RowsError;
 use std::alloc::Global;
 
 /// What the plan of the table is taken from.
@@ -102,6 +104,35 @@ impl<'a> RowsEventRows<'a> {
             }
             Err(fault) => Err(fault),
         }
+    }
+
+    /// The columns of the images of the rows, which `columns` takes in place of those before. By them, what is left can be
+    /// read where it stands, without memory for each row.
+    ///
+    /// The refusals of [`EventColumns::fill`]; `Memory` also where the plan of a table map can't be made.
+    pub fn images_in<'p>(&self, columns: &'p mut EventColumns) -> Result<RowPlan<'p>, RowsError>
+        ensures { PlansImages self.now result }
+    {
+        match self.source {
+            Source::Plan(plan) => match columns.fill(self.event, plan) {
+                Ok(()) => Ok(columns.row_plan()),
+                Err(fault) => Err(fault),
+            },
+            Source::Map(map) => match ColumnPlan::new(self.alloc, map) {
+                Ok(plan) => match columns.fill(self.event, &plan) {
+                    Ok(()) => Ok(columns.row_plan()),
+                    Err(fault) => Err(fault),
+                },
+                Err(_) => Err(RowsError::Memory),
+            },
+        }
+    }
+
+    /// The bytes of the rows that are still to come.
+    pub fn rest(&self) -> &'a [u8]
+        ensures { IsRest self.now result.now }
+    {
+        self.rest
     }
 
     /// The row at the front of the bytes that are left, and what follows it.

@@ -9,8 +9,9 @@ use Rattle.wire_buf.specs.Spelling.{Begins, Reads, Lacks, Alone}
 use Rattle.wire_buf.specs.Numbers.{IsLenenc, IsLenencString}
 use Rattle.wire_buf.specs.Fronts.{lenenc_front}
 use Rattle.wire_buf.proofs.LenencLemmas.{lenenc_front-complete, lenenc_front-sound}
-use Rattle.rows_values.specs.declared.fault.RowsError.{RowsError}
-use Rattle.rows_jsonb.specs.JsonbValues.{JsonbValue, Reading, ◌>>=◌, bad}
+use Rattle.rows_times.specs.declared.fault.RowsError.{RowsError}
+use Rattle.rows_jsonb.specs.JsonbValues.{JsonbValue, bad}
+use Rattle.rows_times.specs.Readings.{Reading, ◌>>=◌}
 use Rattle.rows_jsonb.specs.JsonDiffs.{IsJsonbFault, IsEmbedded, IsOperation, IsDiffValue, Diff, IsDiff, operation_at, text_of_length, text_at, embedded_at, diff_value_at, diff_at}
 use Rattle.rows_jsonb.specs.Items.{StopsAt, items_at}
 use Rattle.rows_jsonb.proofs.ItemLemmas.{items-found}

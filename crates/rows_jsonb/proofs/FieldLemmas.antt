@@ -5,11 +5,11 @@ use Rattle.std.proofs.Math.Seq.{drop-append_seam}
 use Rattle.std.specs.Result.{OnOk, IfOk}
 use Rattle.std.specs.declared.result.Result.{Result}
 use Rattle.std.specs.declared.result.Result.TheVariants.{Ok, Err}
-use Rattle.rows_values.specs.declared.fault.RowsError.{RowsError}
+use Rattle.rows_times.specs.declared.fault.RowsError.{RowsError}
 use Rattle.wire_buf.specs.Spelling.{Reads}
-use Rattle.rows_jsonb.specs.JsonbValues.{Reading}
+use Rattle.rows_times.specs.Readings.{Reading, shown}
 use Rattle.rows_jsonb.specs.JsonbFields.{IsTaken}
-use Rattle.rows_jsonb.specs.JsonbViews.{IsEaten, shown}
+use Rattle.rows_jsonb.specs.JsonbViews.{IsEaten}
 
 same_value : {A : Type 0} (v w : A) → ◌≡◌ {A = Reading A} (Ok v) (Ok w) → v ≡ w
 same_value v w e = cc

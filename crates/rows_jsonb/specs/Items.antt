@@ -3,8 +3,8 @@ use Rattle.std.specs.Prelude.{◌≡◌, ◌<◌, ◌++◌, ℕ, zero, suc, List
 use Rattle.std.specs.declared.result.Result.{Result}
 use Rattle.std.specs.declared.result.Result.TheVariants.{Ok, Err}
 use Rattle.wire_buf.specs.Spelling.{ByteForm}
-use Rattle.rows_values.specs.declared.fault.RowsError.{RowsError}
-use Rattle.rows_jsonb.specs.JsonbValues.{Reading}
+use Rattle.rows_times.specs.declared.fault.RowsError.{RowsError}
+use Rattle.rows_times.specs.Readings.{Reading}
 
 -- items one after the other
 abbrev pub AreItems : {A : Type 0} → ByteForm A → ByteForm (List A)

@@ -2,7 +2,8 @@
 use Rattle.std.specs.Prelude.{◌≡◌, ◌++◌, ℕ, List, length}
 use Rattle.std.specs.declared.result.Result.TheVariants.{Ok}
 use Rattle.rows_jsonb.specs.JsonbLayout.{Form}
-use Rattle.rows_jsonb.specs.JsonbValues.{JsonbValue, Reading, document, document_taken, container_at, container_taken}
+use Rattle.rows_jsonb.specs.JsonbValues.{JsonbValue, document, document_taken, container_at, container_taken}
+use Rattle.rows_times.specs.Readings.{Reading}
 
 -- what is found at the front of the bytes and that rest is v, and it takes just the bytes
 pub record IsTaken {A : Type 0} (found : List ℕ → Reading A) (taken : List ℕ → ℕ) (v : A) (bytes rest : List ℕ) : Type 0 where

@@ -7,10 +7,11 @@ use Rattle.wire_buf.specs.Numbers.{little_signed}
 use Rattle.wire_ints.specs.Sevens.{sevens_front}
 use Rattle.wire_consts.specs.declared.column_type.ColumnType.{ColumnType}
 use Rattle.wire_consts.specs.ColumnTypes.{column_type_number}
-use Rattle.rows_jsonb.specs.AllColumnTypes.{column_types}
-use Rattle.rows_values.specs.declared.fault.RowsError.{RowsError}
-use Rattle.rows_values.specs.declared.fault.RowsError.TheVariants.{Jsonb}
-use Rattle.rows_values.specs.declared.fault.JsonbError.TheVariants.{InvalidKeyOffsetPointer, InvalidValueOffsetPointer, SizeOverflow}
+use Rattle.wire_consts.specs.AllColumnTypes.{column_types}
+use Rattle.rows_times.specs.Readings.{Reading, ◌>>=◌}
+use Rattle.rows_times.specs.declared.fault.RowsError.{RowsError}
+use Rattle.rows_times.specs.declared.fault.RowsError.TheVariants.{Jsonb}
+use Rattle.rows_times.specs.declared.fault.JsonbError.TheVariants.{InvalidKeyOffsetPointer, InvalidValueOffsetPointer, SizeOverflow}
 use Rattle.rows_jsonb.specs.JsonbTypes.{type_of, is_inlined, literal_of}
 use Rattle.rows_jsonb.specs.JsonbLayout.{Form, offset_size, value_entry_size, key_entry_offset, value_entry_offset, header_size}
 use Rattle.rows_jsonb.specs.declared.types.LiteralType.{LiteralType}
@@ -32,14 +33,6 @@ pub data JsonbValue : Type 0 where
   text : List ℕ → JsonbValue
   opaque : ℕ → List ℕ → JsonbValue
   container : Form → ℕ → List ℕ → JsonbValue
-
-abbrev pub Reading : Type 0 → Type 0
-Reading A = Result A RowsError
-
-infixl 10 ◌>>=◌
-abbrev pub ◌>>=◌ : {A B : Type 0} → Reading A → (A → Reading B) → Reading B
-(Ok x) >>= f = f x
-(Err e) >>= f = Err e
 
 -- a document can't be read, for no fault of its pointers or sizes
 abbrev pub bad : RowsError

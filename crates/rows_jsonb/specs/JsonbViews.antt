@@ -5,10 +5,11 @@ use Rattle.std.specs.declared.result.Result.TheVariants.{Ok, Err}
 use Rattle.std.specs.Cow.{cow_slice_items}
 use Rattle.wire_consts.specs.ColumnTypes.{column_type_number}
 use Rattle.wire_forms.specs.RawTexts.{text_of}
-use Rattle.rows_values.specs.declared.fault.RowsError.{RowsError}
+use Rattle.rows_times.specs.declared.fault.RowsError.{RowsError}
 use Rattle.rows_jsonb.specs.JsonbLayout.{form}
 use Rattle.rows_jsonb.specs.JsonbValues as seen
-use Rattle.rows_jsonb.specs.JsonbValues.{JsonbValue, Reading}
+use Rattle.rows_jsonb.specs.JsonbValues.{JsonbValue}
+use Rattle.rows_times.specs.Readings.{Reading}
 use Rattle.rows_jsonb.specs.declared.value.Value.{Value}
 use Rattle.rows_jsonb.specs.declared.value.Value.TheVariants.{Null, Bool, I16, U16, I32, U32, I64, U64, F64, String, SmallArray, LargeArray, SmallObject, LargeObject, Opaque}
 
@@ -16,11 +17,6 @@ use Rattle.rows_jsonb.specs.declared.value.Value.TheVariants.{Null, Bool, I16, U
 pub record IsEaten (n : ℕ) (before after : List ℕ) : Type 0 where
   pub room : n ≤ length before
   pub rest : after ≡ drop n before
-
--- a result seen by f
-abbrev pub shown : {A B : Type 0} → (A → B) → Result A RowsError → Reading B
-shown f (Ok x) = Ok (f x)
-shown f (Err e) = Err e
 
 abbrev pub jsonb_value : Value → JsonbValue
 jsonb_value Null = seen.null

@@ -1,6 +1,5 @@
 pub mod JsonbTypes
 pub mod JsonbLayout
-pub mod AllColumnTypes
 pub mod JsonbValues
 pub mod JsonbFields
 pub mod Items

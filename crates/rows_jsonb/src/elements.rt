@@ -3,16 +3,17 @@
 ghost use Rattle.std.specs.Prelude.{◌≡◌, ◌<◌, option_map, true, false};
 ghost use Rattle.std.specs.Cow.{cow_slice_items};
 ghost use Rattle.wire_forms.specs.RawTexts.{text_of};
-ghost use Rattle.rows_jsonb.specs.JsonbLayout.{form as form_of};
+ghost use Rattle.rows_jsonb.specs.JsonbLayout.{form as form_of, key_entry_offset};
 ghost use Rattle.rows_jsonb.specs.JsonbValues.{elem, key, member, elem_up_to, key_up_to, elem_in, key_of, count_in, is_object_in};
-ghost use Rattle.rows_jsonb.specs.JsonbViews.{shown, jsonb_value};
+ghost use Rattle.rows_jsonb.specs.JsonbViews.{jsonb_value};
+ghost use Rattle.rows_times.specs.Readings.{shown};
 
 use crate::complex::ComplexValue;
 use crate::format::{ComplexType, Object, StorageFormat};
 use crate::text::ObjectKey;
 use crate::types::JsonbType;
 use crate::value::Value;
-use rows_values::{JsonbError, RowsError};
+use rows_times::{JsonbError, RowsError};
 use std::borrow::CowSlice;
 use wire_buf::ParseBuf;
 
@@ -72,6 +73,13 @@ impl<'a, T: StorageFormat> ComplexValue<'a, T, Object> {
         }
     }
 
+    /// Where the entry of the key number `pos` begins.
+    fn key_entry_offset(pos: u32) -> usize
+        ensures { result ≡ key_entry_offset T.IS_LARGE pos }
+    {
+        2 * usize::from(T::OFFSET_SIZE) + usize::from(T::KEY_ENTRY_SIZE) * pos as usize
+    }
+
     /// The bytes of the key number `pos`.
     #[tactic(auto, using(crate::proofs::FormLemmas::key_entry_within, crate::proofs::FormLemmas::offset_least))]
     pub(crate) fn key(&self, pos: u32) -> Result<&[u8], RowsError>
@@ -79,7 +87,7 @@ impl<'a, T: StorageFormat> ComplexValue<'a, T, Object> {
         ensures { shown (λ s. s.now) result
             ≡ key (form_of T.IS_LARGE false) self.now.element_count (cow_slice_items self.now.bytes) pos }
     {
-        let at = 2 * usize::from(T::OFFSET_SIZE) + usize::from(T::KEY_ENTRY_SIZE) * pos as usize;
+        let at = Self::key_entry_offset(pos);
         let mut entry = ParseBuf(&self.bytes[at..]);
         let offset = T::eat_offset(&mut entry) as usize;
         let len = usize::from(entry.eat_u16_le());

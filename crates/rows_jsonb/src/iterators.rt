@@ -6,13 +6,14 @@ ghost use Rattle.std.specs.Iterator.{at_most};
 ghost use Rattle.wire_forms.specs.RawTexts.{text_of};
 ghost use Rattle.rows_jsonb.specs.JsonbLayout.{form as form_of};
 ghost use Rattle.rows_jsonb.specs.JsonbValues.{elem, key, member, entry_before, passed};
-ghost use Rattle.rows_jsonb.specs.JsonbViews.{shown, jsonb_value};
+ghost use Rattle.rows_jsonb.specs.JsonbViews.{jsonb_value};
+ghost use Rattle.rows_times.specs.Readings.{shown};
 
 use crate::complex::ComplexValue;
 use crate::format::{Array, Object, StorageFormat};
 use crate::text::ObjectKey;
 use crate::value::Value;
-use rows_values::RowsError;
+use rows_times::RowsError;
 use std::borrow::CowSlice;
 
 /// The elements of an array in order. One that can't be read is an error, and the next ones follow.

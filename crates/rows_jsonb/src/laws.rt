@@ -8,8 +8,8 @@ ghost use Rattle.rows_jsonb.specs.JsonTrees.{scalar, object, member, no_members}
 ghost use Rattle.rows_jsonb.specs.JsonbValues.{bad};
 ghost use Rattle.rows_jsonb.specs.DocumentTrees.{document_tree};
 ghost use Rattle.rows_jsonb.specs.WorkedDocuments.{doubled, doubled_tree, nested, nested_tree};
-ghost use Rattle.rows_values.specs.declared.fault.RowsError.TheVariants.{Jsonb};
-ghost use Rattle.rows_values.specs.declared.fault.JsonbError.TheVariants.{InvalidValueOffsetPointer};
+ghost use Rattle.rows_times.specs.declared.fault.RowsError.TheVariants.{Jsonb};
+ghost use Rattle.rows_times.specs.declared.fault.JsonbError.TheVariants.{InvalidValueOffsetPointer};
 
 /// Documents that are objects of one member, the second with a key that stands twice; and no bytes.
 pub fn worked_objects()

@@ -12,7 +12,7 @@ ghost use Rattle.rows_jsonb.specs.JsonParsing.{Gives, Meets, Parses};
 use crate::dom::{JsonContainer, JsonDom, JsonNumber, JsonOpaque, JsonScalar};
 use crate::value::Value;
 use rows_decimal::Decimal;
-use rows_values::{MysqlTime, RowsError};
+use rows_times::{MysqlTime, RowsError};
 use std::alloc::Global;
 use std::collections::BTreeMap;
 use std::str;

@@ -5,14 +5,15 @@ ghost use Rattle.std.specs.Cow.{cow_slice_items};
 ghost use Rattle.wire_consts.specs.ColumnTypes.{column_type_number};
 ghost use Rattle.rows_jsonb.specs.JsonbLayout.{form as form_of};
 ghost use Rattle.rows_jsonb.specs.JsonbValues.{container, number_at, number_size, value_at, taken_at, literal_at, counted_at, counted_taken, opaque_at, container_at, container_taken, is_column_type, document, document_taken};
-ghost use Rattle.rows_jsonb.specs.JsonbViews.{shown, jsonb_value, IsEaten};
+ghost use Rattle.rows_jsonb.specs.JsonbViews.{jsonb_value, IsEaten};
+ghost use Rattle.rows_times.specs.Readings.{shown};
 
 use crate::complex::ComplexValue;
 use crate::format::{ComplexType, StorageFormat};
 use crate::text::{JsonbString, OpaqueValue};
 use crate::types::{JsonbType, LiteralType};
 use crate::value::Value;
-use rows_values::{JsonbError, RowsError};
+use rows_times::{JsonbError, RowsError};
 use std::borrow::CowSlice;
 use std::marker::PhantomData;
 use wire_buf::ParseBuf;

@@ -5,7 +5,7 @@ use Rattle.std.proofs.lemmas.Bool.Decides.{eqb_tells}
 use Rattle.wire_consts.specs.ColumnTypes.{column_type_number}
 use Rattle.wire_consts.specs.declared.column_type.ColumnType.{ColumnType}
 use Rattle.wire_consts.specs.declared.column_type.ColumnType.TheVariants as column
-use Rattle.rows_jsonb.specs.AllColumnTypes.{column_types}
+use Rattle.wire_consts.specs.AllColumnTypes.{column_types}
 use Rattle.rows_meta.specs.ColumnMetadata.{column_type}
 
 its_own : (t : ColumnType) → column_type (column_type_number t) ≡ Some t

@@ -4,7 +4,7 @@ use Rattle.std.specs.Option.{option_map}
 use Rattle.wire_consts.specs.ColumnTypes.{column_type_number}
 use Rattle.wire_consts.specs.declared.column_type.ColumnType.{ColumnType}
 use Rattle.wire_consts.specs.declared.column_type.ColumnType.TheVariants as column
-use Rattle.rows_jsonb.specs.AllColumnTypes.{column_types}
+use Rattle.wire_consts.specs.AllColumnTypes.{column_types}
 use Rattle.rows_meta.specs.ColumnTypes.{metadata_size}
 
 -- the type that has a number, if there is one

@@ -8,10 +8,10 @@ use Rattle.wire_buf.specs.Numbers.{IsLenenc, one, two, three, eight}
 use Rattle.wire_buf.specs.Fronts.{lenenc_front}
 use Rattle.wire_buf.proofs.LenencLemmas.{lenenc_front-complete, lenenc_front-sound}
 use Rattle.wire_ints.specs.Faults.{lenenc_fault}
-use Rattle.rows_values.specs.Faults.{rows_error}
-use Rattle.rows_values.specs.declared.fault.RowsError.{RowsError}
-use Rattle.rows_values.specs.declared.fault.RowsError.TheVariants.{EndOfBody}
-use Rattle.rows_jsonb.specs.JsonbValues.{Reading, ◌>>=◌}
+use Rattle.rows_times.specs.Faults.{rows_error}
+use Rattle.rows_times.specs.declared.fault.RowsError.{RowsError}
+use Rattle.rows_times.specs.declared.fault.RowsError.TheVariants.{EndOfBody}
+use Rattle.rows_times.specs.Readings.{Reading, ◌>>=◌}
 use Rattle.rows_optional.specs.Entries.{found, front, number_at, string_at, pair_at}
 use Rattle.rows_optional.specs.MetadataFields.{tagged_at}
 use Rattle.rows_optional.specs.Members.{strings_in, members_at}

@@ -4,10 +4,9 @@ use Rattle.wire_buf.specs.Writing.{WritesField}
 use Rattle.wire_buf.specs.Spelling.{Begins, Reads, Lacks}
 use Rattle.wire_forms.specs.Texts.{IsAll}
 use Rattle.wire_buf.proofs.SpellingLemmas.{Reads-both, Lacks-both_first}
-use Rattle.rows_values.specs.declared.fault.RowsError.{RowsError}
-use Rattle.rows_values.specs.declared.fault.RowsError.TheVariants.{Memory}
-use Rattle.rows_jsonb.specs.JsonbValues.{Reading}
-use Rattle.rows_jsonb.specs.JsonbViews.{shown}
+use Rattle.rows_times.specs.declared.fault.RowsError.{RowsError}
+use Rattle.rows_times.specs.declared.fault.RowsError.TheVariants.{Memory}
+use Rattle.rows_times.specs.Readings.{Reading, shown}
 use Rattle.rows_optional.specs.declared.charsets.DefaultCharset.{DefaultCharset}
 use Rattle.rows_optional.specs.MetadataViews.{default_charset_view}
 use Rattle.rows_optional.specs.Entries.{NumberForm, number_at}

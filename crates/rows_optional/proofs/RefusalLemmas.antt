@@ -4,10 +4,10 @@ use Rattle.wire_buf.specs.Spelling.{Lacks}
 use Rattle.wire_buf.specs.Fronts.{lenenc_front}
 use Rattle.wire_buf.proofs.LenencLemmas.{lenenc_lacks}
 use Rattle.wire_ints.specs.Faults.{lenenc_fault}
-use Rattle.rows_values.specs.Faults.{rows_error}
-use Rattle.rows_values.specs.declared.fault.RowsError.{RowsError}
-use Rattle.rows_values.specs.declared.fault.RowsError.TheVariants.{EndOfBody}
-use Rattle.rows_jsonb.specs.JsonbValues.{Reading, ◌>>=◌}
+use Rattle.rows_times.specs.Faults.{rows_error}
+use Rattle.rows_times.specs.declared.fault.RowsError.{RowsError}
+use Rattle.rows_times.specs.declared.fault.RowsError.TheVariants.{EndOfBody}
+use Rattle.rows_times.specs.Readings.{Reading, ◌>>=◌}
 use Rattle.rows_optional.specs.Entries.{NumberForm, StringForm, PairForm, found, number_at, string_at, pair_at}
 use Rattle.rows_optional.specs.EntryRefusals.{NumberRefusal, StringRefusal, PairRefusal}
 use Rattle.rows_optional.proofs.EntryLemmas.{number-is, number-here, number_missing}

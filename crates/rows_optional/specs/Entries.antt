@@ -5,10 +5,10 @@ use Rattle.wire_buf.specs.Spelling.{ByteForm, Alone, Both}
 use Rattle.wire_buf.specs.Numbers.{IsLenenc, IsLenencString}
 use Rattle.wire_buf.specs.Fronts.{lenenc_front}
 use Rattle.wire_ints.specs.Faults.{lenenc_fault}
-use Rattle.rows_values.specs.Faults.{rows_error}
-use Rattle.rows_values.specs.declared.fault.RowsError.{RowsError}
-use Rattle.rows_values.specs.declared.fault.RowsError.TheVariants.{EndOfBody}
-use Rattle.rows_jsonb.specs.JsonbValues.{Reading, ◌>>=◌}
+use Rattle.rows_times.specs.Faults.{rows_error}
+use Rattle.rows_times.specs.declared.fault.RowsError.{RowsError}
+use Rattle.rows_times.specs.declared.fault.RowsError.TheVariants.{EndOfBody}
+use Rattle.rows_times.specs.Readings.{Reading, ◌>>=◌}
 
 -- the forms of entries: a length-encoded integer, a length-encoded string, two length-encoded integers
 abbrev pub NumberForm : ByteForm ℕ

@@ -3,9 +3,9 @@ use Rattle.std.specs.Prelude.{◌≡◌, ◌⊎◌, ℕ, List}
 use Rattle.wire_buf.specs.Spelling.{BeginsWith, Lacks}
 use Rattle.wire_buf.specs.Refusals.{Behind}
 use Rattle.wire_ints.specs.Faults.{lenenc_fault}
-use Rattle.rows_values.specs.Faults.{rows_error}
-use Rattle.rows_values.specs.declared.fault.RowsError.{RowsError}
-use Rattle.rows_values.specs.declared.fault.RowsError.TheVariants.{EndOfBody}
+use Rattle.rows_times.specs.Faults.{rows_error}
+use Rattle.rows_times.specs.declared.fault.RowsError.{RowsError}
+use Rattle.rows_times.specs.declared.fault.RowsError.TheVariants.{EndOfBody}
 use Rattle.rows_optional.specs.Entries.{NumberForm}
 
 -- no number: `UnknownNumber` where the first byte is 251 or 255, else `EndOfBody`

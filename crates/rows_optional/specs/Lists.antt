@@ -2,8 +2,8 @@
 use Rattle.std.specs.Prelude.{◌≡◌, ◌≢◌, ◌<◌, ℕ, zero, suc, List, [], ◌∷◌, length}
 use Rattle.std.specs.declared.result.Result.TheVariants.{Ok, Err}
 use Rattle.wire_buf.specs.Spelling.{ByteForm, Begins, Lacks}
-use Rattle.rows_values.specs.declared.fault.RowsError.{RowsError}
-use Rattle.rows_jsonb.specs.JsonbValues.{Reading}
+use Rattle.rows_times.specs.declared.fault.RowsError.{RowsError}
+use Rattle.rows_times.specs.Readings.{Reading}
 use Rattle.rows_optional.specs.Entries.{number_at, string_at, pair_at}
 
 -- The items of a list: its entries in order, and where bytes are left that begin with no entry, the fault last. No item follows a fault.

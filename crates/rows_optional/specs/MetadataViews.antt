@@ -7,10 +7,9 @@ use Rattle.wire_forms.specs.RawTexts.{text_of}
 use Rattle.wire_consts.specs.declared.geometry_type.GeometryType.{GeometryType}
 use Rattle.rows_values.specs.BitLists.{bit_of, len_of}
 use Rattle.rows_values.specs.declared.bits.Bits.{Bits}
-use Rattle.rows_values.specs.declared.fault.RowsError.{RowsError}
-use Rattle.rows_values.specs.declared.fault.RowsError.TheVariants.{Memory}
-use Rattle.rows_jsonb.specs.JsonbValues.{Reading, ◌>>=◌}
-use Rattle.rows_jsonb.specs.JsonbViews.{shown}
+use Rattle.rows_times.specs.declared.fault.RowsError.{RowsError}
+use Rattle.rows_times.specs.declared.fault.RowsError.TheVariants.{Memory}
+use Rattle.rows_times.specs.Readings.{Reading, ◌>>=◌, shown}
 use Rattle.rows_optional.specs.declared.entries.Entries.{Entries}
 use Rattle.rows_optional.specs.declared.charsets.DefaultCharset.{DefaultCharset}
 use Rattle.rows_optional.specs.declared.charsets.NonDefaultCharset.{NonDefaultCharset}

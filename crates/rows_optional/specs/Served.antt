@@ -1,8 +1,7 @@
 -- What the columns of a table are served from the lists of the optional metadata, one after the other.
 use Rattle.std.specs.Prelude.{ℕ, zero, suc, ◌+◌, ◌%◌, ◌^◌, ◌==◌, Bool, List, [], ◌∷◌, map, Option, Some, None, option_map, if◌then◌else◌}
 use Rattle.std.specs.declared.result.Result.TheVariants.{Ok, Err}
-use Rattle.rows_jsonb.specs.JsonbValues.{Reading}
-use Rattle.rows_jsonb.specs.JsonbViews.{shown}
+use Rattle.rows_times.specs.Readings.{Reading, shown}
 use Rattle.rows_optional.specs.Lists.{numbers, pairs}
 
 -- one list after the other; nothing follows a fault

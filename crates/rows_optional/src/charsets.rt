@@ -3,7 +3,7 @@
 ghost use Rattle.std.specs.Prelude.{◌≡◌, ◌%◌, ℕ, List, [], map, Err};
 ghost use Rattle.std.specs.Iterator.{YieldsFirst, YieldsFirstBy, item_count};
 ghost use Rattle.wire_forms.specs.Texts.{IsAll};
-ghost use Rattle.rows_jsonb.specs.JsonbViews.{shown};
+ghost use Rattle.rows_times.specs.Readings.{shown};
 ghost use Rattle.rows_optional.specs.Entries.{PairForm, number_at, pair_at};
 ghost use Rattle.rows_optional.specs.FieldSpellings.{DefaultForm, all_spelling, pair_spelling, default_spelling};
 ghost use Rattle.rows_optional.specs.Lists.{numbers, pairs};
@@ -12,7 +12,7 @@ ghost use Rattle.rows_optional.specs.MetadataViews.{charset as charset_of, defau
 use crate::entries::{Entries, number_front};
 use crate::reading::{take_all, take_pair};
 use crate::writing::{put_all, put_pair};
-use rows_values::RowsError;
+use rows_times::RowsError;
 use std::alloc::{Allocator, Global};
 use std::borrow::CowSlice;
 use wire_buf::{AnySize, Inner, MyDeserialize, MySerialize, ParseBuf, WireFault};

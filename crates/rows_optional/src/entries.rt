@@ -3,13 +3,13 @@
 ghost use Rattle.std.specs.Prelude.{◌≡◌};
 ghost use Rattle.std.specs.Iterator.{YieldsFirst, YieldsFirstBy};
 ghost use Rattle.wire_ints.specs.Faults.{lenenc_fault};
-ghost use Rattle.rows_values.specs.Faults.{rows_error};
-ghost use Rattle.rows_jsonb.specs.JsonbViews.{shown};
+ghost use Rattle.rows_times.specs.Faults.{rows_error};
+ghost use Rattle.rows_times.specs.Readings.{shown};
 ghost use Rattle.rows_optional.specs.Entries.{number_at, string_at, pair_at};
 ghost use Rattle.rows_optional.specs.MetadataFields.{tagged_at, tagged};
 ghost use Rattle.rows_optional.specs.Lists.{numbers, strings, pairs};
 
-use rows_values::RowsError;
+use rows_times::RowsError;
 use wire_buf::ParseBuf;
 
 /// The length-encoded integer at the front and what follows it. `UnknownNumber` where the first byte is 251 or

@@ -1,7 +1,7 @@
 //! What the columns of a table take from its optional metadata.
 
 ghost use Rattle.std.specs.Prelude.{◌≡◌};
-ghost use Rattle.rows_jsonb.specs.JsonbViews.{shown};
+ghost use Rattle.rows_times.specs.Readings.{shown};
 ghost use Rattle.rows_optional.specs.Lists.{strings};
 ghost use Rattle.rows_optional.specs.Extracted.{extracted, with_field, nothing};
 ghost use Rattle.rows_optional.specs.Served.{bytes_or_none, key_indexes, charset_item, signs_or_none};
@@ -13,7 +13,8 @@ use crate::names::{ColumnNames, IterNames};
 use crate::primary_keys::{PrimaryKeysWithPrefix, SimplePrimaryKey};
 use crate::served::{IterPrimaryKey, IterSignedness};
 use crate::served_charsets::IterCharset;
-use rows_values::{Bits, RowsError};
+use rows_times::RowsError;
+use rows_values::Bits;
 
 /// The fields of the optional metadata from which columns take something. Of two fields of one type it has the
 /// later. What a list holds isn't looked at before a column asks for it.

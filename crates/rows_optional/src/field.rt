@@ -2,7 +2,7 @@
 
 ghost use Rattle.std.specs.Prelude.{◌≡◌, count_by, length};
 ghost use Rattle.std.specs.Iterator.{YieldsFirstBy, item_count};
-ghost use Rattle.rows_jsonb.specs.JsonbViews.{shown};
+ghost use Rattle.rows_times.specs.Readings.{shown};
 ghost use Rattle.rows_optional.specs.KnownConstants.{field_type};
 ghost use Rattle.rows_optional.specs.MetadataFields.{field_of as field_of_type, field_in, fields, bits_in, is_numeric_number, numeric_count};
 ghost use Rattle.rows_optional.specs.MetadataViews.{bits_view, field_view, fields_left};
@@ -15,7 +15,8 @@ use crate::names::ColumnNames;
 use crate::primary_keys::{PrimaryKeysWithPrefix, SimplePrimaryKey};
 use crate::str_values::{EnumsStrValues, SetsStrValues};
 use rows_consts::OptionalMetadataFieldType;
-use rows_values::{Bits, RowsError};
+use rows_times::RowsError;
+use rows_values::Bits;
 use wire_consts::ColumnType;
 
 /// A field of the optional metadata, borrowed from the table map's bytes.

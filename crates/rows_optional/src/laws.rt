@@ -2,7 +2,7 @@
 
 ghost use Rattle.std.specs.Prelude.{◌≡◌, ◌↔◌, ℕ, List, Ok, true};
 ghost use Rattle.wire_buf.specs.Spelling.{Begins};
-ghost use Rattle.rows_jsonb.specs.JsonbValues.{Reading};
+ghost use Rattle.rows_times.specs.Readings.{Reading};
 ghost use Rattle.rows_optional.specs.Entries.{NumberForm, StringForm, PairForm, number_at, string_at, pair_at};
 ghost use Rattle.rows_optional.specs.MetadataFields.{FieldForm, tagged_at};
 ghost use Rattle.rows_optional.specs.Members.{MembersForm, members_at};

@@ -5,7 +5,7 @@ ghost use Rattle.std.specs.Cow.{cow_slice_items, cow_str_bytes, IsOwnedSlice};
 ghost use Rattle.std.specs.Iterator.{YieldsFirstBy, item_count};
 ghost use Rattle.std.specs.Str.Lossy.{utf8_lossy};
 ghost use Rattle.wire_forms.specs.Texts.{IsAll};
-ghost use Rattle.rows_jsonb.specs.JsonbViews.{shown};
+ghost use Rattle.rows_times.specs.Readings.{shown};
 ghost use Rattle.rows_optional.specs.Entries.{StringForm, string_at};
 ghost use Rattle.rows_optional.specs.FieldSpellings.{all_spelling, string_spelling};
 ghost use Rattle.rows_optional.specs.Lists.{strings};
@@ -14,7 +14,7 @@ ghost use Rattle.rows_optional.specs.MetadataViews.{name_view, names_view, names
 use crate::entries::Entries;
 use crate::reading::{take_all, take_string};
 use crate::writing::put_all;
-use rows_values::RowsError;
+use rows_times::RowsError;
 use std::alloc::{AllocError, Allocator, Global};
 use std::borrow::{CowSlice, CowStr};
 use wire_buf::{AnySize, Inner, MyDeserialize, MySerialize, ParseBuf, WireFault};

@@ -3,7 +3,7 @@
 ghost use Rattle.std.specs.Prelude.{◌≡◌, ℕ, List, [], Err};
 ghost use Rattle.std.specs.Iterator.{YieldsFirst, YieldsFirstBy, item_count};
 ghost use Rattle.wire_forms.specs.Texts.{IsAll};
-ghost use Rattle.rows_jsonb.specs.JsonbViews.{shown};
+ghost use Rattle.rows_times.specs.Readings.{shown};
 ghost use Rattle.rows_optional.specs.Entries.{PairForm, pair_at};
 ghost use Rattle.rows_optional.specs.FieldSpellings.{all_spelling, pair_spelling};
 ghost use Rattle.rows_optional.specs.Lists.{numbers, pairs};
@@ -12,7 +12,7 @@ ghost use Rattle.rows_optional.specs.MetadataViews.{key_view, indexes_view, keys
 use crate::entries::Entries;
 use crate::reading::{take_all, take_pair};
 use crate::writing::{put_all, put_pair};
-use rows_values::RowsError;
+use rows_times::RowsError;
 use std::alloc::{Allocator, Global};
 use wire_buf::{AnySize, Inner, MyDeserialize, MySerialize, ParseBuf, WireFault};
 

@@ -6,7 +6,7 @@ ghost use Rattle.wire_forms.specs.Texts.{IsAll};
 ghost use Rattle.rows_optional.specs.Entries.{PairForm, StringForm, pair_at, string_at};
 
 use crate::entries::{pair_front, string_front};
-use rows_values::RowsError;
+use rows_times::RowsError;
 use wire_buf::ParseBuf;
 
 /// All bytes that are left: the value of a list.

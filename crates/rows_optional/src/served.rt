@@ -7,7 +7,8 @@ ghost use Rattle.rows_optional.specs.Served.{key_indexes, first_of};
 ghost use Rattle.rows_optional.specs.MetadataViews.{bits_view, signs_left, indexes_view, keys_view, key_indexes_left, primary_key_left};
 
 use crate::primary_keys::{IterIndexes, IterKeys, PrimaryKeysWithPrefix, SimplePrimaryKey};
-use rows_values::{Bits, RowsError};
+use rows_times::RowsError;
+use rows_values::Bits;
 
 /// For each numeric column that is still to come, whether it is unsigned.
 #[derive(Clone, Copy)]

@@ -2,13 +2,13 @@
 
 ghost use Rattle.std.specs.Prelude.{◌≡◌, option_map, map};
 ghost use Rattle.std.specs.Iterator.{endless};
-ghost use Rattle.rows_jsonb.specs.JsonbViews.{shown};
+ghost use Rattle.rows_times.specs.Readings.{shown};
 ghost use Rattle.rows_optional.specs.Served.{bytes_or_none, pair_bytes, charset_entries, charset_item, default_item};
 ghost use Rattle.rows_optional.specs.Lists.{numbers, pairs};
 ghost use Rattle.rows_optional.specs.MetadataViews.{charset, default_charset_view, charsets_view, entry_before, entries_left, non_default_left, charsets_left, TakesCharset, GivesCharsets};
 
 use crate::charsets::{ColumnCharsets, DefaultCharset, IterCharsets, IterNonDefault};
-use rows_values::RowsError;
+use rows_times::RowsError;
 
 /// The next entry of those that say character sets.
 #[derive(Clone, Copy)]

@@ -7,7 +7,7 @@ ghost use Rattle.std.specs.Str.Lossy.{utf8_lossy};
 ghost use Rattle.wire_buf.specs.Writing.{WritesField};
 ghost use Rattle.wire_buf.specs.declared.fault.WireFault.TheVariants.{Memory as WantOfMemory};
 ghost use Rattle.wire_forms.specs.Texts.{IsAll};
-ghost use Rattle.rows_values.specs.declared.fault.RowsError.TheVariants.{Memory};
+ghost use Rattle.rows_times.specs.declared.fault.RowsError.TheVariants.{Memory};
 ghost use Rattle.rows_optional.specs.Entries.{StringForm, string_at};
 ghost use Rattle.rows_optional.specs.FieldSpellings.{all_spelling, string_spelling, members_spelling};
 ghost use Rattle.rows_optional.specs.Members.{MembersForm, members, members_at};
@@ -16,7 +16,7 @@ ghost use Rattle.rows_optional.specs.MetadataViews.{value_view, values_view, col
 use crate::entries::{number_front, string_front};
 use crate::reading::{take_all, take_string};
 use crate::writing::put_all;
-use rows_values::RowsError;
+use rows_times::RowsError;
 use std::alloc::{AllocError, Allocator, Global};
 use std::borrow::{CowSlice, CowStr};
 use wire_buf::{AnySize, Inner, MyDeserialize, MySerialize, ParseBuf, WireFault, whole_or_none};

@@ -1,6 +1,6 @@
 //! Bits that stand in bytes.
 
-use mysql_binlog_rows::Bits;
+use rows_values::Bits;
 
 /// Whether the bits are one that is set, one that is not and one that is set, by their places.
 fn are_at_their_places(bits: &Bits<'_>) -> bool {

@@ -1,7 +1,7 @@
 //! Columns, values and rows.
 
 use crate::devices::is_borrowed_text;
-use mysql_binlog_rows::{Column, Row, Value, new_row_raw};
+use rows_values::{Column, Row, Value, new_row_raw};
 use std::alloc::{AllocError, Global};
 use std::rc::RcSlice;
 use std::test::Fail;

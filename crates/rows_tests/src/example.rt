@@ -1,10 +1,11 @@
 //! The example of the documentation: the code that stands in `docs/ROWS.md`, and what it prints.
 
 use feed_text::put_cell_ref;
-use mysql_binlog_rows::{
-    ColumnPlan, EventColumns, RowPart, RowsError, RowsEvent, RowsEventCtx, RowsEventType,
-    TableMapEvent,
-};
+use rows_cells::RowPart;
+use rows_events::{EventColumns, RowsEvent, RowsEventCtx, RowsEventType};
+use rows_images::ColumnPlan;
+use rows_meta::TableMapEvent;
+use rows_times::RowsError;
 use std::alloc::Global;
 use wire_buf::ParseBuf;
 
@@ -16,28 +17,52 @@ const UPDATE: &[u8] = b"\x07\0\0\0\0\0\x01\0\x02\0\x02\x03\x03\
     \0\x05\0\0\0\x01a\x02\x06\0\0\0\
     \x02\x07\0\0\0\0\x07\0\0\0\x01b";
 
+/// The plan of the table that a table map describes.
+fn plan_of(alloc: Global, table_map: &[u8]) -> Result<ColumnPlan, RowsError> {
+    let table_map = ParseBuf(table_map).parse::<TableMapEvent<'_>>(alloc, 8)?;
+    Ok(ColumnPlan::new(alloc, &table_map)?)
+}
+
+/// Appends a part of a row to its text.
+fn put_part(alloc: Global, part: RowPart<'_>, text: &mut Vec<u8>) -> Result<(), RowsError> {
+    match part {
+        RowPart::Cell(place, cell) => put_cell_ref(alloc, place, cell, text),
+        RowPart::NextImage => Ok(text.extend_from_slice(b" to")?),
+        RowPart::EndOfRow => Ok(text.push(b'\n')?),
+    }
+}
+
+/// The text of the rows of an event, of each a line.
+fn text_of(
+    alloc: Global,
+    event: &RowsEvent<'_>,
+    columns: &EventColumns,
+) -> Result<Vec<u8>, RowsError> {
+    let mut rows = event.cursor(columns);
+    let mut text = Vec::new(alloc);
+    while let Some(part) = rows.next_part()? {
+        put_part(alloc, part, &mut text)?;
+    }
+    Ok(text)
+}
+
+/// The text of the rows of an event by the plan of its table.
+fn rows_of(alloc: Global, event: &RowsEvent<'_>, plan: &ColumnPlan) -> Result<Vec<u8>, RowsError> {
+    let mut columns = EventColumns::new(alloc);
+    columns.fill(event, plan)?;
+    text_of(alloc, event, &columns)
+}
+
 /// The text of the rows of an update: of each row a line, with `to` before the image after the update.
 fn updated_rows(alloc: Global, table_map: &[u8], update: &[u8]) -> Result<Vec<u8>, RowsError> {
-    let table_map = ParseBuf(table_map).parse::<TableMapEvent<'_>>(alloc, 8)?;
-    let plan = ColumnPlan::new(alloc, &table_map)?;
+    let plan = plan_of(alloc, table_map)?;
     let ctx = RowsEventCtx {
         event_type: RowsEventType::UpdateRows,
         post_header_len: 10,
         write_post_header_len: 10,
     };
     let update = ParseBuf(update).parse::<RowsEvent<'_>>(alloc, ctx)?;
-    let mut columns = EventColumns::new(alloc);
-    columns.fill(&update, &plan)?;
-    let mut rows = update.cursor(&columns);
-    let mut text = Vec::new(alloc);
-    while let Some(part) = rows.next_part()? {
-        match part {
-            RowPart::Cell(place, cell) => put_cell_ref(alloc, place, cell, &mut text)?,
-            RowPart::NextImage => text.extend_from_slice(b" to")?,
-            RowPart::EndOfRow => text.push(b'\n')?,
-        }
-    }
-    Ok(text)
+    rows_of(alloc, &update, &plan)
 }
 
 #[test]

@@ -1,6 +1,6 @@
 //! Faults of the wire and of documents, as faults of rows.
 
-use mysql_binlog_rows::{JsonbError, RowsError};
+use rows_times::{JsonbError, RowsError};
 use wire_buf::WireFault;
 
 #[test]

@@ -2,7 +2,7 @@
 
 use crate::devices::is_text;
 use bitflags::Flags;
-use mysql_binlog_rows::{
+use rows_flags::{
     EventFlags, GtidFlags, RowsEventFlags, SemiSyncFlags, UnknownEventFlags, UnknownGtidFlags,
     UserVarFlags,
 };

@@ -2,14 +2,13 @@
 
 ghost use Rattle.std.specs.Prelude.{◌<◌};
 
-use crate::devices::{is_borrowed_text, is_text};
-use mysql_binlog_rows::jsonb::Value;
-use mysql_binlog_rows::{
-    Array, ComplexValue, JsonContainer, JsonDiff, JsonDiffOperation, JsonDom, JsonNumber,
-    JsonScalar, JsonbError, JsonbString, JsonbType, LiteralType, Object, ObjectKey, OpaqueValue,
-    RowsError, Small, UnknownJsonDiffOperation, UnknownJsonbType, UnknownLiteralType,
-    check_json_diffs, json_diffs,
+use crate::devices::is_borrowed_text;
+use rows_jsonb::{
+    Array, ComplexValue, JsonDiff, JsonDiffOperation, JsonDom, JsonNumber, JsonScalar, JsonbString,
+    JsonbType, LiteralType, Object, ObjectKey, OpaqueValue, Small, UnknownJsonDiffOperation,
+    UnknownJsonbType, UnknownLiteralType, Value, check_json_diffs, json_diffs,
 };
+use rows_times::RowsError;
 use std::alloc::{AllocError, Global};
 use std::borrow::CowSlice;
 use wire_buf::{MySerialize, ParseBuf};
@@ -20,152 +19,37 @@ pub fn tree(alloc: Global, bytes: &[u8]) -> Result<JsonDom, RowsError> {
     ParseBuf(bytes).parse::<Value<'_>>(alloc, ())?.parse(alloc)
 }
 
-/// Whether the document is an object of one member, under the key `a`.
-fn is_object_of(document: &JsonDom, wanted: &JsonDom) -> bool {
-    match document {
-        JsonDom::Container(JsonContainer::Object(members)) => {
-            members.len() == 1 && members.get("a") == Some(wanted)
-        }
-        _ => false,
-    }
-}
-
-/// Whether the bytes are refused for this fault.
-fn is_refused(alloc: Global, bytes: &[u8], fault: Option<JsonbError>) -> bool {
-    match tree(alloc, bytes) {
-        Ok(_) => false,
-        Err(error) => error == RowsError::Jsonb(fault),
-    }
-}
-
-/// `n` small arrays within one another, behind a type byte; each but the last has one entry, or two,
-/// that point to the next.
-fn nested(alloc: Global, n: usize, two: bool) -> Result<Vec<u8>, AllocError>
+/// `n` small arrays within one another, after a type byte; each but the last has the next as its one entry.
+fn nested(alloc: Global, n: usize) -> Result<Vec<u8>, AllocError>
     requires { n < 200 }
 {
     let mut bytes = Vec::new(alloc);
     bytes.push(2)?;
     for i in 1..n {
-        let size = if two {
-            10 * (n - i) + 4
-        } else {
-            7 * (n - i) + 4
-        };
+        let size = 7 * (n - i) + 4;
         let size = [(size % 256) as u8, (size / 256) as u8];
-        if two {
-            bytes.extend_from_slice(&[2, 0, size[0], size[1], 2, 10, 0, 2, 10, 0])?;
-        } else {
-            bytes.extend_from_slice(&[1, 0, size[0], size[1], 2, 7, 0])?;
-        }
+        bytes.extend_from_slice(&[1, 0, size[0], size[1], 2, 7, 0])?;
     }
     bytes.extend_from_slice(&[0, 0, 4, 0])?;
     Ok(bytes)
 }
 
 /// Whether `n` arrays within one another are of this length, and as a document have this answer.
-fn nested_gives(alloc: Global, n: usize, two: bool, len: usize, fault: Option<RowsError>) -> bool
+fn nested_gives(alloc: Global, n: usize, len: usize, fault: Option<RowsError>) -> bool
     requires { n < 200 }
 {
-    match nested(alloc, n, two) {
+    match nested(alloc, n) {
         Ok(bytes) => bytes.len() == len && tree(alloc, &bytes).err() == fault,
         Err(_) => false,
     }
 }
 
 #[test]
-fn json_object_with_null(rt: HostRuntime) -> Result<(), RowsError> {
-    let bytes = b"\x00\x01\x00\x0c\x00\x0b\x00\x01\x00\x04\x00\x00a";
-    let document = tree(rt.alloc(), bytes)?;
-    assert!(rt; is_object_of(&document, &JsonDom::Scalar(JsonScalar::Null)));
-    Ok(())
-}
-
-#[test]
-fn json_last_equal_key_wins(rt: HostRuntime) -> Result<(), RowsError> {
-    let bytes = b"\x00\x02\x00\x13\x00\x12\x00\x01\x00\x12\x00\x01\x00\x05\x01\x00\x05\x02\x00a";
-    let two = JsonDom::Scalar(JsonScalar::Number(JsonNumber::Int(2)));
-    assert!(rt; is_object_of(&tree(rt.alloc(), bytes)?, &two));
-    Ok(())
-}
-
-#[test]
-fn json_empty_document(rt: HostRuntime) -> Result<(), RowsError> {
-    assert!(rt; tree(rt.alloc(), b"")? == JsonDom::Scalar(JsonScalar::Null));
-    Ok(())
-}
-
-#[test]
-fn json_shared_values(rt: HostRuntime) {
-    assert!(rt; nested_gives(rt.alloc(), 5, true, 45, None));
-}
-
-#[test]
-fn json_over_budget(rt: HostRuntime) {
-    assert!(rt; nested_gives(rt.alloc(), 6, true, 55, Some(RowsError::Jsonb(None))));
-}
-
-#[test]
 fn json_depth_limit(rt: HostRuntime) {
     assert!(rt;
-        nested_gives(rt.alloc(), 100, false, 698, None)
-            && nested_gives(rt.alloc(), 101, false, 705, Some(RowsError::Jsonb(None)))
+        nested_gives(rt.alloc(), 100, 698, None)
+            && nested_gives(rt.alloc(), 101, 705, Some(RowsError::Jsonb(None)))
     );
-}
-
-#[test]
-fn json_bad_offset(rt: HostRuntime) {
-    let fault = JsonbError::InvalidValueOffsetPointer;
-    assert!(rt; is_refused(rt.alloc(), b"\x02\x01\x00\x07\x00\x0c\x03\x00", Some(fault)));
-}
-
-#[test]
-fn refused_documents(rt: HostRuntime) {
-    let alloc = rt.alloc();
-    let refused: [&[u8]; 6] = [
-        b"\x0d",
-        b"\x04\x03",
-        b"\x05\x01",
-        b"\x0c\x02a",
-        b"\x0c\x01\xff",
-        b"\x0f\xf6\x01\x02",
-    ];
-    for bytes in refused {
-        assert!(rt; is_refused(alloc, bytes, None));
-    }
-}
-
-// A key that begins within the header, and a container that is longer than its bytes.
-#[test]
-fn refused_containers(rt: HostRuntime) {
-    let alloc = rt.alloc();
-    let bytes = b"\x00\x01\x00\x0c\x00\x0a\x00\x01\x00\x04\x00\x00a";
-    assert!(rt;
-        is_refused(alloc, bytes, Some(JsonbError::InvalidKeyOffsetPointer))
-            && is_refused(
-                alloc,
-                b"\x02\x00\x00\x05\x00",
-                Some(JsonbError::SizeOverflow)
-            )
-    );
-}
-
-/// Whether the document is an opaque value of the bytes `abc` of a column, which is shown in base64.
-fn is_opaque(alloc: Global, document: &JsonDom) -> bool {
-    match document {
-        JsonDom::Scalar(JsonScalar::Opaque(opaque)) => {
-            opaque.field_type() == ColumnType::MYSQL_TYPE_BLOB
-                && opaque.value() == b"abc".as_slice()
-                && is_text(opaque.to_string(alloc), "base64:type252:YWJj")
-        }
-        _ => false,
-    }
-}
-
-#[test]
-fn quoting_and_base64(rt: HostRuntime) -> Result<(), RowsError> {
-    let alloc = rt.alloc();
-    assert!(rt; is_opaque(alloc, &tree(alloc, b"\x0f\xfc\x03abc")?));
-    Ok(())
 }
 
 /// Whether a value is of an array of two elements, and of no other kind.
@@ -179,13 +63,23 @@ fn is_array_of_two(value: &Value<'_>) -> bool {
         && value.field_type().is_none()
 }
 
-/// Whether an element is this number, or there is none.
-fn is_number(element: Result<Option<Value<'_>>, RowsError>, wanted: Option<i16>) -> bool {
-    match element {
-        Ok(Some(Value::I16(number))) => wanted == Some(number),
-        Ok(None) => wanted.is_none(),
+/// Whether a value is this number.
+fn is_i16(value: &Value<'_>, wanted: i16) -> bool {
+    match value {
+        Value::I16(number) => *number == wanted,
         _ => false,
     }
+}
+
+/// Whether an element is this number, or there is none.
+fn is_number(element: Result<Option<Value<'_>>, RowsError>, wanted: Option<i16>) -> bool {
+    let is_wanted = match (&element, wanted) {
+        (Ok(Some(value)), Some(wanted)) => is_i16(value, wanted),
+        (Ok(None), None) => true,
+        _ => false,
+    };
+    drop(element);
+    is_wanted
 }
 
 /// Whether the second element of two is 2, and there is no third.
@@ -365,8 +259,8 @@ fn strings_and_opaque_values(rt: HostRuntime) {
 /// Whether a value is the number 1.
 fn is_one(value: Option<&Value<'_>>) -> bool {
     match value {
-        Some(Value::I16(number)) => *number == 1,
-        _ => false,
+        Some(value) => is_i16(value, 1),
+        None => false,
     }
 }
 
@@ -447,25 +341,6 @@ fn removal_from_a_document(rt: HostRuntime) -> Result<(), RowsError> {
     let removal = ParseBuf(b"\x02\x03$.a").parse::<JsonDiff<'_>>(rt.alloc(), ())?;
     assert!(rt; removal.operation() == JsonDiffOperation::REMOVE && removal.value().is_none());
     Ok(())
-}
-
-/// Whether the bytes are refused as a change.
-fn is_no_change(alloc: Global, bytes: &[u8]) -> bool {
-    match ParseBuf(bytes).parse::<JsonDiff<'_>>(alloc, ()) {
-        Ok(_) => false,
-        Err(error) => error == RowsError::Jsonb(None),
-    }
-}
-
-#[test]
-fn refused_changes(rt: HostRuntime) {
-    let alloc = rt.alloc();
-    assert!(rt;
-        is_no_change(alloc, b"\x03\x01$")
-            && is_no_change(alloc, b"\x00")
-            && is_no_change(alloc, b"\x01\x01$")
-            && is_no_change(alloc, b"\x01\x01$\x01\x0d")
-    );
 }
 
 /// Whether the byte turns into a type of values and back, or is refused with itself.

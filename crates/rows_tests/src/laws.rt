@@ -1,63 +1,65 @@
 //! Each law can be called; it does nothing.
 
-use mysql_binlog_rows::laws as rows;
-
 #[test]
 fn laws_of_constants(_rt: HostRuntime) {
-    rows::orders_are_of_numbers();
-    rows::numbers_are_distinct();
-    rows::transaction_numbers();
-    rows::worked_numbers();
+    rows_consts::laws::orders_are_of_numbers();
+    rows_consts::laws::numbers_are_distinct();
+    rows_consts::laws::transaction_numbers();
+    rows_consts::laws::worked_numbers();
 }
 
 #[test]
 fn laws_of_values(_rt: HostRuntime) {
-    rows::equal_values_are_the_same();
-    rows::equal_columns_and_times_are_the_same();
-    rows::equal_rows_are_the_same();
-    rows::times_by_cases();
-    rows::fields_stand_at_their_places();
-    rows::worked_time();
-    rows::worked_date_and_time();
-    rows::worked_bits();
+    rows_values::laws::equal_values_are_the_same();
+    rows_values::laws::equal_columns_and_times_are_the_same();
+    rows_values::laws::equal_rows_are_the_same();
+    rows_values::laws::worked_time_values();
+    rows_values::laws::worked_bits();
+}
+
+#[test]
+fn laws_of_times(_rt: HostRuntime) {
+    rows_times::laws::times_by_cases();
+    rows_times::laws::fields_stand_at_their_places();
+    rows_times::laws::worked_time();
 }
 
 #[test]
 fn laws_of_decimals(_rt: HostRuntime) {
-    rows::numbers_in_order();
-    rows::packed_forms_are_uniquely_read();
-    rows::packed_forms_are_unpacked();
-    rows::packed_forms_are_read_back();
-    rows::named_numbers();
-    rows::only_zero_groups_are_dropped();
-    rows::texts_are_taken_back();
-    rows::worked_decimals();
-    rows::worked_unpacking();
+    rows_decimal::laws::numbers_in_order();
+    rows_decimal::laws::packed_forms_are_uniquely_read();
+    rows_decimal::laws::packed_forms_are_unpacked();
+    rows_decimal::laws::packed_forms_are_read_back();
+    rows_decimal::laws::named_numbers();
+    rows_decimal::laws::only_zero_groups_are_dropped();
+    rows_decimal::laws::texts_are_taken_back();
+    rows_decimal::laws::worked_decimals();
+    rows_decimal::laws::worked_unpacking();
 }
 
 #[test]
 fn laws_of_documents_and_metadata(_rt: HostRuntime) {
-    rows::diffs_are_read();
-    rows::lists_of_diffs_are_read();
-    rows::worked_objects();
-    rows::worked_pointer();
-    rows::worked_budget();
-    rows::worked_depth();
-    rows::entries_are_read();
-    rows::lists_are_read();
+    rows_jsonb::laws::diffs_are_read();
+    rows_jsonb::laws::lists_of_diffs_are_read();
+    rows_jsonb::laws::worked_objects();
+    rows_jsonb::laws::worked_pointer();
+    rows_jsonb::laws::worked_budget();
+    rows_jsonb::laws::worked_depth();
+    rows_optional::laws::entries_are_read();
+    rows_optional::laws::lists_are_read();
 }
 
 #[test]
 fn laws_of_rows(_rt: HostRuntime) {
-    rows::cells_are_read();
-    rows::no_cell_begins_another();
-    rows::kept_values_are_those_of_cells();
-    rows::images_are_read();
-    rows::no_image_begins_another();
-    rows::rows_are_read();
-    rows::lists_of_rows_are_read();
-    rows::events_are_written_whole();
-    rows::equal_events_say_the_same();
+    rows_cells::laws::cells_are_read();
+    rows_cells::laws::no_cell_begins_another();
+    rows_cells::laws::kept_values_are_those_of_cells();
+    rows_cells::laws::images_are_read();
+    rows_cells::laws::no_image_begins_another();
+    rows_cells::laws::rows_are_read();
+    rows_cells::laws::lists_of_rows_are_read();
+    rows_events::laws::events_are_written_whole();
+    rows_events::laws::equal_events_say_the_same();
 }
 
 #[test]

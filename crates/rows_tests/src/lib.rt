@@ -1,11 +1,9 @@
-//! Tests of the crates `mysql_binlog_rows` and `feed_text`: a file for each subject, and what the tests
-//! have in common in `devices`.
+//! Tests of the rows layer and of `feed_text` that no table of cases can have: a file for each subject, and what the tests
+//! have in common in `devices`. The cases are in `rows_cases`.
 #![tactic(auto)]
 
 #[cfg(test)]
 mod bits;
-#[cfg(test)]
-mod cell_values;
 #[cfg(test)]
 mod cells;
 #[cfg(test)]
@@ -16,8 +14,6 @@ mod constants;
 mod decimals;
 #[cfg(test)]
 mod devices;
-#[cfg(test)]
-mod event_rows;
 #[cfg(test)]
 mod example;
 #[cfg(test)]
@@ -31,23 +27,15 @@ mod jsonb;
 #[cfg(test)]
 mod laws;
 #[cfg(test)]
-mod optional_fields;
-#[cfg(test)]
 mod optional_metadata;
 #[cfg(test)]
 mod owned_rows;
-#[cfg(test)]
-mod packed_decimals;
-#[cfg(test)]
-mod plans;
 #[cfg(test)]
 mod row_events;
 #[cfg(test)]
 mod rows;
 #[cfg(test)]
 mod rows_by_plan;
-#[cfg(test)]
-mod table_maps;
 #[cfg(test)]
 mod text_buffers;
 #[cfg(test)]

@@ -1,10 +1,9 @@
 //! Rows in memory of their own: their values one by one, their places, and rows of plain values made of them.
 
-use mysql_binlog_rows::jsonb::Value as JsonbValue;
-use mysql_binlog_rows::{
-    BinlogRow, BinlogRowToRowError, BinlogValue, BinlogValueToValueError, CellForm, Column,
-    ImageColumn, Row, Value, Width,
-};
+use rows_cells::{BinlogValue, BinlogValueToValueError, CellForm, ImageColumn, Width};
+use rows_images::{BinlogRow, BinlogRowToRowError};
+use rows_jsonb::Value as JsonbValue;
+use rows_values::{Column, Row, Value};
 use std::alloc::{AllocError, Global};
 use std::rc::RcSlice;
 use std::test::Fail;

@@ -1,7 +1,8 @@
 //! The text of the cells of an image, in a buffer with room.
 
 use feed_text::TextBuffer;
-use mysql_binlog_rows::{CellForm, CellRef, ImageCells, ImageColumn, ImagePlan, RowsError, Width};
+use rows_cells::{CellForm, CellRef, ImageCells, ImageColumn, ImagePlan, Width};
+use rows_times::RowsError;
 use std::alloc::Global;
 
 /// A column at a place.
@@ -74,77 +75,6 @@ fn cells_in_a_buffer(rt: HostRuntime) {
 fn cells_that_are_cut_in_a_buffer(rt: HostRuntime) {
     let cut = Err(RowsError::EndOfBody);
     assert!(rt; is_put(rt.alloc(), &IMAGE[..77], cut, b"a", 75));
-}
-
-/// Whether a number has this text as a cell of the column 7.
-fn is_number(alloc: Global, number: i64, wanted: &[u8]) -> bool {
-    let mut out = TextBuffer::new(alloc);
-    out.put_cell(alloc, 7, CellRef::Int(number)) == Ok(()) && out.as_slice() == wanted
-}
-
-// Numbers of one digit to nineteen.
-#[test]
-fn digits_in_a_buffer(rt: HostRuntime) {
-    assert!(rt;
-        is_number(rt.alloc(), 0, b" 7=0")
-            && is_number(rt.alloc(), 10, b" 7=10")
-            && is_number(rt.alloc(), 999, b" 7=999")
-            && is_number(rt.alloc(), 1000, b" 7=1000")
-            && is_number(rt.alloc(), 12_345, b" 7=12345")
-            && is_number(rt.alloc(), 100_000, b" 7=100000")
-            && is_number(rt.alloc(), 9_999_999, b" 7=9999999")
-            && is_number(rt.alloc(), 10_000_000, b" 7=10000000")
-            && is_number(rt.alloc(), 123_456_789, b" 7=123456789")
-            && is_number(rt.alloc(), -9_999_999_999_999_999, b" 7=-9999999999999999")
-            && is_number(rt.alloc(), 10_000_000_000_000_000, b" 7=10000000000000000")
-            && is_number(rt.alloc(), i64::MIN, b" 7=-9223372036854775808")
-    );
-}
-
-/// Whether the text of a decimal's cell in an image is this one.
-fn is_decimal(alloc: Global, precision: u8, scale: u8, packed: &[u8], wanted: &[u8]) -> bool {
-    let columns = [column(7, CellForm::Decimal(precision, scale))];
-    let plan = ImagePlan {
-        columns: &columns,
-        json_columns: None,
-    };
-    let mut image = [0; 32];
-    let Some(front) = image.get_mut(1..) else {
-        return false;
-    };
-    let Some(front) = front.get_mut(..packed.len()) else {
-        return false;
-    };
-    front.copy_from_slice(packed);
-    let Ok(mut cells) = ImageCells::of(plan, &image) else {
-        return false;
-    };
-    let mut out = TextBuffer::new(alloc);
-    // The first cells stand in a buffer without room.
-    out.put(b'a') == Ok(())
-        && out.put_cells(alloc, &mut cells) == Ok(())
-        && out.as_slice() == wanted
-}
-
-// Few digits and many, on both sides of the point and on one, and a zero with a sign.
-#[test]
-fn decimals_in_a_buffer(rt: HostRuntime) {
-    let alloc = rt.alloc();
-    let negative = b"\x7e\xf2\x04\xc7\x2d\xfb\x2d".as_slice();
-    assert!(rt;
-        is_decimal(alloc, 14, 4, negative, b"a 7='-1234567890.1234'")
-            && is_decimal(alloc, 3, 2, b"\x80\x32", b"a 7='0.50'")
-            && is_decimal(alloc, 4, 2, b"\x7f\xff", b"a 7='-0.00'")
-            && is_decimal(alloc, 5, 0, b"\x7f\xff\xff", b"a 7='0'")
-            && is_decimal(alloc, 9, 9, b"\x80\x00\x00\x07", b"a 7='0.000000007'")
-            && is_decimal(
-                alloc,
-                17,
-                0,
-                b"\x80\x00\x00\x01\x00\x00\x00\x02",
-                b"a 7='1000000002'"
-            )
-    );
 }
 
 /// Whether texts of each kind stand in a buffer as they were put there, one behind the other.

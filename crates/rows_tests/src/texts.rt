@@ -1,77 +1,11 @@
-//! Quoted bytes and the texts of values.
+//! The texts of values that no cell has, and refused memory. The others are cases of `rows_cases`.
 
 use crate::devices::Outcome;
 use feed_text::{put_decimal, put_value, quote};
 use linked_list_allocator::LocalHeap;
-use mysql_binlog_rows::{
-    RowsError, Value, datetime_from_packed, my_datetime_packed_from_binary,
-    my_time_packed_from_binary, time_from_packed,
-};
+use rows_times::RowsError;
+use rows_values::Value;
 use std::alloc::{AllocError, Global};
-
-/// Whether the bytes are quoted so.
-fn is_quoted(alloc: Global, bytes: &[u8], wanted: &[u8]) -> bool {
-    let mut out = Vec::new(alloc);
-    let Ok(()) = quote(bytes, &mut out) else {
-        return false;
-    };
-    out.as_slice() == wanted
-}
-
-// Bytes that need a backslash, and one that doesn't.
-#[test]
-fn quoting_and_base64_quoted(rt: HostRuntime) {
-    assert!(rt; is_quoted(rt.alloc(), &[0x27, 0x5c, 0x0a, 0x41], br"'\27\5c\0aA'"));
-}
-
-// More bytes that need a backslash than are escaped at once, between bytes that don't.
-#[test]
-fn many_escapes(rt: HostRuntime) {
-    let bytes = [
-        b'a', 0, 0, 0, 0, 0, 0, 0, 0, 0, 0, 0, 0, 0, 0, 0, 0, 0, 0xff, b'b',
-    ];
-    let wanted = br"'a\00\00\00\00\00\00\00\00\00\00\00\00\00\00\00\00\00\ffb'";
-    assert!(rt; is_quoted(rt.alloc(), &bytes, wanted));
-}
-
-/// Whether this is answered to a packed decimal, and this stands behind the byte `a`.
-fn is_put(
-    alloc: Global,
-    packed: (&[u8], u8, u8),
-    answer: Result<(), RowsError>,
-    wanted: &[u8],
-) -> bool {
-    let Ok(mut out) = Vec::from_slice(alloc, b"a") else {
-        return false;
-    };
-    let (bytes, precision, scale) = packed;
-    put_decimal(bytes, precision, scale, &mut out) == answer && out.as_slice() == wanted
-}
-
-/// Whether the bytes are refused as a decimal, and what stood there stands.
-fn is_no_decimal(alloc: Global, bytes: &[u8], precision: u8, scale: u8) -> bool {
-    is_put(
-        alloc,
-        (bytes, precision, scale),
-        Err(RowsError::Decimal),
-        b"a",
-    )
-}
-
-// Decimals straight from their packed bytes, and bytes that pack none: what stood there stands.
-#[test]
-fn packed_decimals_as_text(rt: HostRuntime) {
-    let alloc = rt.alloc();
-    let negative = b"\x7e\xf2\x04\xc7\x2d\xfb\x2d".as_slice();
-    assert!(rt;
-        is_put(alloc, (negative, 14, 4), Ok(()), b"a'-1234567890.1234'")
-            && is_put(alloc, (b"\x80", 2, 0), Ok(()), b"a'0'")
-            && is_no_decimal(alloc, b"\xe4", 2, 0)
-            && is_no_decimal(alloc, b"\x80\x00", 2, 3)
-            && is_no_decimal(alloc, b"\x80", 4, 0)
-            && is_no_decimal(alloc, b"\x80\x00", 2, 0)
-    );
-}
 
 /// Whether the value has this text.
 fn has_text(alloc: Global, value: Value, wanted: &[u8]) -> bool {
@@ -80,23 +14,6 @@ fn has_text(alloc: Global, value: Value, wanted: &[u8]) -> bool {
         return false;
     };
     out.as_slice() == wanted
-}
-
-// The time cell of two decimals.
-#[test]
-fn cell_values_time(rt: HostRuntime) -> Result<(), RowsError> {
-    let packed = my_time_packed_from_binary(&mut b"\x7f\xff\xfe\xf6".as_slice(), 2)?;
-    assert!(rt; has_text(rt.alloc(), time_from_packed(packed), b"-0d00:00:01.100000"));
-    Ok(())
-}
-
-// A date and time without decimals.
-#[test]
-fn packed_datetime(rt: HostRuntime) -> Result<(), RowsError> {
-    let packed = my_datetime_packed_from_binary(&mut b"\x99\x83\xb0\x90\xf9".as_slice(), 0)?;
-    let value = datetime_from_packed(packed);
-    assert!(rt; has_text(rt.alloc(), value, b"2009-09-24T09:03:57.000000"));
-    Ok(())
 }
 
 // A text of each kind of value.
@@ -108,22 +25,6 @@ fn values_as_text(rt: HostRuntime) -> Result<(), AllocError> {
         has_text(alloc, Value::Bytes(bytes), br"'it\27s'") && has_text(alloc, Value::NULL, b"NULL")
     );
     Ok(())
-}
-
-#[test]
-fn numbers_as_text(rt: HostRuntime) {
-    let alloc = rt.alloc();
-    assert!(rt;
-        has_text(alloc, Value::Int(-5), b"-5")
-            && has_text(alloc, Value::Int(i64::MIN), b"-9223372036854775808")
-            && has_text(alloc, Value::UInt(u64::MAX), b"u18446744073709551615")
-            && has_text(alloc, Value::Float(0x3f80_0000), b"f3f800000")
-            && has_text(
-                alloc,
-                Value::Double(0x0ff0_0000_0000_0000),
-                b"d0ff0000000000000"
-            )
-    );
 }
 
 #[test]

@@ -1,11 +1,5 @@
-pub mod Faults
-pub mod PackedTimes
-pub mod ReadTimes
-pub mod TimeFields
-pub mod TimePlaces
 pub mod Values
 pub mod Columns
 pub mod BitLists
 pub mod BitCounts
 pub mod Rows
-pub mod TimeTexts

@@ -3,3 +3,4 @@ pub mod NumberLemmas
 pub mod LenencLemmas
 pub mod StringLemmas
 pub mod WritingLemmas
+pub mod TransferLemmas

@@ -4,3 +4,5 @@ pub mod Numbers
 pub mod Writing
 pub mod Fronts
 pub mod Refusals
+pub mod Transfers
+pub mod Watched

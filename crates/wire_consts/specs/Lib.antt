@@ -2,3 +2,4 @@ pub mod Numbering
 pub mod ColumnTypes
 pub mod Constants
 pub mod Flags
+pub mod AllColumnTypes

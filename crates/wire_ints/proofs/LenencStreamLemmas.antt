@@ -14,7 +14,7 @@ use Rattle.wire_buf.specs.Fronts.{lenenc_front, number_front}
 use Rattle.wire_buf.proofs.LenencLemmas.{lenenc_front-complete, lenenc_lacks}
 use Rattle.wire_buf.proofs.StringLemmas.{Lacks-count, Lacks-counted, Reads-counted}
 use Rattle.wire_ints.specs.Streams.{ReadsFrom, LacksIn, FailsFrom, IsCause, LacksMemory}
-use Rattle.wire_streams.specs.Transfers.{FallsShort, GathersFront, Gathers}
+use Rattle.wire_buf.specs.Transfers.{FallsShort, GathersFront, Gathers}
 use Rattle.wire_ints.proofs.StreamLemmas.{ReadsFrom-taken, lacks_taken, lacks_ended}
 
 -- a buffer of one byte

@@ -4,7 +4,7 @@ use Rattle.std.proofs.lemmas.List.{append-nil, take-append-drop}
 use Rattle.std.proofs.Math.Seq.{take-append_seam}
 use Rattle.wire_buf.specs.Spelling.{Lacks, Alone}
 use Rattle.wire_buf.proofs.SpellingLemmas.{Reads-front}
-use Rattle.wire_streams.specs.Transfers.{WritesSome}
+use Rattle.wire_buf.specs.Transfers.{WritesSome}
 use Rattle.wire_ints.specs.Streams.{ReadsFrom, LacksIn}
 use Rattle.std.proofs.KnownBytes.{Appends-trans}
 use Rattle.std.specs.Io.KnownBytes.{Consumes, Appends, IsAtEnd}

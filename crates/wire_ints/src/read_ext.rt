@@ -8,8 +8,7 @@ ghost use Rattle.wire_ints.specs.Streams.{ReadsFrom, FailsFrom, LacksMemory};
 use byteorder::{ByteOrder, LittleEndian};
 use std::alloc::Global;
 use std::io::Read;
-use wire_buf::WireFault;
-use wire_streams::{read_exact, read_more};
+use wire_buf::{WireFault, read_exact, read_more};
 
 /// Reads length-encoded numbers and strings from any reader, as in `mysql_common`.
 ///

@@ -5,12 +5,11 @@ ghost use Rattle.std.specs.Io.KnownBytes.{Appends};
 ghost use Rattle.wire_buf.specs.Numbers.{lenenc_spelling};
 ghost use Rattle.wire_buf.specs.declared.fault.WireFault.TheVariants.{Write as WriteFault};
 ghost use Rattle.wire_ints.specs.Strings.{lenenc_string_spelling};
-ghost use Rattle.wire_streams.specs.Transfers.{WritesSome};
+ghost use Rattle.wire_buf.specs.Transfers.{WritesSome};
 
 use crate::lenenc::{lenenc_bytes, lenenc_str_len};
 use std::io::Write;
-use wire_buf::WireFault;
-use wire_streams::write_all;
+use wire_buf::{WireFault, write_all};
 
 /// Writes length-encoded numbers and strings to any writer, as in `mysql_common`.
 ///

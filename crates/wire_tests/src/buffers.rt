@@ -1,8 +1,8 @@
 //! Bytes taken from a buffer, beside what the contracts say of them.
 
 use crate::helpers::size_agrees;
-use mysql_wire::{AnySize, FixedSize, MySerialize, ParseBuf, WireFault, WireSize, whole_or_none};
 use std::io::Read;
+use wire_buf::{AnySize, FixedSize, MySerialize, ParseBuf, WireFault, WireSize, whole_or_none};
 
 #[test]
 fn sizes_of_fields(rt: HostRuntime) {

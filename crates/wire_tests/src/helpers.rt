@@ -1,7 +1,8 @@
 //! What the tests of several subjects ask.
 
-use mysql_wire::{IntRepr, MyDeserialize, MySerialize, ParseBuf, RawInt, WireFault, WireSize};
 use std::alloc::Global;
+use wire_buf::{MyDeserialize, MySerialize, ParseBuf, WireFault, WireSize};
+use wire_ints::{IntRepr, RawInt};
 
 /// The bytes that are written for the value.
 pub fn written<V: MySerialize>(alloc: Global, value: &V) -> Result<Vec<u8>, WireFault> {

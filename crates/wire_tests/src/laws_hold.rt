@@ -1,19 +1,24 @@
 //! Laws, which are calls that do nothing.
 
-use mysql_wire::laws;
+use wire_ints::laws::{spellings_are_shortest, worked_numbers, worked_widths};
+use wire_packets::laws::{
+    framings_are_read_back, framings_are_uniquely_read, packets_are_a_front, packets_are_longest,
+    packets_end, streams_have_a_split, versions_are_their_numbers, worked_framings,
+    worked_versions,
+};
 
 #[test]
 fn laws_hold() {
-    laws::framings_are_uniquely_read();
-    laws::packets_are_a_front();
-    laws::packets_are_longest();
-    laws::packets_end();
-    laws::streams_have_a_split();
-    laws::framings_are_read_back();
-    laws::versions_are_their_numbers();
-    laws::worked_framings();
-    laws::worked_versions();
-    laws::worked_numbers();
-    laws::worked_widths();
-    laws::spellings_are_shortest();
+    framings_are_uniquely_read();
+    packets_are_a_front();
+    packets_are_longest();
+    packets_end();
+    streams_have_a_split();
+    framings_are_read_back();
+    versions_are_their_numbers();
+    worked_framings();
+    worked_versions();
+    worked_numbers();
+    worked_widths();
+    spellings_are_shortest();
 }

@@ -1,4 +1,4 @@
-//! Tests of the wire layer, over `mysql_wire` alone: worked values from MySQL's manual, each call once where memory is
+//! Tests of the wire layer, over its parts: worked values from MySQL's manual, each call once where memory is
 //! found, each generic call at a concrete type, and readers and writers that end, fail or are interrupted on the way.
 #![tactic(auto)]
 

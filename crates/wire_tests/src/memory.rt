@@ -1,12 +1,12 @@
 //! Values that are written where memory may be refused.
 
 use linked_list_allocator::LocalHeap;
-use mysql_wire::{
-    BytesRepr, LeU16, LeU128, LenEnc, MySerialize, NullBytes, RawBytes, RawInt, Seq, U8Bytes,
-    WireFault,
-};
 use std::alloc::Global;
 use std::borrow::CowSlice;
+use wire_buf::{MySerialize, WireFault};
+use wire_forms::{BytesRepr, NullBytes, RawBytes, U8Bytes};
+use wire_ints::{LeU16, LeU128, LenEnc, RawInt};
+use wire_seqs::Seq;
 
 /// What comes of a value behind `ab` where memory is for so many bytes: the answer, and how many bytes stand there then.
 /// None where not even the two find a place.

@@ -1,12 +1,15 @@
 //! Packets and chunks, and the examples of the documentation.
 
 use bytes::BytesMut;
-use mysql_wire::{
-    ChunkDecoder, ChunkInfo, DEFAULT_MAX_ALLOWED_PACKET, EofBytes, LeU24, LenEnc, MAX_PAYLOAD_LEN,
-    MySerialize, PACKET_HEADER_LEN, PacketCodec, PacketCodecError, ParseBuf, RawBytes, RawInt,
-    Skip, U8Bytes, WireFault, decode_pieces, packet_to_chunks, split_version,
-};
 use std::alloc::Global;
+use wire_buf::{MySerialize, ParseBuf, WireFault};
+use wire_consts::{DEFAULT_MAX_ALLOWED_PACKET, MAX_PAYLOAD_LEN};
+use wire_forms::{EofBytes, RawBytes, Skip, U8Bytes};
+use wire_ints::{LeU24, LenEnc, RawInt};
+use wire_packets::{
+    ChunkDecoder, ChunkInfo, PACKET_HEADER_LEN, PacketCodec, PacketCodecError, decode_pieces,
+    packet_to_chunks, split_version,
+};
 
 /// Whether the codec frames the payload as the bytes.
 fn frames(alloc: Global, mut codec: PacketCodec, payload: &[u8], bytes: &[u8]) -> bool {

@@ -1,13 +1,16 @@
 //! Sequences read and written at concrete types, beside what the contracts say of them.
 
 use crate::helpers::{refusal, size_agrees, stands_as, writes, written};
-use mysql_wire::{
-    BeU16, BeU24, BeU32, BeU40, BeU48, BeU56, BeU64, BeU128, ColumnType, LeU16, LeU24, LeU32,
-    LeU40, LeU48, LeU56, LeU64, LeU128, MySerialize, ParseBuf, RawBytes, RawInt, RawSeq, Seq,
-    SeqRepr, U8Bytes, Unknown, WireFault,
-};
 use std::alloc::Global;
 use std::borrow::CowSlice;
+use wire_buf::{MySerialize, ParseBuf, WireFault};
+use wire_consts::ColumnType;
+use wire_forms::{RawBytes, U8Bytes};
+use wire_ints::{
+    BeU16, BeU24, BeU32, BeU40, BeU48, BeU56, BeU64, BeU128, LeU16, LeU24, LeU32, LeU40, LeU48,
+    LeU56, LeU64, LeU128, RawInt,
+};
+use wire_seqs::{RawSeq, Seq, SeqRepr, Unknown};
 
 type Numbers<'a, U> = Seq<'a, RawInt<LeU16>, U>;
 

@@ -1,10 +1,9 @@
 //! Readers and writers that give and take little at once, are interrupted, end and fail.
 
-use mysql_wire::{
-    ReadMysqlExt, Watched, WireFault, WriteMysqlExt, read_exact, read_more, write_all,
-};
 use std::alloc::Global;
 use std::io::{Error, ErrorKind, Read, Result as IoResult, Write};
+use wire_buf::{Watched, WireFault, read_exact, read_more, write_all};
+use wire_ints::{ReadMysqlExt, WriteMysqlExt};
 
 /// What a device does at one call after the other: so many bytes at most, or an error.
 #[derive(Drop)]

@@ -1,12 +1,15 @@
 //! Byte strings in each representation, beside what the contracts say of them.
 
 use crate::helpers::{parsed, refusal, size_agrees, writes};
-use mysql_wire::{
-    BareU8Bytes, BareU16Bytes, BytesRepr, EofBytes, FixedLengthText, LenEnc, NullBytes, ParseBuf,
-    RawBytes, U8Bytes, U32Bytes, VarLen, WireFault, WireSize, laws,
-};
 use std::alloc::Global;
 use std::borrow::CowSlice;
+use wire_buf::{ParseBuf, WireFault, WireSize};
+use wire_forms::laws::read_back_bytes;
+use wire_forms::{
+    BareU8Bytes, BareU16Bytes, BytesRepr, EofBytes, FixedLengthText, NullBytes, RawBytes, U8Bytes,
+    U32Bytes,
+};
+use wire_ints::{LenEnc, VarLen};
 
 /// Whether the representation writes the text as the bytes.
 fn writes_text<T: BytesRepr>(alloc: Global, text: &[u8], bytes: &[u8]) -> bool {
@@ -77,9 +80,9 @@ fn gave(answer: Result<Vec<u8>, WireFault>, bytes: &[u8]) -> bool {
 fn texts_read_back(rt: HostRuntime) {
     let alloc = rt.alloc();
     assert!(rt;
-        gave(laws::read_back_bytes::<LenEnc>(alloc, (), b"abc"), b"abc")
+        gave(read_back_bytes::<LenEnc>(alloc, (), b"abc"), b"abc")
             && gave(
-                laws::read_back_bytes::<FixedLengthText<2>>(alloc, (), b"abc"),
+                read_back_bytes::<FixedLengthText<2>>(alloc, (), b"abc"),
                 b"ab"
             )
     );
@@ -111,7 +114,7 @@ fn texts_behind_a_varlen(rt: HostRuntime) {
     let alloc = rt.alloc();
     assert!(rt;
         gave(
-            laws::read_back_bytes::<VarLen>(alloc, (), &[b'x'; 300]),
+            read_back_bytes::<VarLen>(alloc, (), &[b'x'; 300]),
             &[b'x'; 300]
         ) && text_refusal::<VarLen>(alloc, b"\x02a") == Some(WireFault::Eof)
             && text_refusal::<VarLen>(alloc, b"\x80\x80\x80\x80\x10") == Some(WireFault::BadNumber)

@@ -1,6 +1,6 @@
 use Rattle.std.proofs.Common.{◌≡◌, ◌+◌, ◌++◌, true, false, length}
 use Rattle.std.specs.Prelude.{if◌then◌else◌}
-use Rattle.wire_streams.specs.Watched.{inner_of}
+use Rattle.wire_buf.specs.Watched.{inner_of}
 use Rattle.feed_serving.proofs.PacketLemmas.{IsWithin, IsBehind}
 use Rattle.feed_serving.proofs.packets.put_packet.Given as goal
 

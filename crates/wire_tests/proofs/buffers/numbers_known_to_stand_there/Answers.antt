@@ -1,5 +1,5 @@
 use Rattle.std.proofs.Common.{◌∷◌, [], refl, arith}
-use Rattle.mysql_wire.specs.Numbers.{one, two}
+use Rattle.wire_buf.specs.Numbers.{one, two}
 use Rattle.wire_tests.proofs.buffers.numbers_known_to_stand_there.Goals as goal
 
 pub eat_lenenc_int-requires : goal.eat_lenenc_int-requires

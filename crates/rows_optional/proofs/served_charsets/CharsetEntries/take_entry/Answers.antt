@@ -1,5 +1,5 @@
 use Rattle.std.proofs.Common.{ap, map}
-use Rattle.rows_jsonb.specs.JsonbViews.{shown}
+use Rattle.rows_times.specs.Readings.{shown}
 use Rattle.rows_optional.specs.Served.{pair_entry}
 use Rattle.rows_optional.proofs.ServedLemmas.{no_charsets, chain_fault}
 use Rattle.rows_optional.proofs.served_charsets.CharsetEntries.take_entry.Goals as goal

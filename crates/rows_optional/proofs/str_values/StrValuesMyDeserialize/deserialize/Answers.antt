@@ -1,5 +1,5 @@
 use Rattle.std.proofs.Common.{◌≡◌, ◌⊎◌, inl, inr}
-use Rattle.rows_values.specs.declared.fault.RowsError.TheVariants.{Memory}
+use Rattle.rows_times.specs.declared.fault.RowsError.TheVariants.{Memory}
 use Rattle.wire_buf.specs.Spelling.{Lacks}
 use Rattle.rows_optional.specs.Members.{MembersForm, members_at}
 use Rattle.rows_optional.proofs.MemberLawLemmas.{members-law}

@@ -1,7 +1,7 @@
 use Rattle.std.proofs.Common.{◌⊎◌, subst}
 use Rattle.wire_buf.specs.Spelling.{Alone}
 use Rattle.wire_buf.specs.Numbers.{IsLenencString}
-use Rattle.wire_streams.specs.Transfers.{Gathers}
+use Rattle.wire_buf.specs.Transfers.{Gathers}
 use Rattle.wire_ints.specs.Streams.{FailsFrom, LacksMemory}
 use Rattle.wire_ints.proofs.LenencStreamLemmas.{IfErr-same, fails_string, reads_string, fails_cut}
 use Rattle.wire_ints.proofs.read_ext.ReadMysqlExt.read_lenenc_str.Goals as goal

@@ -1,7 +1,7 @@
 use Rattle.std.proofs.Common.{◌≡◌, subst}
 use Rattle.std.specs.Io.KnownBytes.{Appends}
 use Rattle.wire_buf.specs.declared.fault.WireFault.TheVariants.{Write}
-use Rattle.wire_streams.specs.Transfers.{WritesSome}
+use Rattle.wire_buf.specs.Transfers.{WritesSome}
 use Rattle.wire_ints.proofs.LenencStreamLemmas.{IfErr-same}
 use Rattle.wire_ints.proofs.write_ext.WriteMysqlExt.write_lenenc_int.Goals as goal
 

@@ -1,6 +1,6 @@
 use Rattle.std.proofs.Common.{◌≡◌}
 use Rattle.wire_buf.specs.declared.fault.WireFault.TheVariants.{Write}
-use Rattle.wire_streams.specs.Transfers.{WritesSome}
+use Rattle.wire_buf.specs.Transfers.{WritesSome}
 use Rattle.wire_ints.proofs.StreamLemmas.{some_first, some_second}
 use Rattle.wire_ints.proofs.LenencStreamLemmas.{IfErr-same}
 use Rattle.wire_ints.proofs.write_ext.WriteMysqlExt.write_lenenc_str.Goals as goal

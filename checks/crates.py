@@ -1,0 +1,30 @@
+"""The crates of the repository, as crates.txt lists them."""
+import os
+import sys
+from pathlib import Path
+
+ROOT = Path(__file__).resolve().parent.parent
+
+
+def listed():
+    """Returns the line of each crate by its name, and the crates of the repository that the line names."""
+    lines = {}
+    for line in (ROOT / "crates.txt").read_text().splitlines():
+        name, colon, libraries = line.partition("#")[0].partition(":")
+        if colon:
+            lines[name.split()[0]] = (line, libraries.split())
+    return {name: (line, [it for it in libraries if it in lines]) for name, (line, libraries) in lines.items()}
+
+
+def known(names):
+    """Returns the names, each once; an unknown one ends the run."""
+    unknown = [it for it in names if it not in listed()]
+    if unknown:
+        sys.exit(f"crates.txt has no crate {', '.join(unknown)}")
+    return list(dict.fromkeys(names))
+
+
+def at_once(memory):
+    """Returns how many processes of this memory to run side by side: one for each processor, as far as memory allows."""
+    found = os.sysconf("SC_PAGE_SIZE") * os.sysconf("SC_PHYS_PAGES")
+    return max(1, min(len(os.sched_getaffinity(0)), found // memory))

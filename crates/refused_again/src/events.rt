@@ -1,0 +1,118 @@
+//! Lists the events of a binary log, a line for each: the number of its type, the position after it in its log, and its size
+//! in bytes. Where memory is refused to `EventStreamReader`, the event is read again.
+
+use events_frames::{BinlogFileHeader, EventError};
+use events_stream::{Event, EventStreamReader};
+use rows_consts::BinlogVersion;
+use std::alloc::Global;
+use std::io::{self, Write};
+use wire_buf::Watched;
+
+/// Table maps are compared of the ids below this.
+const IDS: u64 = 1000;
+
+/// What a fault is called on standard error.
+fn name_of(fault: EventError) -> &'static str {
+    match fault {
+        EventError::Memory => "Memory",
+        EventError::Read => "Read",
+        EventError::Frame => "Frame",
+        _ => "Damaged",
+    }
+}
+
+/// Two readers of one log. The other takes each event after the first, so that it knows what the first knew before it.
+#[derive(Drop)]
+struct Readers {
+    first: EventStreamReader,
+    other: EventStreamReader,
+    was_refused: bool,
+}
+
+impl Readers {
+    /// Two readers before their first event.
+    fn new(alloc: Global) -> Result<Readers, EventError> {
+        Ok(Readers {
+            first: EventStreamReader::new(alloc, BinlogVersion::Version4)?,
+            other: EventStreamReader::new(alloc, BinlogVersion::Version4)?,
+            was_refused: false,
+        })
+    }
+
+    /// Whether both have the same description in force, and the same table maps.
+    fn are_alike(&self) -> bool {
+        self.first.get_fde() == self.other.get_fde()
+            && (0..IDS).all(|id| self.first.get_tme(id) == self.other.get_tme(id))
+    }
+
+    /// The first reads the event at the front of the bytes; where it is refused memory, once more.
+    fn read_first(&mut self, bytes: &[u8]) -> Result<Option<Event<'static>>, &'static str> {
+        match self.first.read(&mut Watched::new(bytes)) {
+            Ok(event) => return Ok(event),
+            Err(EventError::Memory) => {}
+            Err(fault) => return Err(name_of(fault)),
+        }
+        if !self.are_alike() {
+            return Err("Changed");
+        }
+        self.was_refused = true;
+        self.first.read(&mut Watched::new(bytes)).map_err(name_of)
+    }
+
+    /// So does the other.
+    fn read_other(&mut self, bytes: &[u8]) -> Result<(), &'static str> {
+        for _ in 0..2 {
+            match self.other.read(&mut Watched::new(bytes)) {
+                Ok(_) => return Ok(()),
+                Err(EventError::Memory) => {}
+                Err(fault) => return Err(name_of(fault)),
+            }
+        }
+        Err("Memory")
+    }
+}
+
+/// Appends the line of an event, or none of it.
+fn put_line(event: &Event<'_>, lines: &mut Vec<u8>) -> Result<(), &'static str> {
+    let header = event.header();
+    let start = lines.len();
+    let line = writeln!(
+        lines,
+        "{} {} {}",
+        header.event_type_raw(),
+        header.log_pos(),
+        header.event_size()
+    );
+    if line.is_err() {
+        lines.truncate(start);
+        return Err("Memory");
+    }
+    Ok(())
+}
+
+/// Appends the lines of the events of a log, up to the first fault; answers whether a reader was refused memory.
+fn put_lines(alloc: Global, log: &[u8], lines: &mut Vec<u8>) -> Result<bool, &'static str> {
+    let mut readers = Readers::new(alloc).map_err(name_of)?;
+    let mut rest = log.get(BinlogFileHeader::LEN..).unwrap_or(&[]);
+    for _ in 0..u64::MAX {
+        let Some(event) = readers.read_first(rest)? else {
+            return Ok(readers.was_refused);
+        };
+        readers.read_other(rest)?;
+        put_line(&event, lines)?;
+        let size = event.header().event_size() as usize;
+        rest = rest.get(size..).unwrap_or(&[]);
+    }
+    Ok(readers.was_refused)
+}
+
+/// Prints the events of a log; answers whether a reader was refused memory, and knew the same after it.
+pub(crate) fn print_events(rt: &HostRuntime, log: &[u8]) -> Result<bool, &'static str> {
+    let alloc = rt.alloc();
+    let mut lines = Vec::new(alloc);
+    let listed = put_lines(alloc, log, &mut lines);
+    match io::writer(rt).write_all(&lines) {
+        Ok(()) => listed,
+        Err(_) => Err("Write"),
+    }
+}

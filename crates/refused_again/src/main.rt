@@ -1,0 +1,88 @@
+//! Goes on where memory was refused: `events` lists the events of the binary log on standard input by `EventStreamReader`,
+//! `follower` asks by `Follower::again` for what follows an answer, whose first bytes are on standard input, and `follower
+//! rest` feeds the rest of the answer before it asks once more. Without words it lists the events of a log that it carries
+//! with it, and then follows.
+//!
+//! `Unchanged` on standard error says that a reader was refused memory, and that the description in force and the table maps
+//! were as before; `Changed` is a fault. `Refused` says that memory was refused to the first call of `again`. A fault is named
+//! there too, and the status is 1.
+#![tactic(auto)]
+
+mod events;
+mod follower;
+
+use events::print_events;
+use follower::print_request;
+use std::alloc::Global;
+use std::env;
+use std::io::{ErrorKind, Read};
+use std::process::ExitCode;
+use std::rt::Env;
+
+/// A binary log of one transaction that inserts one row.
+const ONE_INSERT: [u8; 142] = [
+    0xfe, 0x62, 0x69, 0x6e, 0x00, 0x00, 0x00, 0x00, 0x02, 0x01, 0x00, 0x00, 0x00, 0x26, 0x00, 0x00,
+    0x00, 0x2a, 0x00, 0x00, 0x00, 0x00, 0x00, 0x01, 0x00, 0x00, 0x00, 0x00, 0x00, 0x00, 0x00, 0x00,
+    0x00, 0x00, 0x00, 0x00, 0x00, 0x42, 0x45, 0x47, 0x49, 0x4e, 0x00, 0x00, 0x00, 0x00, 0x13, 0x01,
+    0x00, 0x00, 0x00, 0x25, 0x00, 0x00, 0x00, 0x4f, 0x00, 0x00, 0x00, 0x00, 0x00, 0x07, 0x00, 0x00,
+    0x00, 0x00, 0x00, 0x01, 0x00, 0x01, 0x64, 0x00, 0x01, 0x74, 0x00, 0x01, 0x03, 0x00, 0x01, 0x00,
+    0x00, 0x00, 0x00, 0x1e, 0x01, 0x00, 0x00, 0x00, 0x24, 0x00, 0x00, 0x00, 0x73, 0x00, 0x00, 0x00,
+    0x00, 0x00, 0x07, 0x00, 0x00, 0x00, 0x00, 0x00, 0x01, 0x00, 0x02, 0x00, 0x01, 0x01, 0x00, 0x05,
+    0x00, 0x00, 0x00, 0x00, 0x00, 0x00, 0x00, 0x10, 0x01, 0x00, 0x00, 0x00, 0x1b, 0x00, 0x00, 0x00,
+    0x8e, 0x00, 0x00, 0x00, 0x00, 0x00, 0x0b, 0x00, 0x00, 0x00, 0x00, 0x00, 0x00, 0x00,
+];
+
+/// All that a reader gives, or `Read` or `Memory`.
+fn whole<R: Read + Drop>(alloc: Global, mut reader: R) -> Result<Vec<u8>, &'static str> {
+    let mut bytes = Vec::new(alloc);
+    match reader.read_to_end(&mut bytes) {
+        Ok(_) => Ok(bytes),
+        Err(error) if error.kind() == ErrorKind::OutOfMemory => Err("Memory"),
+        Err(_) => Err("Read"),
+    }
+}
+
+/// The words of the command, or `Memory` or `Usage`.
+fn words_of(rt: &HostRuntime) -> Result<Vec<String>, &'static str> {
+    match env::args(rt) {
+        Ok(words) => words.skip(1).collect(rt.alloc()).map_err(|_| "Memory"),
+        Err(error) if error.kind() == ErrorKind::OutOfMemory => Err("Memory"),
+        Err(_) => Err("Usage"),
+    }
+}
+
+/// Lists events; `Unchanged` where memory was refused.
+fn list(rt: &HostRuntime, log: &[u8]) -> Result<Option<&'static str>, &'static str> {
+    Ok(print_events(rt, log)?.then_some("Unchanged"))
+}
+
+/// Follows an answer; `Refused` where memory was refused.
+fn follow(rt: &HostRuntime, takes_rest: bool) -> Result<Option<&'static str>, &'static str> {
+    let answer = whole(rt.alloc(), rt.reader())?;
+    Ok(print_request(rt, &answer, takes_rest)?.then_some("Refused"))
+}
+
+/// Does what the words ask for, and answers what it says on standard error, if anything.
+fn run(rt: &HostRuntime) -> Result<Option<&'static str>, &'static str> {
+    let words = words_of(rt)?;
+    let Some((what, words)) = words.split_first() else {
+        list(rt, &ONE_INSERT)?;
+        return follow(rt, false);
+    };
+    match (what.as_str(), words) {
+        ("events", []) => list(rt, &whole(rt.alloc(), rt.reader())?),
+        ("follower", []) => follow(rt, false),
+        ("follower", [rest]) if rest.as_str() == "rest" => follow(rt, true),
+        _ => Err("Usage"),
+    }
+}
+
+fn main(rt: HostRuntime) -> ExitCode {
+    let (word, status) = match run(&rt) {
+        Ok(None) => return ExitCode::SUCCESS,
+        Ok(Some(word)) => (word, ExitCode::SUCCESS),
+        Err(word) => (word, ExitCode::FAILURE),
+    };
+    let _ = eprintln!(&rt; "{word}");
+    status
+}

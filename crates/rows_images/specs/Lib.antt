@@ -1,0 +1,10 @@
+pub mod Plans
+pub mod PlanViews
+pub mod Walks
+pub mod PickedColumns
+pub mod ImageShapes
+pub mod ImagePlaces
+pub mod OwnedRows
+pub mod PlainRows
+pub mod RowImages
+pub mod RowFields

@@ -1,0 +1,26 @@
+//! The images of a table's rows: which columns they have, and rows in memory of their own that are read from them.
+//!
+//! `ColumnPlan` is the plan of a table's columns: what a row's reader needs of each, made once from the table map and
+//! its optional metadata (`specs/Plans.antt`). `specs/OwnedRows.antt` says what a row in memory of its own has,
+//! `specs/PlainRows.antt` when it is a row of plain values, `specs/RowImages.antt` which row is read from an image, and
+//! `specs/RowFields.antt` which bytes spell a row.
+#![tactic(auto)]
+
+mod binlog_row;
+mod column;
+mod image_columns;
+mod into_row;
+mod picked;
+mod plan;
+mod row_field;
+mod row_image;
+mod run;
+mod walk;
+
+pub use binlog_row::BinlogRow;
+pub use column::PlannedColumn;
+pub use image_columns::ImageColumns;
+pub use into_row::BinlogRowToRowError;
+pub use plan::ColumnPlan;
+pub use row_field::BinlogRowCtx;
+pub use row_image::RowImage;

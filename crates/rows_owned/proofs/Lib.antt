@@ -1,3 +1,0 @@
-pub mod FieldLemmas
-pub mod HeldLemmas
-pub mod ReadLemmas

@@ -1,5 +1,0 @@
-pub mod ImagePlaces
-pub mod OwnedRows
-pub mod PlainRows
-pub mod RowImages
-pub mod RowFields

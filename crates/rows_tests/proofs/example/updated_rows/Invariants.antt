@@ -1,5 +1,0 @@
-use Rattle.rows_cells.specs.RowViews.{parts_left}
-use Rattle.rows_tests.proofs.example.updated_rows.Given as goal
-
-abbrev pub decreases-loop-text : goal.decreases-loop-text
-decreases-loop-text l = parts_left l.rows

@@ -1,0 +1,15 @@
+-- What the faults of the wire are called where rows are read.
+use Rattle.wire_buf.specs.declared.fault.WireFault.{WireFault}
+use Rattle.wire_buf.specs.declared.fault.WireFault.TheVariants.{Eof, BadNumber, BadConst, Memory, Read, Write, Form}
+use Rattle.rows_times.specs.declared.fault.RowsError.{RowsError}
+use Rattle.rows_times.specs.declared.fault.RowsError.TheVariants as rows
+
+-- the bytes end, they stand for nothing, memory is refused, or the device failed
+abbrev pub rows_error : WireFault → RowsError
+rows_error Eof = rows.EndOfBody
+rows_error BadNumber = rows.UnknownNumber
+rows_error BadConst = rows.UnknownNumber
+rows_error Form = rows.UnknownNumber
+rows_error Memory = rows.Memory
+rows_error Read = rows.Read
+rows_error Write = rows.Read

@@ -1,0 +1,7 @@
+pub mod Faults
+pub mod PackedTimes
+pub mod ReadTimes
+pub mod TimeFields
+pub mod TimePlaces
+pub mod TimeTexts
+pub mod Readings

@@ -1,0 +1,177 @@
+//! The cells of columns of times: what their bytes are worth.
+
+ghost use Rattle.std.specs.Prelude.{◌≡◌, ◌+◌, ◌-◌, ◌≤◌, ◌<◌, ◌^◌, ◌*◌, pos, length, IfOk, IfErr};
+ghost use Rattle.byteorder.specs.Endian.{big_number};
+ghost use Rattle.rows_times.specs.PackedTimes.{fraction_len, fraction, time2, datetime2, timestamp2};
+ghost use Rattle.rows_times.specs.ReadTimes.{ReadsValue, IsCut};
+
+use crate::fault::RowsError;
+use crate::times::packed::{my_packed_time_make, my_packed_time_make_int};
+use byteorder::{BigEndian, ByteOrder};
+use std::io::Read;
+use wire_buf::read_exact;
+
+/// What the three bytes of a `TIME2` without fraction hold above its hours, minutes and seconds.
+pub const TIMEF_INT_OFS: i64 = 0x80_0000;
+
+/// The same of the six bytes of a `TIME2` with microseconds.
+pub const TIMEF_OFS: i64 = 0x8000_0000_0000;
+
+/// What the first five bytes of a `DATETIME2` hold above its date and time.
+pub const DATETIMEF_INT_OFS: i64 = 0x80_0000_0000;
+
+/// How many bytes the fraction of a cell with so many decimals has: one for each two of them. A
+/// number of decimals past 6 is taken as 0.
+pub fn fraction_size(dec: u32) -> usize
+    ensures value { result ≡ fraction_len dec }
+    ensures bound { result ≤ 3 }
+{
+    match dec {
+        1 | 2 => 1,
+        3 | 4 => 2,
+        5 | 6 => 3,
+        _ => 0,
+    }
+}
+
+/// The packed time in the first bytes, as the cell of a `TIME2` column with so many decimals has it: 3
+/// bytes and those of the fraction.
+pub fn time_of(bytes: &[u8], dec: u32) -> i64
+    requires { 3 + fraction_len dec ≤ length bytes.now }
+    ensures { result ≡ time2 (fraction_len dec) bytes.now }
+{
+    time_with_fraction(bytes, fraction_size(dec))
+}
+
+/// The packed time in the first bytes, as the cell of a `DATETIME2` column with so many decimals has it:
+/// 5 bytes and those of the fraction.
+pub fn datetime_of(bytes: &[u8], dec: u32) -> i64
+    requires { 5 + fraction_len dec ≤ length bytes.now }
+    ensures { result ≡ datetime2 (fraction_len dec) bytes.now }
+{
+    datetime_with_fraction(bytes, fraction_size(dec))
+}
+
+/// Seconds since 1970 and microseconds in the first bytes, as the cell of a `TIMESTAMP2` column with so
+/// many decimals has them: 4 bytes and those of the fraction.
+pub fn timestamp_of(bytes: &[u8], dec: u32) -> (i32, i32)
+    requires { 4 + fraction_len dec ≤ length bytes.now }
+    ensures { result ≡ timestamp2 (fraction_len dec) bytes.now }
+{
+    timestamp_with_fraction(bytes, fraction_size(dec))
+}
+
+/// Reads the cell of a `TIME2` column with so many decimals as a packed time: 3 bytes, and one for
+/// each two decimals. A number of decimals past 6 is taken as 0.
+///
+/// An end of the input within the cell is `EndOfBody`, and all bytes are then taken; a reader that
+/// fails, and one that is interrupted for 2^63 - 1 times, is `Read`.
+pub fn my_time_packed_from_binary<R: Read>(input: &mut R, dec: u32) -> Result<i64, RowsError>
+    ensures ok { IfOk result (λ v. ReadsValue (3 + fraction_len dec) (time2 (fraction_len dec)) v
+        (R.remaining input.old) (R.remaining input.new)) }
+    ensures err { IfErr result
+        (λ e. IsCut e (3 + fraction_len dec) (R.remaining input.old) (R.remaining input.new)) }
+{
+    let mut buf = [0u8; 6];
+    let bytes = &mut buf[..3 + fraction_size(dec)];
+    read_exact(input, bytes)?;
+    Ok(time_of(bytes, dec))
+}
+
+/// Reads the cell of a `DATETIME2` column with so many decimals as a packed time: 5 bytes, and one
+/// for each two decimals. A number of decimals past 6 is taken as 0. Refusals are as those of
+/// [`my_time_packed_from_binary`].
+pub fn my_datetime_packed_from_binary<R: Read>(input: &mut R, dec: u32) -> Result<i64, RowsError>
+    ensures ok { IfOk result (λ v. ReadsValue (5 + fraction_len dec) (datetime2 (fraction_len dec)) v
+        (R.remaining input.old) (R.remaining input.new)) }
+    ensures err { IfErr result
+        (λ e. IsCut e (5 + fraction_len dec) (R.remaining input.old) (R.remaining input.new)) }
+{
+    let mut buf = [0u8; 8];
+    let bytes = &mut buf[..5 + fraction_size(dec)];
+    read_exact(input, bytes)?;
+    Ok(datetime_of(bytes, dec))
+}
+
+/// Reads the cell of a `TIMESTAMP2` column with so many decimals: the seconds since 1970 and the
+/// microseconds, in 4 bytes and one for each two decimals. A number of decimals past 6 is taken as
+/// 0. Refusals are as those of [`my_time_packed_from_binary`].
+pub fn my_timestamp_from_binary<R: Read>(input: &mut R, dec: u8) -> Result<(i32, i32), RowsError>
+    ensures ok { IfOk result (λ v. ReadsValue (4 + fraction_len dec) (timestamp2 (fraction_len dec)) v
+        (R.remaining input.old) (R.remaining input.new)) }
+    ensures err { IfErr result
+        (λ e. IsCut e (4 + fraction_len dec) (R.remaining input.old) (R.remaining input.new)) }
+{
+    let mut buf = [0u8; 7];
+    let bytes = &mut buf[..4 + fraction_size(u32::from(dec))];
+    read_exact(input, bytes)?;
+    Ok(timestamp_of(bytes, u32::from(dec)))
+}
+
+/// The packed time of a `TIME2` cell with so many bytes of fraction.
+fn time_with_fraction(bytes: &[u8], fraction_bytes: usize) -> i64
+    requires low { fraction_bytes ≤ 3 }
+    requires room { 3 + fraction_bytes ≤ length bytes.now }
+    ensures { result ≡ time2 fraction_bytes bytes.now }
+{
+    // Both parts are rounded toward zero, so that the fraction has the sign of the whole.
+    match fraction_bytes {
+        1 => {
+            let time = big_endian(bytes, 4) - TIMEF_INT_OFS * 0x100;
+            my_packed_time_make(time / 0x100, time % 0x100 * 10_000)
+        }
+        2 => {
+            let time = big_endian(bytes, 5) - TIMEF_INT_OFS * 0x1_0000;
+            my_packed_time_make(time / 0x1_0000, time % 0x1_0000 * 100)
+        }
+        3 => big_endian(bytes, 6) - TIMEF_OFS,
+        _ => my_packed_time_make_int(big_endian(bytes, 3) - TIMEF_INT_OFS),
+    }
+}
+
+/// The packed time of a `DATETIME2` cell with so many bytes of fraction.
+fn datetime_with_fraction(bytes: &[u8], fraction_bytes: usize) -> i64
+    requires low { fraction_bytes ≤ 3 }
+    requires room { 5 + fraction_bytes ≤ length bytes.now }
+    ensures { result ≡ datetime2 fraction_bytes bytes.now }
+{
+    let whole = big_endian(bytes, 5) - DATETIMEF_INT_OFS;
+    my_packed_time_make(whole, i64::from(fraction_of(&bytes[5..], fraction_bytes)))
+}
+
+/// Seconds and microseconds of a `TIMESTAMP2` cell with so many bytes of fraction.
+fn timestamp_with_fraction(bytes: &[u8], fraction_bytes: usize) -> (i32, i32)
+    requires low { fraction_bytes ≤ 3 }
+    requires room { 4 + fraction_bytes ≤ length bytes.now }
+    ensures { result ≡ timestamp2 fraction_bytes bytes.now }
+{
+    (
+        BigEndian::read_i32(bytes),
+        fraction_of(&bytes[4..], fraction_bytes),
+    )
+}
+
+/// A fraction of so many bytes, in microseconds.
+fn fraction_of(bytes: &[u8], fraction_bytes: usize) -> i32
+    requires low { fraction_bytes ≤ 3 }
+    requires room { fraction_bytes ≤ length bytes.now }
+    ensures { result ≡ fraction fraction_bytes bytes.now }
+{
+    match fraction_bytes {
+        1 => i32::from(bytes[0].cast_signed()) * 10_000,
+        2 => i32::from(BigEndian::read_i16(bytes)) * 100,
+        3 => BigEndian::read_i24(bytes),
+        _ => 0,
+    }
+}
+
+/// The number in the first n bytes, the highest first.
+fn big_endian(bytes: &[u8], n: usize) -> i64
+    requires low { 3 ≤ n }
+    requires high { n ≤ 6 }
+    requires room { n ≤ length bytes.now }
+    ensures value { result ≡ pos (big_number n bytes.now) }
+    ensures bound { big_number n bytes.now < 256 ^ n }
+{
+    BigEndian::read_uint(bytes, n) as i64
+}

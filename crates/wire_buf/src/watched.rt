@@ -1,0 +1,117 @@
+//! Readers and writers of which it is known whether they failed.
+
+ghost use Rattle.std.specs.Prelude.{◌≡◌, ◌≢◌, ◌<◌, ◌≤◌, OnOk, OnErr, IfErr, true, false};
+ghost use Rattle.std.specs.Io.KnownBytes.{ReadConsumes, WriteAppends};
+ghost use Rattle.std.specs.IoError.{error_kind};
+ghost use Rattle.std.specs.Io.{ReadsAtMost, WritesAtMost};
+ghost use Rattle.wire_buf.specs.Watched.{inner_of, reads_of, has_failed, IsTaken};
+
+use crate::reading::MAX_READS;
+use crate::writing::MAX_WRITES;
+use std::io::{self, ErrorKind, Read, Write};
+
+/// A reader or a writer that is watched: it counts its reads and keeps whether one of its calls failed.
+#[derive(Drop)]
+pub struct Watched<T> {
+    inner: T,
+    reads: u64,
+    failed: bool,
+}
+
+impl<T> Watched<T> {
+    /// Watches a reader or a writer, which hasn't failed yet.
+    pub fn new(inner: T) -> Watched<T>
+        ensures inner { inner_of result ≡ inner }
+        ensures reads { reads_of result ≡ 0 }
+        ensures failed { has_failed result ≡ false }
+    {
+        Watched {
+            inner,
+            reads: 0,
+            failed: false,
+        }
+    }
+
+    /// Whether a `pull` or a `push` failed.
+    pub fn failed(&self) -> bool
+        ensures { result ≡ has_failed self.now }
+    {
+        self.failed
+    }
+
+    /// The reader or the writer.
+    pub fn into_inner(self) -> T
+        ensures { result ≡ inner_of self }
+    {
+        let Watched {
+            inner,
+            reads: _,
+            failed: _,
+        } = self;
+        inner
+    }
+}
+
+impl<R: Read> Watched<R> {
+    /// Reads once, and once more for each time that it is interrupted. Each read is counted, and after 2^63 - 1 of them
+    /// it reads nothing and fails. It fails where a read fails, with the read's error.
+    pub fn pull(&mut self, buf: &mut [u8]) -> io::Result<usize>
+        ensures bound { ReadsAtMost result buf.new }
+        ensures bytes { ReadConsumes (R.remaining (inner_of self.old)) (R.remaining (inner_of self.new)) result buf.new }
+        ensures counted { reads_of self.old < MAX_READS → (reads_of self.old < reads_of self.new) × (reads_of self.new ≤ MAX_READS) }
+        ensures limited { OnOk result (reads_of self.old < MAX_READS) }
+        ensures spent { MAX_READS ≤ reads_of self.old → (inner_of self.new ≡ inner_of self.old) × (reads_of self.new ≡ reads_of self.old) }
+        ensures err { OnErr result (has_failed self.new ≡ true) }
+        ensures ok { OnOk result (has_failed self.new ≡ has_failed self.old) }
+        ensures retried { IfErr result (λ e. error_kind e ≢ ErrorKind.Interrupted) }
+    {
+        'reads: while self.reads < MAX_READS {
+            self.reads += 1;
+            match self.inner.read(buf) {
+                Ok(taken) => return Ok(taken),
+                Err(error) => {
+                    if error.kind() != ErrorKind::Interrupted {
+                        self.failed = true;
+                        return Err(error);
+                    }
+                }
+            }
+        }
+        self.failed = true;
+        Err(io::Error::from(ErrorKind::Other))
+    }
+}
+
+impl<W: Write> Watched<W> {
+    /// Writes once, and once more for each time that it is interrupted, up to 2^63 - 1 times. Taking nothing of bytes
+    /// that are there is a failure, as is a write that fails.
+    pub fn push(&mut self, bytes: &[u8]) -> io::Result<usize>
+        ensures bound { WritesAtMost result bytes.now }
+        ensures bytes { WriteAppends (W.contents (inner_of self.old)) (W.contents (inner_of self.new)) result bytes.now }
+        ensures some { IsTaken result bytes.now }
+        ensures reads { reads_of self.new ≡ reads_of self.old }
+        ensures err { OnErr result (has_failed self.new ≡ true) }
+        ensures ok { OnOk result (has_failed self.new ≡ has_failed self.old) }
+        ensures retried { IfErr result (λ e. error_kind e ≢ ErrorKind.Interrupted) }
+    {
+        'writes: for _write in 0..MAX_WRITES {
+            match self.inner.write(bytes) {
+                Ok(taken) => {
+                    if taken == 0 && !bytes.is_empty() {
+                        self.failed = true;
+                        return Err(io::Error::from(ErrorKind::WriteZero));
+                    }
+                    return Ok(taken);
+                }
+                Err(error) => {
+                    if error.kind() != ErrorKind::Interrupted {
+                        self.failed = true;
+                        return Err(error);
+                    }
+                }
+            }
+        }
+        self.failed = true;
+        Err(io::Error::from(ErrorKind::Other))
+    }
+}

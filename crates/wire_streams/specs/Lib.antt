@@ -1,2 +1,0 @@
-pub mod Transfers
-pub mod Watched
