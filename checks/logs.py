@@ -14,7 +14,7 @@ import sys
 from pathlib import Path
 
 ROOT = Path(__file__).resolve().parent.parent
-FIRST_PLACE = 4
+FIRST_POSITION = 4
 
 
 def script(path):
@@ -76,7 +76,7 @@ def field(number, value):
 def table_map(log, table_id, table, columns):
     """A table map, with the signs, names and keys of its columns, and a character set."""
     signs = field(1, b"\x55") if columns == COLUMNS else b""
-    names = b"".join(b"\2c" + bytes([97 + place]) for place in range(len(columns)))
+    names = b"".join(b"\2c" + bytes([97 + index]) for index in range(len(columns)))
     metadata = b"".join(column[1] for column in columns)
     body = GENERATE.map_body(table_id, b"shop", table, [column[0] for column in columns], metadata)
     log.event(GENERATE.TABLE_MAP_EVENT, body + signs + field(2, b"\x2d") + field(4, names) + field(8, b"\0"))
@@ -85,7 +85,7 @@ def table_map(log, table_id, table, columns):
 def image(draw, columns):
     """An image of a row, in which some cells are NULL."""
     nulls = [draw.random() < 0.1 for _ in columns]
-    bits = sum(is_null << place for place, is_null in enumerate(nulls))
+    bits = sum(is_null << index for index, is_null in enumerate(nulls))
     cells = b"".join(cell(draw) for (_, _, cell), is_null in zip(columns, nulls) if not is_null)
     return bits.to_bytes((len(columns) + 7) // 8, "little") + cells
 
@@ -153,7 +153,7 @@ def identifiers(log):
             log.query(b"shop", b"COMMIT")
         else:
             log.commit()
-    log.event(ROTATE, FIRST_PLACE.to_bytes(8, "little") + b"binlog.000043")
+    log.event(ROTATE, FIRST_POSITION.to_bytes(8, "little") + b"binlog.000043")
 
 
 class Undescribed(GENERATE.Log):
@@ -161,7 +161,7 @@ class Undescribed(GENERATE.Log):
 
     def __init__(self, file, size):
         self.file, self.size, self.algorithm = file, size, 0
-        self.position, self.transactions = FIRST_PLACE, 0
+        self.position, self.transactions = FIRST_POSITION, 0
         file.write(GENERATE.MARK)
 
 

@@ -11,38 +11,40 @@ pub use Rattle.feed_rules.specs.Transactions
 pub use Rattle.feed_rules.specs.Rules
 pub use Rattle.feed_rules.specs.Texts
 pub use Rattle.feed_rules.specs.Sums
-pub use Rattle.feed_rules.specs.Standing
-pub use Rattle.feed_rules.specs.Sound
+pub use Rattle.feed_rules.specs.FeedStates
+pub use Rattle.feed_rules.specs.SplitEvents
 pub use Rattle.feed_rules.specs.Laws
 pub use Rattle.feed_rules.specs.WorkedEvents
 pub use Rattle.feed_rules.specs.Verdicts
 pub use Rattle.feed_reports.specs.Events as FileEvents
 pub use Rattle.feed_reports.specs.Writing
-pub use Rattle.feed_reports.specs.Marks
+pub use Rattle.feed_reports.specs.MagicNumbers
 pub use Rattle.feed_reports.specs.Reports
 pub use Rattle.feed_reports.specs.WorkedReports
 pub use Rattle.feed_streams.specs.Words as StreamWords
 pub use Rattle.feed_streams.specs.Streams
 pub use Rattle.feed_streams.specs.Acknowledgements
-pub use Rattle.feed_streams.specs.Asking
+pub use Rattle.feed_streams.specs.ResumePositions
 pub use Rattle.feed_streams.specs.Requests
 pub use Rattle.feed_streams.specs.RequestErrors
 pub use Rattle.feed_streams.specs.Following
 pub use Rattle.feed_streams.specs.WorkedStreams
 pub use Rattle.feed_serving.specs.Requests as ServedRequests
-pub use Rattle.feed_serving.specs.Places
+pub use Rattle.feed_serving.specs.Positions
 pub use Rattle.feed_serving.specs.Serving
 pub use Rattle.feed_serving.specs.Sending
 pub use Rattle.feed_serving.specs.ServedNames
 pub use Rattle.feed_serving.specs.Laws as ServingLaws
 pub use Rattle.feed_serving.specs.WorkedServing
+pub use Rattle.feed_kept.specs.Words as KeptWords
+pub use Rattle.feed_kept.specs.CommitLines
 pub use Rattle.feed_kept.specs.Kept
 pub use Rattle.feed_kept.specs.LineStarts
 pub use Rattle.feed_kept.specs.Keepers
 pub use Rattle.feed_kept.specs.Worked as WorkedKept
 pub use Rattle.feed_runs.specs.Runs
 pub use Rattle.feed_runs.specs.Laws as RunLaws
-pub use Rattle.feed_runs.specs.Mending
+pub use Rattle.feed_runs.specs.Repair
 pub use Rattle.feed_runs.specs.Lines
 pub use Rattle.feed_runs.specs.Rehearsing
 pub use Rattle.feed_runs.specs.WorkedRuns
@@ -54,7 +56,7 @@ pub use Rattle.feed_text.specs.JsonText
 pub use Rattle.feed_text.specs.ShortTexts
 pub use Rattle.feed_text.specs.DiffText
 pub use Rattle.feed_text.specs.CellText
-pub use Rattle.feed_text.specs.CellParts
+pub use Rattle.feed_text.specs.CellContent
 pub use Rattle.feed_text.specs.Buffers
 pub use Rattle.feed_text.specs.FieldText
 pub use Rattle.feed_text.specs.ImageText

@@ -1,10 +1,10 @@
-//! Laws of the parts, each proved as the contract of a function that does nothing, and worked examples, which the
-//! definitions compute.
+//! Laws of the parts, each stated as the contract of a function that does nothing, and worked examples, computed from the
+//! definitions.
 
 pub use feed_kept::laws::commit_lines_are_read;
 pub use feed_kept::worked::worked_kept;
 pub use feed_reports::laws::{
-    events_are_longest, report_of_a_front, reports_are_whole_transactions,
+    events_are_longest, report_of_a_prefix, reports_are_whole_transactions,
 };
 pub use feed_reports::worked::worked_reports;
 pub use feed_rules::laws::{
@@ -15,15 +15,16 @@ pub use feed_rules::laws::{
 };
 pub use feed_rules::worked::{worked_checksums, worked_kinds, worked_rows};
 pub use feed_runs::laws::{
-    broken_runs_are_whole, one_answer_gives_the_rest, packets_of_a_front,
-    the_last_commit_line_has_the_last_place, torn_text_is_mended, transactions_have_lines,
+    broken_runs_are_whole, one_answer_gives_the_rest, packets_of_a_prefix,
+    the_last_commit_line_has_the_last_position, transactions_have_lines,
+    truncated_text_is_repaired,
 };
 pub use feed_runs::worked::{worked_acknowledged_runs, worked_followable, worked_runs};
 pub use feed_serving::laws::{
     lengths_of_packets, requests_are_packets, requests_are_their_fields,
     serving_from_the_start_loses_nothing, serving_stops_at_damage,
 };
-pub use feed_serving::worked::{worked_damage, worked_dumps, worked_places};
+pub use feed_serving::worked::{worked_damage, worked_dumps, worked_positions};
 pub use feed_streams::laws::payloads_are_of_their_events;
 pub use feed_streams::worked::{
     worked_acknowledgements, worked_answers, worked_ends, worked_requests,

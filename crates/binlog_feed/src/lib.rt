@@ -1,11 +1,11 @@
-//! The change feed of a MySQL binary log: the report of a file, a follower of a server's packets, a server that answers its
-//! requests, how much of a text that was cut off is whole transactions, and the words for how each ended.
+//! The change feed of a MySQL binary log: the report of a file, a follower of a server's packets, a server that answers the
+//! follower's requests, the repair of truncated output, and the names of the results.
 //!
-//! Each thing is made in a part of its own: `feed_rules` has the rules by which one event is judged after those before it,
-//! and the transactions that events show; `feed_reports` the report of a file; `feed_streams` the follower of a stream and
-//! the request that asks for it; `feed_serving` the server of a file; `feed_runs` follower and server together, where answers
-//! break off; `feed_kept` what is kept of a text that was cut off; `feed_text` the text of values. The parts stand on those of
-//! `mysql_binlog_events`, `mysql_binlog_rows` and `mysql_wire`.
+//! Each part is a crate of its own: `feed_rules` has the rules that judge an event given the events before it, and the
+//! transactions that events show; `feed_reports` the report of a file; `feed_streams` the follower of a stream and its request;
+//! `feed_serving` the server of a file; `feed_runs` follower and server together, through connections that drop; `feed_kept` the
+//! complete transactions of a truncated text; `feed_text` the text of values. They build on `mysql_binlog_events`,
+//! `mysql_binlog_rows` and `mysql_wire`.
 #![tactic(auto)]
 
 pub mod laws;

@@ -15,16 +15,16 @@ use std::process::ExitCode;
 use std::rt::{Env, Files};
 use wire_buf::Watched;
 
-/// The greatest length of a payload in bytes.
+/// The maximum length of a payload in bytes.
 const PACKET_LIMIT: usize = 1_073_741_824;
 
-/// The place after the mark, where the first event of a binary log begins.
-const FIRST_PLACE: u32 = 4;
+/// The position of the first event, after the magic number.
+const FIRST_POSITION: u32 = 4;
 
-/// How many bytes are read from a file, and written to standard output, at once.
+/// The buffer size for reading a file and for writing standard output, in bytes.
 const BUFFER_LEN: usize = 262_144;
 
-/// How many bytes of standard input are taken at once, at most.
+/// The buffer size for reading standard input, in bytes.
 const PIECE_LEN: usize = 65_536;
 
 /// A binary log of one transaction that inserts one row.
@@ -40,13 +40,13 @@ const ONE_INSERT: [u8; 142] = [
     0x8e, 0x00, 0x00, 0x00, 0x00, 0x00, 0x0b, 0x00, 0x00, 0x00, 0x00, 0x00, 0x00, 0x00,
 ];
 
-/// Says a name on standard error, and ends with status 1.
+/// Prints a name on standard error, and returns status 1.
 fn fail(rt: &impl Eprint, name: &str) -> ExitCode {
     let _ = eprintln!(rt; "{name}");
     ExitCode::FAILURE
 }
 
-/// Ends with a verdict's status; its name goes to standard error where it isn't `End`.
+/// Returns a verdict's status; prints its name on standard error unless it is `End`.
 fn end_with(rt: &impl Eprint, verdict: Verdict) -> ExitCode {
     if verdict == Verdict::End {
         return ExitCode::from(status(&verdict));
@@ -54,7 +54,7 @@ fn end_with(rt: &impl Eprint, verdict: Verdict) -> ExitCode {
     fail(rt, name_of(&verdict))
 }
 
-/// The verdict, or `Write` where what is still held can't be written.
+/// Flushes the writer; returns the verdict, or `Write` if that fails.
 fn flushed<W: Write>(writer: &mut W, verdict: Verdict) -> Verdict {
     match writer.flush() {
         Ok(()) => verdict,
@@ -73,7 +73,7 @@ fn report_to_stdout<P: Print, R: Read + Drop>(rt: &P, alloc: Global, reader: R) 
     flushed(&mut writer.into_inner(), verdict)
 }
 
-/// Opens a file to read it, or says why not: `Memory` or `Open`.
+/// Opens a file for reading. The error is `Memory` or `Open`.
 fn open<P: Files>(rt: &P, alloc: Global, path: &str) -> Result<BufReader<P::File>, &'static str> {
     let file = match File::open(rt, path) {
         Ok(file) => file,
@@ -91,7 +91,7 @@ fn report_file<P: Print + Eprint + Files>(rt: &P, alloc: Global, path: &str) -> 
     }
 }
 
-/// All that a reader gives, or `Read` or `Memory`.
+/// Reads all of a reader's bytes. The error is `Read` or `Memory`.
 fn whole<R: Read + Drop>(alloc: Global, mut reader: R) -> Result<Vec<u8>, Verdict> {
     let mut bytes = Vec::new(alloc);
     match reader.read_to_end(&mut bytes) {
@@ -101,12 +101,12 @@ fn whole<R: Read + Drop>(alloc: Global, mut reader: R) -> Result<Vec<u8>, Verdic
     }
 }
 
-/// Whom an answer is for.
+/// The kind of replica that an answer is for.
 #[derive(Clone, Copy)]
 enum Replica {
-    /// One that acknowledges nothing.
+    /// Acknowledges nothing.
     Plain,
-    /// One that acknowledges what it receives.
+    /// Acknowledges what it receives.
     SemiSync,
 }
 
@@ -150,7 +150,7 @@ fn serve_to_stdout<P: Print, R: Read + Drop>(
     }
 }
 
-/// Serves a file under a name: the request is all of standard input.
+/// Serves a file under a name. The request is all of standard input.
 fn serve_file(
     rt: &HostRuntime,
     alloc: Global,
@@ -172,7 +172,7 @@ fn serve_file(
     }
 }
 
-/// Writes what a follower prints of a binary log to standard output, where of each answer so many bytes come.
+/// Writes what a follower prints of a binary log to standard output; `counts` are the bytes of each answer that arrive.
 fn rehearse_to_stdout<P: Print>(rt: &P, alloc: Global, binlog: &[u8], counts: &[usize]) -> Verdict {
     let Ok(out) = BufWriter::with_capacity(alloc, BUFFER_LEN, io::writer(rt)) else {
         return Verdict::Memory;
@@ -182,7 +182,7 @@ fn rehearse_to_stdout<P: Print>(rt: &P, alloc: Global, binlog: &[u8], counts: &[
     flushed(&mut writer.into_inner(), verdict)
 }
 
-/// Rehearses a file: it is taken whole, and served once for each count.
+/// Rehearses a file: reads it whole, and serves it once for each count.
 fn rehearse_file(rt: &HostRuntime, alloc: Global, path: &str, counts: &[String]) -> ExitCode {
     let counts = match counts_of(alloc, counts) {
         Ok(counts) => counts,
@@ -202,11 +202,11 @@ fn rehearse_file(rt: &HostRuntime, alloc: Global, path: &str, counts: &[String])
 fn write_request<P: Print + Eprint>(
     rt: &P,
     alloc: Global,
-    place: u32,
+    position: u32,
     server: u32,
     name: &[u8],
 ) -> ExitCode {
-    match request(alloc, place, server, name) {
+    match request(alloc, position, server, name) {
         Err(error) => fail(rt, error.name()),
         Ok(packet) => {
             let mut out = io::writer(rt);
@@ -226,7 +226,7 @@ fn follow_into<R: Read + Drop, W: Write + Drop>(
 ) -> Verdict {
     let Ok((mut follower, _request)) = Follower::start(
         alloc,
-        FIRST_PLACE,
+        FIRST_POSITION,
         1,
         b"",
         PACKET_LIMIT,
@@ -261,12 +261,12 @@ fn follow<P: Print, R: Read + Drop>(rt: &P, alloc: Global, reader: R) -> Verdict
     }
 }
 
-/// Whether a word has decimal digits and nothing else.
+/// Whether a word has only decimal digits.
 fn is_digits(word: &str) -> bool {
     word.bytes().all(|byte| byte.is_ascii_digit())
 }
 
-/// One or more decimal digits and nothing else, at most 4,294,967,295.
+/// Reads a word of one or more decimal digits, at most 4,294,967,295.
 fn number(word: &str) -> Option<u32> {
     if !is_digits(word) {
         return None;
@@ -274,7 +274,7 @@ fn number(word: &str) -> Option<u32> {
     word.parse().ok()
 }
 
-/// The same for each of these words, at most 18,446,744,073,709,551,615; or `Usage`, or `Memory`.
+/// Reads words of one or more decimal digits, at most 18,446,744,073,709,551,615 each. The error is `Usage` or `Memory`.
 fn counts_of(alloc: Global, words: &[String]) -> Result<Vec<usize>, &'static str> {
     let mut counts = Vec::new(alloc);
     for word in words {
@@ -292,7 +292,7 @@ fn counts_of(alloc: Global, words: &[String]) -> Result<Vec<usize>, &'static str
     Ok(counts)
 }
 
-/// Does what the words ask for.
+/// Runs the command that the words name.
 fn run(rt: &HostRuntime, words: &[String]) -> ExitCode {
     let alloc = rt.alloc();
     let Some((command, words)) = words.split_first() else {
@@ -300,10 +300,10 @@ fn run(rt: &HostRuntime, words: &[String]) -> ExitCode {
     };
     match (command.as_str(), words) {
         ("report", [path]) => report_file(rt, alloc, path.as_str()),
-        ("request", [place, server, name]) => {
-            match (number(place.as_str()), number(server.as_str())) {
-                (Some(place), Some(server)) => {
-                    write_request(rt, alloc, place, server, name.as_str().as_bytes())
+        ("request", [position, server, name]) => {
+            match (number(position.as_str()), number(server.as_str())) {
+                (Some(position), Some(server)) => {
+                    write_request(rt, alloc, position, server, name.as_str().as_bytes())
                 }
                 _ => fail(rt, "Usage"),
             }

@@ -1,9 +1,10 @@
-//! The program `binlog-kept`: how much of a text of the feed is whole transactions. Standard input is such a text, which may
-//! be cut off anywhere, and is taken in pieces. Standard output is the length in bytes of what is kept, a space, the place to ask
-//! from for what follows, and a line feed. That place stands behind the last transaction that is kept, or it is that of the
-//! first event where none is.
+//! The program `binlog-kept`: finds the complete transactions of truncated output, and the position to resume from. Standard
+//! input is a text of the feed, which may be truncated anywhere; it is read in pieces. Standard output is the length in bytes of
+//! the complete transactions, a space, the position to resume from, and a line feed. The position is that after the last complete
+//! transaction, or the first event's if there is none.
 //!
-//! There are no words. A fault is named on standard error, and the status is 1: `Usage`, `Read`, `Memory` or `Write`.
+//! The program takes no arguments. On an error it prints `Usage`, `Read`, `Memory` or `Write` on standard error, and its status
+//! is 1.
 #![tactic(auto)]
 
 use feed_kept::Keeper;
@@ -13,13 +14,13 @@ use std::io::{ErrorKind, Read};
 use std::process::ExitCode;
 use std::rt::Env;
 
-/// The place after the mark, where the first event of a binary log begins.
-const FIRST_PLACE: u32 = 4;
+/// The position of the first event, after the magic number.
+const FIRST_POSITION: u32 = 4;
 
-/// How many bytes of standard input are taken at once, at most.
+/// The buffer size for reading standard input, in bytes.
 const PIECE_LEN: usize = 65_536;
 
-/// `Usage` where there is a word, and `Memory` where it can't be told.
+/// Checks that there are no arguments. `Usage`: there is one. `Memory`: out of memory.
 fn no_words(rt: &(impl Env + Alloc)) -> Result<(), &'static str> {
     match env::args(rt) {
         Ok(words) if words.len() <= 1 => Ok(()),
@@ -28,7 +29,7 @@ fn no_words(rt: &(impl Env + Alloc)) -> Result<(), &'static str> {
     }
 }
 
-/// Takes all that a reader gives, or says why not: `Read` or `Memory`.
+/// Reads all of a reader's bytes. The error is `Read` or `Memory`.
 fn keep_all<R: Read + Drop>(alloc: Global, mut reader: R) -> Result<Keeper, &'static str> {
     let mut keeper = Keeper::new(alloc);
     let mut piece = [0u8; PIECE_LEN];
@@ -43,11 +44,11 @@ fn keep_all<R: Read + Drop>(alloc: Global, mut reader: R) -> Result<Keeper, &'st
     Err("Read")
 }
 
-/// Prints what is kept of standard input, or says why not.
+/// Prints the result for standard input.
 fn run(rt: &HostRuntime) -> Result<(), &'static str> {
     no_words(rt)?;
-    let (len, place) = keep_all(rt.alloc(), rt.reader())?.kept();
-    println!(rt; "{len} {}", place.unwrap_or(FIRST_PLACE)).map_err(|_| "Write")
+    let (len, position) = keep_all(rt.alloc(), rt.reader())?.kept();
+    println!(rt; "{len} {}", position.unwrap_or(FIRST_POSITION)).map_err(|_| "Write")
 }
 
 fn main(rt: HostRuntime) -> ExitCode {

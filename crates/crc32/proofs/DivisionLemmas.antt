@@ -1,9 +1,9 @@
--- The register as the remainder of a division: each step takes the generator, or nothing, from what is left.
+-- The register as the remainder of a division: each step subtracts the generator, or nothing, from the rest.
 use Rattle.std.proofs.Common.{◌≡◌, ℕ, zero, suc, ◌+◌, ◌*◌, ◌/◌, ◌%◌, ◌^◌, ◌<◌, ◌==◌, Bool, true, false, cond, ◌↔◌, subst, List, [], ◌∷◌, bit_xor, length, get_or, refl, sym, ap, ◌∙◌, arith}
 use Rattle.std.proofs.Math.Nat.{pow-suc, mul_assoc}
 use lib.Bits.{xor_assoc, xor_comm, xor_self, xor_zero_r, xor_block, xor_lt}
-use Rattle.crc32.specs.Checksums.{polynomial, ones, after_bytes}
-use Rattle.crc32.specs.Division.{generator, number, times, IsRemainder}
+use Rattle.crc32.specs.Checksums.{polynomial, initial_register, after_bytes}
+use Rattle.crc32.specs.Division.{generator, message_number, polynomial_product, IsRemainder}
 use Rattle.crc32.proofs.ZerosLemmas.{step, steps, zeros, step-even}
 use Rattle.crc32.proofs.MessageLemmas.{after_all, after_first, after_nothing}
 
@@ -14,7 +14,7 @@ xor_double a b =
     let q : b * 2 ≡ b * 2 + 0 = omega arith in
     ap (λ (y : ℕ). bit_xor y (b * 2)) p ∙ ap (bit_xor (a * 2 + 0)) q ∙ e ∙ omega arith
 
--- x with its lowest digit d apart
+-- x with its lowest digit d separated
 digits_out : (h d : ℕ) → d < 2 → bit_xor (h * 2 + d) (cond (d == 1) generator 0) ≡ bit_xor h (d * polynomial) * 2
 digits_out h zero k = xor_zero_r (h * 2 + 0) ∙ (let e : bit_xor h 0 ≡ h = xor_zero_r h in omega arith)
 digits_out h (suc zero) k = xor_block 1 h polynomial 1 1 (omega arith) (omega arith) ∙ omega arith
@@ -26,16 +26,16 @@ taken x =
     let e : x ≡ x / 2 * 2 + x % 2 = omega arith in
     ap (λ (y : ℕ). bit_xor y (cond (x % 2 == 1) generator 0)) e ∙ digits_out (x / 2) (x % 2) (omega arith)
 
-steps_divide : (n x : ℕ) → (q : List Bool) × (bit_xor x (times q generator) ≡ steps n x * 2 ^ n)
-unfolding steps times
+steps_divide : (n x : ℕ) → (q : List Bool) × (bit_xor x (polynomial_product q generator) ≡ steps n x * 2 ^ n)
+unfolding steps polynomial_product
 steps_divide zero x = ([], xor_zero_r x ∙ omega arith)
 steps_divide (suc n) x =
-    let rest : (q : List Bool) × (bit_xor (step x) (times q generator) ≡ steps n (step x) * 2 ^ n) = steps_divide n (step x) in
+    let rest : (q : List Bool) × (bit_xor (step x) (polynomial_product q generator) ≡ steps n (step x) * 2 ^ n) = steps_divide n (step x) in
     let q : List Bool = rest.0 in
     let d : ℕ = cond (x % 2 == 1) generator 0 in (
       (x % 2 == 1) ∷ q,
-      sym (xor_assoc x d (times q generator * 2)) ∙ ap (λ (y : ℕ). bit_xor y (times q generator * 2)) (taken x)
-          ∙ xor_double (step x) (times q generator) ∙ ap (λ (y : ℕ). y * 2) rest.1
+      sym (xor_assoc x d (polynomial_product q generator * 2)) ∙ ap (λ (y : ℕ). bit_xor y (polynomial_product q generator * 2)) (taken x)
+          ∙ xor_double (step x) (polynomial_product q generator) ∙ ap (λ (y : ℕ). y * 2) rest.1
           ∙ mul_assoc (steps n (step x)) (2 ^ n) 2 ∙ ap (λ (y : ℕ). steps n (step x) * y) (sym (pow-suc 2 n)),
     )
 
@@ -66,12 +66,12 @@ after_bytes-lt (b ∷ bs) c h k =
     omega arith
 
 -- the register is a remainder
-register_is : (bytes : List ℕ) → ((i : ℕ) → get_or bytes i 0 < 256) → IsRemainder bytes (after_bytes ones bytes)
+register_is : (bytes : List ℕ) → ((i : ℕ) → get_or bytes i 0 < 256) → IsRemainder bytes (after_bytes initial_register bytes)
 register_is bytes h =
     let n : ℕ = length bytes in
-    let x : ℕ = bit_xor ones (number bytes) in
-    let d : (q : List Bool) × (bit_xor x (times q generator) ≡ steps (8 * n) x * 2 ^ (8 * n)) = steps_divide (8 * n) x in
-    (after_bytes-lt bytes ones (omega arith) h, (d.0, d.1 ∙ ap (λ (y : ℕ). y * 2 ^ (8 * n)) (sym (after_all bytes ones h ∙ zeros_steps n x))))
+    let x : ℕ = bit_xor initial_register (message_number bytes) in
+    let d : (q : List Bool) × (bit_xor x (polynomial_product q generator) ≡ steps (8 * n) x * 2 ^ (8 * n)) = steps_divide (8 * n) x in
+    (after_bytes-lt bytes initial_register (omega arith) h, (d.0, d.1 ∙ ap (λ (y : ℕ). y * 2 ^ (8 * n)) (sym (after_all bytes initial_register h ∙ zeros_steps n x))))
 
 -- ---- no other number is a remainder
 
@@ -92,27 +92,27 @@ step_is : (x t : ℕ) → bit_xor (step x) t ≡ bit_xor (bit_xor (x / 2) (x % 2
 unfolding step
 step_is x t = refl
 
--- a multiple of the generator below x^32 is nothing
-times-small : (q : List Bool) → times q generator < 2 ^ 32 → times q generator ≡ 0
-unfolding times
-times-small [] h = refl
-times-small (false ∷ q) h =
-    let t : ℕ = times q generator in
+-- a multiple of the generator below x^32 is zero
+polynomial_product-small : (q : List Bool) → polynomial_product q generator < 2 ^ 32 → polynomial_product q generator ≡ 0
+unfolding polynomial_product
+polynomial_product-small [] h = refl
+polynomial_product-small (false ∷ q) h =
+    let t : ℕ = polynomial_product q generator in
     let e : bit_xor 0 (t * 2) ≡ t * 2 = xor_comm 0 (t * 2) ∙ xor_zero_r (t * 2) in
-    let z : t ≡ 0 = times-small q (omega arith) in
+    let z : t ≡ 0 = polynomial_product-small q (omega arith) in
     omega arith
-times-small (true ∷ q) h =
-    let t : ℕ = times q generator in
+polynomial_product-small (true ∷ q) h =
+    let t : ℕ = polynomial_product q generator in
     let high : ℕ = bit_xor polynomial t in
     let e : bit_xor generator (t * 2 + 0) ≡ high * 2 + 1 = xor_block 1 polynomial t 1 0 (omega arith) (omega arith) in
     let f : bit_xor generator (t * 2) ≡ bit_xor generator (t * 2 + 0) = ap (bit_xor generator) (omega arith) in
     let back : bit_xor polynomial high ≡ t = twice polynomial t in
     let low : bit_xor polynomial high < 2 ^ 32 = xor_lt 32 polynomial high (omega arith) (omega arith) in
-    let z : t ≡ 0 = times-small q (omega arith) in
+    let z : t ≡ 0 = polynomial_product-small q (omega arith) in
     let p : high ≡ polynomial = ap (bit_xor polynomial) z ∙ xor_zero_r polynomial in
     absurd (omega arith)
 
--- what is left of an even number, with its lowest digit apart
+-- the rest of an even number, with its lowest digit separated
 half_of : (h d t r : ℕ) (b : Bool) → d < 2 → bit_xor (bit_xor (h * 2 + d) (cond b generator 0)) (t * 2) ≡ r * 2
     → bit_xor (bit_xor h (d * polynomial)) t ≡ r
 half_of h zero t r false k e =
@@ -134,36 +134,36 @@ half_of h (suc zero) t r true k e =
     omega arith
 half_of h (suc (suc d)) t r b k e = absurd (omega arith)
 
-only_steps : (n x r : ℕ) (q : List Bool) → steps n x < 2 ^ 32 → r < 2 ^ 32 → bit_xor x (times q generator) ≡ r * 2 ^ n → r ≡ steps n x
-unfolding steps times
+only_steps : (n x r : ℕ) (q : List Bool) → steps n x < 2 ^ 32 → r < 2 ^ 32 → bit_xor x (polynomial_product q generator) ≡ r * 2 ^ n → r ≡ steps n x
+unfolding steps polynomial_product
 only_steps zero x r q h k e =
-    let t : ℕ = times q generator in
+    let t : ℕ = polynomial_product q generator in
     let f : bit_xor x t ≡ r = e ∙ omega arith in
     let back : bit_xor x (bit_xor x t) ≡ t = twice x t in
     let low : bit_xor x (bit_xor x t) < 2 ^ 32 = xor_lt 32 x (bit_xor x t) h (omega arith) in
-    let z : t ≡ 0 = times-small q (omega arith) in
+    let z : t ≡ 0 = polynomial_product-small q (omega arith) in
     sym f ∙ ap (bit_xor x) z ∙ xor_zero_r x
 only_steps (suc n) x r [] h k e =
     let f : x ≡ r * 2 ^ n * 2 = sym (xor_zero_r x) ∙ e ∙ doubled r n in
     let s : step x ≡ r * 2 ^ n = ap step f ∙ step-even (r * 2 ^ n) in
     only_steps n (step x) r [] h k (xor_zero_r (step x) ∙ s)
 only_steps (suc n) x r (b ∷ q) h k e =
-    let t : ℕ = times q generator in
+    let t : ℕ = polynomial_product q generator in
     let d : ℕ = cond b generator 0 in
     let parts : x ≡ x / 2 * 2 + x % 2 = omega arith in
     let f : bit_xor (bit_xor (x / 2 * 2 + x % 2) d) (t * 2) ≡ r * 2 ^ n * 2 =
     ap (λ (y : ℕ). bit_xor (bit_xor y d) (t * 2)) (sym parts) ∙ xor_assoc x d (t * 2) ∙ e ∙ doubled r n in
     only_steps n (step x) r q h k (step_is x t ∙ half_of (x / 2) (x % 2) t (r * 2 ^ n) b (omega arith) f)
 
-only_register : (bytes : List ℕ) (remainder : ℕ) → ((i : ℕ) → get_or bytes i 0 < 256) → IsRemainder bytes remainder → remainder ≡ after_bytes ones bytes
+only_register : (bytes : List ℕ) (remainder : ℕ) → ((i : ℕ) → get_or bytes i 0 < 256) → IsRemainder bytes remainder → remainder ≡ after_bytes initial_register bytes
 only_register bytes remainder h is =
     let n : ℕ = length bytes in
-    let x : ℕ = bit_xor ones (number bytes) in
-    let same : after_bytes ones bytes ≡ steps (8 * n) x = after_all bytes ones h ∙ zeros_steps n x in
-    let low : after_bytes ones bytes < 2 ^ 32 = after_bytes-lt bytes ones (omega arith) h in
+    let x : ℕ = bit_xor initial_register (message_number bytes) in
+    let same : after_bytes initial_register bytes ≡ steps (8 * n) x = after_all bytes initial_register h ∙ zeros_steps n x in
+    let low : after_bytes initial_register bytes < 2 ^ 32 = after_bytes-lt bytes initial_register (omega arith) h in
     only_steps (8 * n) x remainder is.1.0 (omega (arith, same)) is.0 is.1.1 ∙ sym same
 
-pub remainder_is_register : (bytes : List ℕ) (remainder : ℕ) → ((i : ℕ) → get_or bytes i 0 < 256) → IsRemainder bytes remainder ↔ (remainder ≡ after_bytes ones bytes)
+pub remainder_is_register : (bytes : List ℕ) (remainder : ℕ) → ((i : ℕ) → get_or bytes i 0 < 256) → IsRemainder bytes remainder ↔ (remainder ≡ after_bytes initial_register bytes)
 remainder_is_register bytes remainder h =
     let P : ℕ → Type 0 = λ r. IsRemainder bytes r in
     (only_register bytes remainder h, λ e. subst P (sym e) (register_is bytes h))

@@ -1,6 +1,6 @@
 pub mod DivisionLemmas
 pub mod MessageLemmas
-pub mod MovesLemmas
+pub mod ShorteningLemmas
 pub mod SparseLemmas
 pub mod TableLemmas
 pub mod ZerosLemmas

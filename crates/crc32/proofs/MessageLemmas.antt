@@ -1,4 +1,4 @@
--- A message passes through the register as one number, which zeros push through.
+-- A message enters the register as one number, which zeros shift through.
 use Rattle.std.proofs.Common.{◌≡◌, ℕ, zero, suc, ◌+◌, ◌-◌, ◌*◌, ◌/◌, ◌%◌, ◌<◌, ◌≤◌, ◌==◌, List, [], ◌∷◌, ◌++◌, bit_xor, fold, flat_map, length, replicate, get_or, take, drop, if◌then◌else◌, refl, sym, subst, ap, ◌∙◌, arith}
 use Rattle.std.proofs.lemmas.List.Sums.{fold-append}
 use Rattle.std.proofs.lemmas.Grind.{flat_map-append}
@@ -8,7 +8,7 @@ use native.Mathlib.Numerals.{add-one}
 use lib.Bits.{xor_assoc, xor_comm, xor_shr, xor_mod, xor_zero_r}
 use Rattle.byteorder.specs.Endian.{little_from, little_number}
 use Rattle.crc32.specs.Checksums.{polynomial, after_bit, byte_bits, after_bytes}
-use Rattle.crc32.specs.Division.{number}
+use Rattle.crc32.specs.Division.{message_number}
 use Rattle.crc32.proofs.ZerosLemmas.{step, steps, zeros, xor_split, step-xor, steps-xor, zeros-xor, step-even, steps-shifted}
 
 -- ---- bits
@@ -22,7 +22,7 @@ both_bits q zero (suc (suc x)) h k = absurd (omega arith)
 both_bits q (suc zero) (suc (suc x)) h k = absurd (omega arith)
 both_bits q (suc (suc d)) x h k = absurd (omega arith)
 
--- a bit of the message goes into the register, and a zero pushes it
+-- a bit of the message is added to the register, and a zero bit shifts it
 after_bit_is : (c x : ℕ) → x < 2 → after_bit c x ≡ step (bit_xor c x)
 unfolding after_bit step
 after_bit_is c x h =
@@ -81,7 +81,7 @@ after_first c b bs h = fold-append after_bit c (byte_bits b) (flat_map byte_bits
 pub after_one : (c b : ℕ) → b < 256 → after_bytes c (b ∷ []) ≡ zeros 1 (bit_xor c b)
 after_one c b h = after_first c b [] h ∙ after_nothing (zeros 1 (bit_xor c b))
 
--- zeros push what stands in the register
+-- zero bytes shift the register
 pub after_zeros : (n x : ℕ) → after_bytes x (replicate n 0) ≡ zeros n x
 unfolding zeros
 after_zeros zero x = after_nothing x
@@ -90,11 +90,11 @@ after_zeros (suc n) x =
     ∙ ap (λ (y : ℕ). zeros n (steps 8 y)) (xor_zero_r x)
 
 -- the whole message at once
-pub after_all : (bs : List ℕ) (c : ℕ) → ((i : ℕ) → get_or bs i 0 < 256) → after_bytes c bs ≡ zeros (length bs) (bit_xor c (number bs))
-unfolding zeros number
+pub after_all : (bs : List ℕ) (c : ℕ) → ((i : ℕ) → get_or bs i 0 < 256) → after_bytes c bs ≡ zeros (length bs) (bit_xor c (message_number bs))
+unfolding zeros message_number
 after_all [] c h = after_nothing c ∙ sym (xor_zero_r c)
 after_all (b ∷ bs) c h =
-    let n : ℕ = number bs in
+    let n : ℕ = message_number bs in
     let k : b < 256 = h 0 in
     after_first c b bs k ∙ after_all bs (steps 8 (bit_xor c b)) (λ i. h (suc i))
     ∙ ap (zeros (length bs))
@@ -108,20 +108,20 @@ later : (n i x : ℕ) (xs : List ℕ) → little_from (suc i) n (x ∷ xs) ≡ l
 later zero i x xs = refl
 later (suc n) i x xs = ap (λ (y : ℕ). get_or xs i 0 + 256 * y) (later n (suc i) x xs)
 
-pub number_is : (n : ℕ) (xs : List ℕ) → n ≤ length xs → little_from 0 n xs ≡ number (take n xs)
-unfolding number
+pub number_is : (n : ℕ) (xs : List ℕ) → n ≤ length xs → little_from 0 n xs ≡ message_number (take n xs)
+unfolding message_number
 number_is zero xs h = refl
 number_is (suc n) [] h = absurd (omega arith)
 number_is (suc n) (x ∷ xs) h =
     let k : n ≤ length xs = omega arith in
-    let e : little_from 1 n (x ∷ xs) ≡ number (take n xs) = later n 0 x xs ∙ number_is n xs k in
+    let e : little_from 1 n (x ∷ xs) ≡ message_number (take n xs) = later n 0 x xs ∙ number_is n xs k in
     omega arith
 
-pub small_front : (n : ℕ) (xs : List ℕ) → ((i : ℕ) → get_or xs i 0 < 256) → (i : ℕ) → get_or (take n xs) i 0 < 256
-small_front zero xs h i = omega arith
-small_front (suc n) [] h i = omega arith
-small_front (suc n) (x ∷ xs) h zero = h 0
-small_front (suc n) (x ∷ xs) h (suc i) = small_front n xs (λ j. h (suc j)) i
+pub small_prefix : (n : ℕ) (xs : List ℕ) → ((i : ℕ) → get_or xs i 0 < 256) → (i : ℕ) → get_or (take n xs) i 0 < 256
+small_prefix zero xs h i = omega arith
+small_prefix (suc n) [] h i = omega arith
+small_prefix (suc n) (x ∷ xs) h zero = h 0
+small_prefix (suc n) (x ∷ xs) h (suc i) = small_prefix n xs (λ j. h (suc j)) i
 
 pub small_rest : (n : ℕ) (xs : List ℕ) → ((i : ℕ) → get_or xs i 0 < 256) → (i : ℕ) → get_or (drop n xs) i 0 < 256
 small_rest n xs h i = let P : ℕ → Type 0 = λ y. y < 256 in subst P (sym (get_or-drop n xs i 0)) (h (n + i))
@@ -130,18 +130,18 @@ small_rest n xs h i = let P : ℕ → Type 0 = λ y. y < 256 in subst P (sym (ge
 pub after_block : (n c : ℕ) (xs : List ℕ) → n ≤ length xs → ((i : ℕ) → get_or xs i 0 < 256)
     → after_bytes c xs ≡ after_bytes (zeros n (bit_xor c (little_number n xs))) (drop n xs)
 after_block n c xs h k =
-    let front : List ℕ = take n xs in
-    let l : length front ≡ n = omega (arith, length-take n xs) in
-    let small : (i : ℕ) → get_or front i 0 < 256 = small_front n xs k in
-    ap (after_bytes c) (sym (take-append-drop n xs)) ∙ after_more c front (drop n xs)
-    ∙ ap (λ (y : ℕ). after_bytes y (drop n xs)) (after_all front c small ∙ ap (λ (m : ℕ). zeros m (bit_xor c (number front))) l
+    let prefix : List ℕ = take n xs in
+    let l : length prefix ≡ n = omega (arith, length-take n xs) in
+    let small : (i : ℕ) → get_or prefix i 0 < 256 = small_prefix n xs k in
+    ap (after_bytes c) (sym (take-append-drop n xs)) ∙ after_more c prefix (drop n xs)
+    ∙ ap (λ (y : ℕ). after_bytes y (drop n xs)) (after_all prefix c small ∙ ap (λ (m : ℕ). zeros m (bit_xor c (message_number prefix))) l
     ∙ ap (λ (y : ℕ). zeros n (bit_xor c y)) (sym (number_is n xs h)))
 
 first_last : (x b c d : ℕ) → bit_xor (bit_xor (bit_xor x b) c) d ≡ bit_xor (bit_xor (bit_xor b c) d) x
 first_last x b c d =
     ap (λ (y : ℕ). bit_xor y d) (xor_assoc x b c) ∙ xor_assoc x (bit_xor b c) d ∙ xor_comm x (bit_xor (bit_xor b c) d)
 
--- words one after the other, taken apart: what each leaves in the register at the end
+-- words in sequence, separated: what each leaves in the register at the end
 two_words : (x b : ℕ) → zeros 4 (bit_xor (zeros 4 x) b) ≡ bit_xor (zeros 8 x) (zeros 4 b)
 unfolding zeros
 two_words x b = zeros-xor 4 (zeros 4 x) b
@@ -162,7 +162,7 @@ four_words x b c d =
     ∙ ap (λ (y : ℕ). bit_xor y (zeros 8 c)) (zeros-xor 4 (zeros 12 x) (zeros 8 b)))
     ∙ first_last (zeros 16 x) (zeros 12 b) (zeros 8 c) (zeros 4 d)
 
--- ---- turns of the loops
+-- ---- the iterations of the loops
 
 pub one_more : (xs : List ℕ) (i c : ℕ) → i < length xs
     → after_bytes c (drop i xs) ≡ after_bytes (after_bytes c (get_or xs i 0 ∷ [])) (drop (i + 1) xs)
@@ -183,7 +183,7 @@ word_more xs i j c word h k e f =
     ∙ ap (λ (y : ℕ). after_bytes (zeros 4 (bit_xor c y)) (drop 4 rest)) same
     ∙ ap (after_bytes (zeros 4 (bit_xor c word))) (drop-drop 4 i xs ∙ ap (λ (y : ℕ). drop y xs) e)
 
--- a word is read, and what it leaves is looked up
+-- a word is read, and its contribution is looked up
 pub four_more : (xs : List ℕ) (i c word a : ℕ) → 4 ≤ length xs - i → ((i : ℕ) → get_or xs i 0 < 256)
     → word ≡ little_number 4 (take (length xs - i) (drop i xs)) → a ≡ after_bytes (bit_xor word c) (replicate 4 0)
     → after_bytes a (drop (i + 4) xs) ≡ after_bytes c (drop i xs)
@@ -191,7 +191,7 @@ four_more xs i c word a h k e l =
     ap (λ (y : ℕ). after_bytes y (drop (i + 4) xs)) (l ∙ after_zeros 4 (bit_xor word c) ∙ ap (zeros 4) (xor_comm word c))
     ∙ sym (word_more xs i (i + 4) c word (omega arith) k refl e)
 
--- four words are read, and what each leaves is looked up apart
+-- four words are read, and the contribution of each is looked up separately
 pub sixteen_more : (xs : List ℕ) (i c first second third fourth a b d e : ℕ) → 16 ≤ length xs - i → ((i : ℕ) → get_or xs i 0 < 256)
     → first ≡ little_number 4 (take (length xs - i) (drop i xs))
     → second ≡ little_number 4 (take (length xs - (i + 4)) (drop (i + 4) xs))

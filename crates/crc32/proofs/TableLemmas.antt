@@ -1,4 +1,4 @@
--- What is looked up in the tables.
+-- The entries of the tables.
 use Rattle.std.proofs.Common.{◌≡◌, ℕ, suc, ◌+◌, ◌/◌, ◌%◌, ◌^◌, ◌<◌, ◌≤◌, List, [], map, bit_and, bit_xor, get_or, refl, sym, ap, ◌∙◌, arith}
 use Rattle.std.proofs.lemmas.List.FromFn.{get_or-map-range_with_len}
 use Rattle.std.proofs.lemmas.Nat.{shr-shr, and_mask}
@@ -34,7 +34,7 @@ byte_passed c b h =
     ∙ ap (bit_xor (zeros 1 (x % 256))) (xor_shr c b 8 ∙ ap (bit_xor (c / 2 ^ 8)) none ∙ xor_zero_r (c / 2 ^ 8))
     ∙ ap (λ (y : ℕ). bit_xor y (c / 2 ^ 8)) (sym (looked_up 0 x (omega arith))))
 
--- the byte of w from bit j on is looked up, and the higher ones are left
+-- the byte of w from bit j on is looked up, and the higher bytes are left
 peel : (k m j i w : ℕ) → k < 16 → suc k ≡ m → j + 8 ≡ i
     → zeros m (w / 2 ^ j) ≡ bit_xor (get_or (get_or TABLES k []) (bit_and (w / 2 ^ j) 255) 0) (zeros k (w / 2 ^ i))
 peel k m j i w h more e =
@@ -42,18 +42,18 @@ peel k m j i w h more e =
     ∙ ap (λ (y : ℕ). bit_xor (zeros (suc k) (w / 2 ^ j % 256)) (zeros k y)) (shr-shr w j 8 ∙ ap (λ (n : ℕ). w / 2 ^ n) e)
     ∙ ap (λ (y : ℕ). bit_xor y (zeros k (w / 2 ^ i))) (sym (looked_up k (w / 2 ^ j) h))
 
--- four look-ups one after the other, taken in pairs
+-- four look-ups in sequence, combined in pairs
 in_pairs : (a b c d z1 z2 z3 z4 z : ℕ) → z ≡ bit_xor a z1 → z1 ≡ bit_xor b z2 → z2 ≡ bit_xor c z3 → z3 ≡ bit_xor d z4 → z4 ≡ 0
     → bit_xor (bit_xor a b) (bit_xor c d) ≡ z
 in_pairs a b c d z1 z2 z3 z4 z e0 e1 e2 e3 end =
     sym (e0 ∙ ap (bit_xor a) (e1 ∙ ap (bit_xor b) (e2 ∙ ap (bit_xor c) (e3 ∙ ap (bit_xor d) end ∙ xor_zero_r d)))
     ∙ sym (xor_assoc a b (bit_xor c d)))
 
--- what is looked up for the byte of w from bit j on
+-- the entry for the byte of w from bit j on
 abbrev entry : ℕ → ℕ → ℕ → ℕ
 entry k w j = get_or (get_or TABLES k []) (bit_and (w / 2 ^ j) 255) 0
 
--- the four bytes of a word, with k zeros behind them
+-- the four bytes of a word, with k zeros after them
 pub word_passed : (k w : ℕ) → k ≤ 12 → w < 2 ^ 32
     → bit_xor (bit_xor (get_or (get_or TABLES (k + 3) []) (bit_and w 255) 0) (entry (k + 2) w 8)) (bit_xor (entry (k + 1) w 16) (entry k w 24)) ≡ zeros (k + 4) w
 word_passed k w h l =

@@ -1,4 +1,4 @@
--- Zeros that pass through the register: what they leave is linear over exclusive-or.
+-- Zeros that shift through the register: the result is linear over exclusive-or.
 use Rattle.std.proofs.Common.{◌≡◌, ℕ, zero, suc, ◌+◌, ◌*◌, ◌/◌, ◌%◌, ◌^◌, ◌<◌, bit_xor, refl, sym, ap, ◌∙◌, arith}
 use lib.Bits.{xor_assoc, xor_comm, xor_shr, xor_mod, xor_zero_r, xor_block}
 use Rattle.std.proofs.lemmas.Nat.{pow_pos}
@@ -21,14 +21,14 @@ zeros (suc n) x = zeros n (steps 8 x)
 
 -- ---- exclusive-or
 
--- the two in the middle change places
+-- the two in the middle are swapped
 pub xor_swap : (p q r s : ℕ) → bit_xor (bit_xor p q) (bit_xor r s) ≡ bit_xor (bit_xor p r) (bit_xor q s)
 xor_swap p q r s =
     xor_assoc p q (bit_xor r s)
     ∙ ap (bit_xor p) (sym (xor_assoc q r s) ∙ ap (λ (x : ℕ). bit_xor x s) (xor_comm q r) ∙ xor_assoc r q s)
     ∙ sym (xor_assoc p r (bit_xor q s))
 
--- a number is its low digits and its high ones
+-- a number is its low digits plus its high ones
 pub xor_split : (k a r : ℕ) → r < 2 ^ k → bit_xor r (a * 2 ^ k) ≡ r + a * 2 ^ k
 xor_split k a r h =
     let b : bit_xor (0 * 2 ^ k + r) (a * 2 ^ k + 0) ≡ a * 2 ^ k + bit_xor r 0 = xor_block k 0 a r 0 h (pow_pos k) in
@@ -68,7 +68,7 @@ step-even a =
     let l : a * 2 % 2 ≡ 0 = omega arith in
     rw (h, l) (xor_zero_r a)
 
--- low zeros only move the register down
+-- low zeros only shift the register
 pub steps-shifted : (n a : ℕ) → steps n (a * 2 ^ n) ≡ a
 unfolding steps
 steps-shifted zero a = omega arith
@@ -86,7 +86,7 @@ unfolding zeros
 zeros-zero zero = refl
 zeros-zero (suc n) = ap (zeros n) (steps-zero 8) ∙ zeros-zero n
 
--- the lowest byte apart from the others
+-- the lowest byte separated from the others
 pub zeros-peel : (n x : ℕ) → zeros (suc n) x ≡ bit_xor (zeros (suc n) (x % 256)) (zeros n (x / 256))
 unfolding zeros
 zeros-peel n x =

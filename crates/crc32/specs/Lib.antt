@@ -1,3 +1,3 @@
 pub mod Checksums
 pub mod Division
-pub mod Moves
+pub mod Shortening

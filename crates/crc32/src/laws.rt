@@ -1,12 +1,12 @@
 //! Laws of the checksum, and worked values. Each is a function that does nothing, whose contract is the law.
 
 ghost use Rattle.std.specs.Prelude.{◌≡◌, ◌<◌, ◌*◌, ◌^◌, ◌-◌, ◌↔◌, ◌∷◌, [], ℕ, List, codes, map, sum, slice_index};
-ghost use Rattle.crc32.specs.Checksums.{ones, after_bytes, crc32_of};
+ghost use Rattle.crc32.specs.Checksums.{initial_register, after_bytes, crc32_of};
 ghost use Rattle.crc32.specs.Division.{IsRemainder, generator};
 
-/// The register behind the last byte is the remainder of the division, and nothing else is.
+/// The register after the last byte is the remainder of the division, and no other number is.
 pub fn registers_are_remainders()
-    ensures { (bytes : List ℕ) (remainder : ℕ) → ((i : ℕ) → slice_index bytes i < 256) → IsRemainder bytes remainder ↔ (remainder ≡ after_bytes ones bytes) }
+    ensures { (bytes : List ℕ) (remainder : ℕ) → ((i : ℕ) → slice_index bytes i < 256) → IsRemainder bytes remainder ↔ (remainder ≡ after_bytes initial_register bytes) }
 {}
 
 /// The generator is the sum of the powers of x that the standard lists.

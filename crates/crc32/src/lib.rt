@@ -1,26 +1,27 @@
-//! CRC-32, with which servers checksum the events of a binary log: the one of zlib and IEEE 802.3.
+//! CRC-32 of zlib and IEEE 802.3, with which MySQL checksums the events of a binary log.
 //!
-//! `crc32` takes sixteen bytes at a time by the sixteen tables of `tables`, and of a long message only the last ones, to
-//! which all others are added first (`moves`). It is proved equal to the definition bit by bit (`Checksums`), and that to
-//! the remainder of a division of polynomials (`Division`). `laws` has that law, and worked values.
+//! `crc32` reads sixteen bytes at a time with the sixteen tables of `tables`. A long message is first reduced
+//! to its last bytes, to which all others are added (`shorten`). The function is proved equal to the bit-by-bit
+//! definition (`Checksums`), and that definition to the remainder of a division of polynomials (`Division`).
+//! `laws` states that law, and worked values.
 #![tactic(auto)]
 
 ghost use Rattle.std.specs.Prelude.{◌≡◌};
 ghost use Rattle.crc32.specs.Checksums.{crc32_of};
 
 pub mod laws;
-mod moves;
 mod register;
+mod shorten;
 mod tables;
 
-use moves::register_after_long;
 use register::{ONES, register_after};
+use shorten::register_after_long;
 
-/// From this length on it is faster to make a message shorter first.
+/// From this length on it is faster to shorten a message first.
 const LONG: usize = 576;
 
-/// The CRC-32 of bytes. Of an event a server takes all bytes in front of the checksum, without the flag that says that
-/// the log is in use.
+/// Returns the CRC-32 of the bytes. A server checksums all bytes of an event before the checksum, with the
+/// flag `LOG_EVENT_BINLOG_IN_USE_F` cleared.
 pub fn crc32(bytes: &[u8]) -> u32
     ensures { result ≡ crc32_of bytes.now }
 {

@@ -1,4 +1,4 @@
-//! The tables: entry `i` of table `k` is the register `i` after `k + 1` bytes that are zeros.
+//! The tables: entry `i` of table `k` is the register that the register `i` becomes after `k + 1` zero bytes.
 
 pub(crate) static TABLES: [[u32; 256]; 16] = [
     [

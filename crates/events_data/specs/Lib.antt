@@ -1,3 +1,3 @@
-pub mod BodyForms
+pub mod BodyFormats
 pub mod DataReadings
-pub mod DataSpellings
+pub mod DataEncodings

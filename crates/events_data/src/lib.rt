@@ -1,10 +1,10 @@
-//! The bodies of events of any type: each is read in the form that its type has.
+//! Event bodies of any type: each is read in the format of its type.
 //!
-//! The forms are in `specs/BodyForms.antt`, and what is read in each in `specs/DataReadings.antt`.
+//! `specs/BodyFormats.antt` lists the formats, and `specs/DataReadings.antt` defines the result of reading each.
 #![tactic(auto)]
 
-mod body_form;
+mod body_format;
 mod event_data;
 
-pub use body_form::BodyForm;
+pub use body_format::BodyFormat;
 pub use event_data::EventData;

@@ -1,4 +1,4 @@
-pub mod StampLemmas
+pub mod AnnouncedPairLemmas
 pub mod ClockLemmas
 pub mod OptionalLemmas
 pub mod GtidLemmas

@@ -1,8 +1,9 @@
-//! GTID events: which transaction begins behind the event, by the uuid of its source and its number there.
+//! GTID events: the GTID of the transaction that follows, which is the uuid of its source and its number there. MySQL Internals:
+//! Gtid_event.
 //!
-//! A body is a row of pieces, of which those behind the number are optional (`specs/Gtids.antt`). It is read and
-//! written by that one relation. What the code's events say is in `specs/GtidViews.antt`, and what a setter does
-//! with absent fields in `specs/GtidSetters.antt`.
+//! A body is a sequence of fields, and those after the number are optional (`specs/Gtids.antt`); one definition covers reading
+//! and writing. `specs/GtidViews.antt` gives the contents of the crate's events, and `specs/GtidSetters.antt` the effect of a
+//! setter on absent fields.
 #![tactic(auto)]
 
 mod anonymous_gtid_event;

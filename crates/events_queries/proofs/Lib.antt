@@ -1,6 +1,6 @@
 pub mod QueryLemmas
 pub mod LoadQueryLemmas
-pub mod FrontLemmas
+pub mod PrefixLemmas
 pub mod StatusVarLemmas
 pub mod FieldLemmas
 pub mod StatusVarEquality

@@ -2,6 +2,6 @@ pub mod Queries
 pub mod LoadQueries
 pub mod QueryViews
 pub mod StatusVars
-pub mod StatusVarFronts
+pub mod StatusVarsComputed
 pub mod DbNames
 pub mod StatusVarViews

@@ -1,16 +1,15 @@
-//! The bodies of events that hold statements: QUERY_EVENT and EXECUTE_LOAD_QUERY_EVENT, and the status variables
-//! of both.
+//! The bodies of events with statements: QUERY_EVENT and EXECUTE_LOAD_QUERY_EVENT, and the status variables of both.
 //!
-//! A body is a row of pieces (`specs/Queries.antt`, `specs/LoadQueries.antt`), which is read and written by that one
-//! relation. What the code's events say is in `specs/QueryViews.antt`. Status variables are defined in
-//! `specs/StatusVars.antt`, by a table of their keys.
+//! A body is a sequence of fields (`specs/Queries.antt`, `specs/LoadQueries.antt`); one definition covers reading and writing.
+//! `specs/QueryViews.antt` gives the contents of the crate's events. `specs/StatusVars.antt` defines status variables by a table
+//! of their keys.
 #![tactic(auto)]
 
 mod execute_load_query_event;
 mod fields;
-mod fronts;
 pub mod laws;
 mod query_event;
+mod skip_values;
 mod status_var;
 mod status_var_val;
 mod status_vars;

@@ -1,4 +1,4 @@
--- What `==` tells of rows events by their types.
+-- What `==` means for rows events by type.
 use Rattle.std.proofs.Common.{◌≡◌, ◌∙◌, true, false, true≢false, refl, sym, ap}
 use Rattle.std.specs.Prelude.{◌&&◌}
 use Rattle.std.specs.Bool.{Decides}
@@ -19,7 +19,7 @@ use Rattle.events_rows.specs.RowsViews.{rows_of, data_of}
 pub same_kind_decides : {K : Type 0} {kind : Ghosts K} (a b : RowsEventOf K kind) → Decides (event_equality.eq a.event b.event && true) (rows_of a ≡ rows_of b)
 same_kind_decides a b = Decides-like _ (λ w. w.0) (λ e. (e, tt)) (Decides-and _ _ (events_decide a.event b.event) true_decides)
 
--- events of two kinds say different things
+-- events of two kinds have different contents
 two_kinds_decide : {K L : Type 0} {kind : Ghosts K} {other : Ghosts L} (a : RowsEventOf K kind) (b : RowsEventOf L other) → sameb rows_type kind.ROWS_TYPE other.ROWS_TYPE ≡ false
     → Decides false (rows_of a ≡ rows_of b)
 two_kinds_decide a b differ =

@@ -1,4 +1,4 @@
--- What the code's rows events of a kind say.
+-- The specification's values for the crate's rows events of one type.
 use Rattle.rows_events.specs.RowsEvents.{RowsBody}
 use Rattle.rows_events.specs.Views.{body_of}
 use Rattle.events_rows.specs.declared.kinds.RowsKind.{Ghosts}
@@ -9,7 +9,7 @@ use Rattle.events_rows.specs.declared.rows_event_data.RowsEventData.TheVariants.
 abbrev pub rows_of : {K : Type 0} {kind : Ghosts K} → RowsEventOf K kind → RowsBody
 rows_of e = body_of e.event
 
--- what an event of any type says
+-- the contents of an event of any type
 abbrev pub data_of : RowsEventData → RowsBody
 data_of (WriteRowsEventV1 e) = rows_of e
 data_of (UpdateRowsEventV1 e) = rows_of e

@@ -1,7 +1,7 @@
-//! Rows events by their types: for each type of rows event a body that is of no other type.
+//! Rows events by type: for each type of rows event a body that has only this type.
 //!
-//! What a rows event says, and its bytes, are those of the crate `rows_events`. Here a description says the post-header
-//! lengths by which it is read (`specs/RowsContexts.antt`).
+//! The contents and the bytes of rows events are those of the crate `rows_events`. Here a format description gives the
+//! post-header lengths for reading them (`specs/RowsContexts.antt`).
 #![tactic(auto)]
 
 mod kinds;

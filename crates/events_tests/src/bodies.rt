@@ -1,6 +1,7 @@
-//! The plain bodies of events: read, made and written.
+//! Event bodies with a fixed layout: reading, creating and writing them.
 
-use crate::written::{is_short, is_written, refusal};
+use crate::samples::{BEGIN_LOAD, INCIDENT, INTVAR, RAND, ROTATE, XID};
+use crate::written::{is_read, is_short, is_text, is_written, read_error};
 use events_bodies::{
     BeginLoadQueryEvent, IncidentEvent, IntvarEvent, RandEvent, RotateEvent, RowsQueryEvent,
     XidEvent,
@@ -10,57 +11,22 @@ use rows_consts::{IncidentType, IntvarEventType, UnknownIncidentType, UnknownInt
 use std::alloc::Global;
 use std::borrow::CowSlice;
 
-/// The log goes on in the file `mysql-bin.000002`, at its first event.
-pub(crate) const ROTATE: &[u8] = b"\x04\0\0\0\0\0\0\0mysql-bin.000002";
-
-/// The commit of the transaction 1234.
-pub(crate) const XID: &[u8] = b"\xd2\x04\0\0\0\0\0\0";
-
-/// The seeds 1032 and 0x04_030201.
-pub(crate) const RAND: &[u8] = b"\x08\x04\0\0\0\0\0\0\x01\x02\x03\x04\0\0\0\0";
-
-/// The next number of `AUTO_INCREMENT` is 300.
-pub(crate) const INTVAR: &[u8] = b"\x02\x2c\x01\0\0\0\0\0\0";
-
-/// The first block of the file 7.
-pub(crate) const BEGIN_LOAD: &[u8] = b"\x07\0\0\x01a,1\nb,2\n";
-
-/// Events were lost.
-pub(crate) const INCIDENT: &[u8] = b"\x01\0\x0cgap \xff in log";
-
-/// A statement behind the byte that means nothing.
+/// A statement after the ignored byte.
 const ROWS_QUERY: &[u8] = b"\x05insert into t values (1)";
 
-/// Whether the bytes are read as this rotation, which is written as they are.
-fn is_rotate(alloc: Global, position: u64, name: &[u8], bytes: &[u8]) -> bool {
-    match read_body::<RotateEvent<'_>>(alloc, (), bytes) {
-        Ok(read) => {
-            read.position() == position
-                && read.name_raw() == name
-                && read.is_fake() == (position == 0)
-                && read.len() == bytes.len()
-                && is_written(alloc, &read, bytes)
-        }
-        Err(_) => false,
-    }
-}
-
-/// Whether setters and `into_owned` make a rotation that is written as the bytes.
+/// Whether setters create a rotate event with its fields, which is read from its bytes when it is owned. A name that isn't UTF-8
+/// is converted to text with replacement characters.
 fn makes_rotate(alloc: Global) -> bool {
-    let made = RotateEvent::new(0, CowSlice::Borrowed(b"a"))
+    let created = RotateEvent::new(0, CowSlice::Borrowed(b"a"))
         .with_position(4)
-        .with_name(CowSlice::Borrowed(b"mysql-bin.000002"));
-    match made.into_owned(alloc) {
-        Ok(owned) => read_body(alloc, (), ROTATE) == Ok(owned),
-        Err(_) => false,
-    }
-}
-
-/// Whether a name that isn't UTF-8 is text with replacement characters.
-fn replaces_in_name(alloc: Global) -> bool {
-    let event = RotateEvent::new(4, CowSlice::Borrowed(b"bin\xff1"));
-    match event.name(alloc) {
-        Ok(name) => name.as_ref() == "bin\u{fffd}1",
+        .with_name(CowSlice::Borrowed(b"bin\xff1"));
+    let has_fields = created.position() == 4
+        && created.name_raw() == b"bin\xff1".as_slice()
+        && !created.is_fake()
+        && created.len() == 13
+        && is_text(created.name(alloc), "bin\u{fffd}1");
+    match created.into_owned(alloc) {
+        Ok(owned) => has_fields && is_read(alloc, owned, b"\x04\0\0\0\0\0\0\0bin\xff1"),
         Err(_) => false,
     }
 }
@@ -69,79 +35,67 @@ fn replaces_in_name(alloc: Global) -> bool {
 fn rotate_body(rt: HostRuntime) {
     let alloc = rt.alloc();
     assert!(rt;
-        is_rotate(alloc, 4, b"mysql-bin.000002", ROTATE)
-            && is_rotate(alloc, 0, b"", &[0; 8])
+        RotateEvent::new(0, CowSlice::Borrowed(b"")).is_fake()
+            && is_read(alloc, RotateEvent::new(0, CowSlice::Borrowed(b"")), &[0; 8])
+            && is_read(
+                alloc,
+                RotateEvent::new(4, CowSlice::Borrowed(b"mysql-bin.000002")),
+                ROTATE,
+            )
             && makes_rotate(alloc)
-            && replaces_in_name(alloc)
             && is_short::<RotateEvent<'_>>(alloc, &ROTATE[..7])
     );
 }
 
-/// Whether the bytes are read as this commit, which is written as they are.
-fn is_xid(alloc: Global, xid: u64, bytes: &[u8]) -> bool {
-    match read_body::<XidEvent>(alloc, (), bytes) {
-        Ok(read) => {
-            read == XidEvent::new(0).with_xid(xid)
-                && read.xid() == xid
-                && read.len() == 8
-                && is_written(alloc, &read, bytes)
-        }
-        Err(_) => false,
-    }
+/// Whether the commit has this number.
+fn is_xid(commit: &XidEvent, xid: u64) -> bool {
+    commit.xid() == xid && commit.len() == 8
 }
 
 #[test]
 fn xid_body(rt: HostRuntime) {
     let alloc = rt.alloc();
     assert!(rt;
-        is_xid(alloc, 1234, XID)
-            && is_xid(alloc, u64::MAX, &[255; 8])
+        is_xid(&XidEvent::new(0).with_xid(1234), 1234)
+            && is_read(alloc, XidEvent::new(0).with_xid(1234), XID)
+            && is_read(alloc, XidEvent::new(u64::MAX), &[255; 8])
             && is_short::<XidEvent>(alloc, &XID[..7])
-            && refusal::<XidEvent>(alloc, b"\xd2\x04\0\0\0\0\0\0\0")
+            && read_error::<XidEvent>(alloc, b"\xd2\x04\0\0\0\0\0\0\0")
                 == Some(EventError::RemainingBytes)
     );
 }
 
-/// Whether the bytes are read as these seeds, which are written as they are.
-fn is_rand(alloc: Global, seed1: u64, seed2: u64, bytes: &[u8]) -> bool {
-    match read_body::<RandEvent>(alloc, (), bytes) {
-        Ok(read) => {
-            read == RandEvent::new(seed1, 0).with_seed2(seed2)
-                && read == RandEvent::new(0, seed2).with_seed1(seed1)
-                && read.seed1() == seed1
-                && read.seed2() == seed2
-                && read.len() == 16
-                && is_written(alloc, &read, bytes)
-        }
-        Err(_) => false,
-    }
+/// Whether the seeds are these.
+fn is_rand(seeds: &RandEvent, seed1: u64, seed2: u64) -> bool {
+    seeds.seed1() == seed1 && seeds.seed2() == seed2 && seeds.len() == 16
 }
 
 #[test]
 fn rand_body(rt: HostRuntime) {
     let alloc = rt.alloc();
     assert!(rt;
-        is_rand(alloc, 0x408, 0x04_030201, RAND)
+        is_rand(&RandEvent::new(0x408, 0x04_030201), 0x408, 0x04_030201)
+            && is_read(
+                alloc,
+                RandEvent::new(0x408, 0).with_seed2(0x04_030201),
+                RAND
+            )
+            && is_read(
+                alloc,
+                RandEvent::new(0, 0x04_030201).with_seed1(0x408),
+                RAND
+            )
             && is_short::<RandEvent>(alloc, &RAND[..15])
-            && refusal::<RandEvent>(alloc, &[0; 17]) == Some(EventError::RemainingBytes)
+            && read_error::<RandEvent>(alloc, &[0; 17]) == Some(EventError::RemainingBytes)
     );
 }
 
-/// Whether the bytes are read as this number for the next statement, which is written as they are.
-fn is_intvar(alloc: Global, subtype: IntvarEventType, value: u64, bytes: &[u8]) -> bool {
-    match read_body::<IntvarEvent>(alloc, (), bytes) {
-        Ok(read) => {
-            read == IntvarEvent::new(subtype, 0).with_value(value)
-                && read.subtype() == Ok(subtype)
-                && read.value() == value
-                && read.len() == 9
-                && is_written(alloc, &read, bytes)
-        }
-        Err(_) => false,
-    }
+/// Whether the variable has this type and this value.
+fn is_intvar(variable: &IntvarEvent, subtype: IntvarEventType, value: u64) -> bool {
+    variable.subtype() == Ok(subtype) && variable.value() == value && variable.len() == 9
 }
 
-/// Whether a number of an unknown kind is kept.
+/// Whether the number of an unknown variable is kept.
 fn keeps_unknown_intvar(alloc: Global) -> bool {
     let bytes = b"\x03\x2c\x01\0\0\0\0\0\0";
     match read_body::<IntvarEvent>(alloc, (), bytes) {
@@ -149,9 +103,9 @@ fn keeps_unknown_intvar(alloc: Global) -> bool {
             read.subtype() == Err(UnknownIntvarEventType(3))
                 && read.subtype_raw() == 3
                 && is_written(alloc, &read, bytes)
-                && is_written(
+                && is_read(
                     alloc,
-                    &read.with_subtype(IntvarEventType::INSERT_ID_EVENT),
+                    read.with_subtype(IntvarEventType::INSERT_ID_EVENT),
                     INTVAR,
                 )
         }
@@ -162,40 +116,31 @@ fn keeps_unknown_intvar(alloc: Global) -> bool {
 #[test]
 fn intvar_body(rt: HostRuntime) {
     let alloc = rt.alloc();
+    let (insert, last) = (
+        IntvarEventType::INSERT_ID_EVENT,
+        IntvarEventType::LAST_INSERT_ID_EVENT,
+    );
     assert!(rt;
-        is_intvar(alloc, IntvarEventType::INSERT_ID_EVENT, 300, INTVAR)
-            && is_intvar(
-                alloc,
-                IntvarEventType::LAST_INSERT_ID_EVENT,
-                5,
-                b"\x01\x05\0\0\0\0\0\0\0"
-            )
+        is_intvar(&IntvarEvent::new(insert, 0).with_value(300), insert, 300)
+            && is_read(alloc, IntvarEvent::new(insert, 0).with_value(300), INTVAR)
+            && is_intvar(&IntvarEvent::new(last, 5), last, 5)
+            && is_read(alloc, IntvarEvent::new(last, 5), b"\x01\x05\0\0\0\0\0\0\0")
             && keeps_unknown_intvar(alloc)
             && is_short::<IntvarEvent>(alloc, &INTVAR[..8])
-            && refusal::<IntvarEvent>(alloc, &[2; 10]) == Some(EventError::RemainingBytes)
+            && read_error::<IntvarEvent>(alloc, &[2; 10]) == Some(EventError::RemainingBytes)
     );
 }
 
-/// Whether the bytes are read as this block of a file, which is written as they are.
-fn is_block(alloc: Global, file_id: u32, block: &[u8], bytes: &[u8]) -> bool {
-    match read_body::<BeginLoadQueryEvent<'_>>(alloc, (), bytes) {
-        Ok(read) => {
-            read.file_id() == file_id
-                && read.block_data() == block
-                && read.len() == bytes.len()
-                && is_written(alloc, &read, bytes)
-        }
-        Err(_) => false,
-    }
-}
-
-/// Whether setters and `into_owned` make the block of the file that the bytes are.
+/// Whether setters create the block of a file with its fields, which is read from its bytes when it is owned.
 fn makes_block(alloc: Global) -> bool {
-    let made = BeginLoadQueryEvent::new(1, CowSlice::Borrowed(b""))
+    let created = BeginLoadQueryEvent::new(1, CowSlice::Borrowed(b""))
         .with_file_id(0x0100_0007)
         .with_block_data(CowSlice::Borrowed(b"a,1\nb,2\n"));
-    match made.into_owned(alloc) {
-        Ok(owned) => read_body(alloc, (), BEGIN_LOAD) == Ok(owned),
+    let has_fields = created.file_id() == 0x0100_0007
+        && created.block_data() == b"a,1\nb,2\n".as_slice()
+        && created.len() == BEGIN_LOAD.len();
+    match created.into_owned(alloc) {
+        Ok(owned) => has_fields && is_read(alloc, owned, BEGIN_LOAD),
         Err(_) => false,
     }
 }
@@ -203,47 +148,41 @@ fn makes_block(alloc: Global) -> bool {
 #[test]
 fn begin_load_query_body(rt: HostRuntime) {
     let alloc = rt.alloc();
+    let empty = BeginLoadQueryEvent::new(2, CowSlice::Borrowed(b""));
     assert!(rt;
-        is_block(alloc, 0x0100_0007, b"a,1\nb,2\n", BEGIN_LOAD)
-            && is_block(alloc, 2, b"", b"\x02\0\0\0")
+        is_read(alloc, empty, b"\x02\0\0\0")
             && makes_block(alloc)
             && is_short::<BeginLoadQueryEvent<'_>>(alloc, &BEGIN_LOAD[..3])
     );
 }
 
-/// Whether the bytes are read as this incident, which is written as they are.
-fn is_incident(alloc: Global, number: u16, message: &[u8], bytes: &[u8]) -> bool {
-    match read_body::<IncidentEvent<'_>>(alloc, (), bytes) {
-        Ok(read) => {
-            read.incident_type_raw() == number
-                && read.message_raw() == message
-                && read.len() == bytes.len()
-                && is_written(alloc, &read, bytes)
-        }
+/// Whether setters create the incident with its fields, whose message is text, and which is read from its bytes when it is owned.
+fn makes_incident(alloc: Global) -> bool {
+    let created = IncidentEvent::new(IncidentType::INCIDENT_NONE, CowSlice::Borrowed(b""))
+        .with_incident_type(IncidentType::INCIDENT_LOST_EVENTS)
+        .with_message(CowSlice::Borrowed(b"gap \xff in log"));
+    let has_fields = created.incident_type() == Ok(IncidentType::INCIDENT_LOST_EVENTS)
+        && created.incident_type_raw() == 1
+        && created.message_raw() == b"gap \xff in log".as_slice()
+        && created.len() == INCIDENT.len()
+        && is_text(created.message(alloc), "gap \u{fffd} in log");
+    match created.into_owned(alloc) {
+        Ok(owned) => has_fields && is_read(alloc, owned, INCIDENT),
         Err(_) => false,
     }
 }
 
-/// Whether setters and `into_owned` make the incident that the bytes are, and its message is text.
-fn makes_incident(alloc: Global) -> bool {
-    let made = IncidentEvent::new(IncidentType::INCIDENT_NONE, CowSlice::Borrowed(b""))
-        .with_incident_type(IncidentType::INCIDENT_LOST_EVENTS)
-        .with_message(CowSlice::Borrowed(b"gap \xff in log"));
-    let Ok(owned) = made.into_owned(alloc) else {
-        return false;
-    };
-    let is_text = match owned.message(alloc) {
-        Ok(message) => message.as_ref() == "gap \u{fffd} in log",
-        Err(_) => false,
-    };
-    is_text && read_body(alloc, (), INCIDENT) == Ok(owned)
-}
-
-/// What type of incident the bytes name.
-fn incident_type(alloc: Global, bytes: &[u8]) -> Option<Result<IncidentType, UnknownIncidentType>> {
+/// Whether the number of an unknown type of incident is kept.
+fn keeps_unknown_incident(alloc: Global) -> bool {
+    let bytes = b"\x02\x02\0";
     match read_body::<IncidentEvent<'_>>(alloc, (), bytes) {
-        Ok(read) => Some(read.incident_type()),
-        Err(_) => None,
+        Ok(read) => {
+            read.incident_type() == Err(UnknownIncidentType(514))
+                && read.incident_type_raw() == 514
+                && read.message_raw().is_empty()
+                && is_written(alloc, &read, bytes)
+        }
+        Err(_) => false,
     }
 }
 
@@ -251,26 +190,33 @@ fn incident_type(alloc: Global, bytes: &[u8]) -> Option<Result<IncidentType, Unk
 fn incident_body(rt: HostRuntime) {
     let alloc = rt.alloc();
     assert!(rt;
-        is_incident(alloc, 1, b"gap \xff in log", INCIDENT)
-            && is_incident(alloc, 514, b"", b"\x02\x02\0")
-            && makes_incident(alloc)
-            && incident_type(alloc, INCIDENT) == Some(Ok(IncidentType::INCIDENT_LOST_EVENTS))
-            && incident_type(alloc, b"\x02\x02\0") == Some(Err(UnknownIncidentType(514)))
+        makes_incident(alloc)
+            && keeps_unknown_incident(alloc)
             && is_short::<IncidentEvent<'_>>(alloc, &INCIDENT[..14])
             && is_short::<IncidentEvent<'_>>(alloc, &INCIDENT[..2])
-            && refusal::<IncidentEvent<'_>>(alloc, b"\x01\0\0!") == Some(EventError::RemainingBytes)
+            && read_error::<IncidentEvent<'_>>(alloc, b"\x01\0\0!")
+                == Some(EventError::RemainingBytes)
     );
 }
 
-/// Whether the statement is read whole, whatever the byte before it is, and written behind 0.
+/// Whether the statement is read completely, whatever the byte before it is, and written after 0.
 fn is_statement(alloc: Global) -> bool {
     match read_body::<RowsQueryEvent<'_>>(alloc, (), ROWS_QUERY) {
         Ok(read) => {
-            read.query_raw() == b"insert into t values (1)".as_slice()
-                && read == RowsQueryEvent::new(CowSlice::Borrowed(b"insert into t values (1)"))
-                && read.len() == 25
+            read == RowsQueryEvent::new(CowSlice::Borrowed(b"insert into t values (1)"))
+                && read.query_raw() == b"insert into t values (1)".as_slice()
                 && is_written(alloc, &read, b"\0insert into t values (1)")
         }
+        Err(_) => false,
+    }
+}
+
+/// Whether the statement as text has replacement characters, and is unchanged when it is owned.
+fn keeps_statement(alloc: Global) -> bool {
+    let created = RowsQueryEvent::new(CowSlice::Borrowed(b"select '\xff'"));
+    let has_fields = created.len() == 11 && is_text(created.query(alloc), "select '\u{fffd}'");
+    match created.into_owned(alloc) {
+        Ok(owned) => has_fields && is_read(alloc, owned, b"\0select '\xff'"),
         Err(_) => false,
     }
 }
@@ -281,19 +227,4 @@ fn rows_query_body(rt: HostRuntime) {
     assert!(rt;
         is_statement(alloc) && keeps_statement(alloc) && is_short::<RowsQueryEvent<'_>>(alloc, b"")
     );
-}
-
-/// Whether the statement as text has replacement characters, and stays as it is where it borrows nothing.
-fn keeps_statement(alloc: Global) -> bool {
-    let event = RowsQueryEvent::new(CowSlice::Borrowed(b"select '\xff'"));
-    let is_text = match event.query(alloc) {
-        Ok(query) => query.as_ref() == "select '\u{fffd}'",
-        Err(_) => false,
-    };
-    let bytes = b"\0select '\xff'";
-    is_text
-        && match event.into_owned(alloc) {
-            Ok(owned) => is_written(alloc, &owned, bytes),
-            Err(_) => false,
-        }
 }

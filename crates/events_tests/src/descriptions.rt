@@ -1,26 +1,26 @@
-//! Format descriptions: read, made and written.
+//! Format descriptions: reading, creating and writing them.
 
 use crate::worked::{DESCRIPTION, changed};
+use crate::written::{is_text, is_written};
 use events_frames::{BinlogEventFooter, EventError, EventParts, FormatDescriptionEvent};
-use events_stream::EventStreamReader;
 use rows_consts::{BinlogChecksumAlg, BinlogVersion, EventType};
 use std::alloc::{AllocError, Global};
 use std::borrow::CowSlice;
-use wire_buf::{MySerialize, WireFault};
+use wire_buf::MySerialize;
 
-/// The place of the last number of the server's version.
+/// The offset of the last number of the server's version.
 const PATCH: usize = 25;
 
-/// The description that an event is, under no other.
+/// The format description of an event, without another one in force.
 fn description(alloc: Global, event: &[u8]) -> Result<FormatDescriptionEvent<'_>, EventError> {
-    match EventParts::cut(event, BinlogEventFooter::default()) {
+    match EventParts::split(event, BinlogEventFooter::default()) {
         Ok(parts) => parts.description(alloc),
         Err(fault) => Err(fault),
     }
 }
 
-/// A description of server 5.6.1 that names CRC-32, with these post-header lengths.
-pub(crate) fn made(lengths: &[u8]) -> FormatDescriptionEvent<'_> {
+/// A format description of server 5.6.1 with CRC-32 and these post-header lengths.
+pub(crate) fn created(lengths: &[u8]) -> FormatDescriptionEvent<'_> {
     let crc = BinlogEventFooter::new(BinlogChecksumAlg::BINLOG_CHECKSUM_ALG_CRC32);
     FormatDescriptionEvent::new(BinlogVersion::Version4)
         .with_server_version(CowSlice::Borrowed(b"5.6.1"))
@@ -28,13 +28,9 @@ pub(crate) fn made(lengths: &[u8]) -> FormatDescriptionEvent<'_> {
         .with_footer(crc)
 }
 
-/// Whether the description says what that of server 5.6.1 does.
+/// Whether the format description has the contents of that of server 5.6.1.
 fn is_worked(alloc: Global, read: &FormatDescriptionEvent<'_>) -> bool {
-    let named = match read.server_version(alloc) {
-        Ok(text) => text.as_str() == "5.6.1",
-        Err(_) => false,
-    };
-    named
+    is_text(read.server_version(alloc), "5.6.1")
         && read.binlog_version() == BinlogVersion::Version4
         && read.server_version_raw() == b"5.6.1".as_slice()
         && read.split_version() == (5, 6, 1)
@@ -45,7 +41,7 @@ fn is_worked(alloc: Global, read: &FormatDescriptionEvent<'_>) -> bool {
         && read.len() == 57
 }
 
-/// Whether the description of server 5.6.1 is read as what it says.
+/// Whether the format description of server 5.6.1 is read with its contents.
 fn reads_worked(alloc: Global) -> bool {
     match description(alloc, DESCRIPTION) {
         Ok(read) => is_worked(alloc, &read),
@@ -58,34 +54,31 @@ fn description_fields(rt: HostRuntime) {
     assert!(rt; reads_worked(rt.alloc()));
 }
 
-/// Whether the description is written as the bytes.
-fn is_written(alloc: Global, description: &FormatDescriptionEvent<'_>, bytes: &[u8]) -> bool {
-    let mut out = Vec::new(alloc);
-    description.serialize(&mut out).is_ok()
-        && out.as_slice() == bytes
-        && description.len() == bytes.len()
-}
-
-/// Appends the event that a description is, with the header and the checksum of these parts.
-fn put_event(
+/// Whether the algorithm of a format description, if it has one, and the checksum of these parts are appended.
+fn puts_checksum(
     parts: &EventParts<'_>,
     description: &FormatDescriptionEvent<'_>,
     out: &mut Vec<u8>,
-) -> Result<(), WireFault> {
-    parts.header().serialize(out)?;
-    description.serialize(out)?;
-    if let Some(algorithm) = description.footer().checksum_alg_raw() {
-        out.push(algorithm)?;
-    }
-    if let Some(checksum) = parts.checksum() {
-        out.extend_from_slice(&checksum.to_le_bytes())?;
-    }
-    Ok(())
+) -> bool {
+    let is_put = match description.footer().checksum_alg_raw() {
+        Some(algorithm) => out.push(algorithm).is_ok(),
+        None => true,
+    };
+    is_put
+        && match parts.checksum() {
+            Some(checksum) => out.extend_from_slice(&checksum.to_le_bytes()).is_ok(),
+            None => true,
+        }
 }
 
-/// Whether the event is read as a description, made owned, and written as its own bytes.
+/// Whether the value is appended.
+fn puts<T: MySerialize>(value: &T, out: &mut Vec<u8>) -> bool {
+    value.serialize(out).is_ok()
+}
+
+/// Whether the event is read as a format description, made owned, and written as its own bytes.
 fn is_written_back(alloc: Global, event: &[u8]) -> bool {
-    let Ok(parts) = EventParts::cut(event, BinlogEventFooter::default()) else {
+    let Ok(parts) = EventParts::split(event, BinlogEventFooter::default()) else {
         return false;
     };
     let Ok(read) = parts.description(alloc) else {
@@ -95,7 +88,9 @@ fn is_written_back(alloc: Global, event: &[u8]) -> bool {
         return false;
     };
     let mut out = Vec::new(alloc);
-    put_event(&parts, &owned, &mut out).is_ok()
+    puts(&parts.header(), &mut out)
+        && puts(&owned, &mut out)
+        && puts_checksum(&parts, &owned, &mut out)
         && out.as_slice() == event
         && owned.len() == parts.body().len()
 }
@@ -107,12 +102,12 @@ fn description_written_back(rt: HostRuntime) -> Result<(), AllocError> {
     assert!(rt;
         is_written_back(alloc, DESCRIPTION)
             && is_written_back(alloc, older.as_slice())
-            && is_written(alloc, &made(b""), &DESCRIPTION[19..76])
+            && is_written(alloc, &created(b""), &DESCRIPTION[19..76])
     );
     Ok(())
 }
 
-// A shorter version has zeros behind it, and of a longer one 50 bytes are written.
+// A shorter version is padded with zeros, a longer one truncated to 50 bytes.
 #[test]
 fn versions_of_another_length(rt: HostRuntime) {
     let alloc = rt.alloc();
@@ -131,7 +126,7 @@ fn versions_of_another_length(rt: HostRuntime) {
     assert!(rt; is_written(alloc, &long, &bytes) && long.server_version_raw().len() == 51);
 }
 
-/// Whether the event is a description of no checksums, with these post-header lengths.
+/// Whether the event is a format description without checksums, with these post-header lengths.
 fn is_older(alloc: Global, event: &[u8], lengths: &[u8]) -> bool {
     match description(alloc, event) {
         Ok(read) => {
@@ -143,12 +138,12 @@ fn is_older(alloc: Global, event: &[u8], lengths: &[u8]) -> bool {
     }
 }
 
-// What would be the algorithm and the checksum are post-header lengths.
+// The bytes that would be the algorithm and the checksum are post-header lengths.
 #[test]
 fn description_of_an_older_server(rt: HostRuntime) -> Result<(), AllocError> {
     let alloc = rt.alloc();
     let older = changed(alloc, DESCRIPTION, PATCH, b'0')?;
-    let parts = EventParts::cut(older.as_slice(), BinlogEventFooter::default());
+    let parts = EventParts::split(older.as_slice(), BinlogEventFooter::default());
     let whole = match parts {
         Ok(parts) => parts.checksum().is_none() && parts.body().len() == 62,
         Err(_) => false,
@@ -157,41 +152,28 @@ fn description_of_an_older_server(rt: HostRuntime) -> Result<(), AllocError> {
     Ok(())
 }
 
-/// Why the description with another byte at one place is none, or none where it is one.
-fn refusal(alloc: Global, place: usize, byte: u8) -> Option<EventError> {
-    match changed(alloc, DESCRIPTION, place, byte) {
+/// Why the format description with another byte at this offset can't be read, or None if it can.
+fn read_error(alloc: Global, offset: usize, byte: u8) -> Option<EventError> {
+    match changed(alloc, DESCRIPTION, offset, byte) {
         Ok(event) => description(alloc, event.as_slice()).err(),
         Err(_) => Some(EventError::Memory),
     }
 }
 
-/// Why a reader of a log refuses the description with another byte at one place, or none where it takes it.
-fn reader_refusal(alloc: Global, place: usize, byte: u8) -> Option<EventError> {
-    let Ok(event) = changed(alloc, DESCRIPTION, place, byte) else {
-        return Some(EventError::Memory);
-    };
-    match EventStreamReader::new(alloc, BinlogVersion::Version4) {
-        Ok(mut reader) => reader.read_slice(event.as_slice()).err(),
-        Err(_) => Some(EventError::Memory),
-    }
-}
-
-// Versions 3 and 260 of the format, and headers of 18 bytes. An unknown algorithm is kept as its number by the body
-// alone: a log with such a description isn't read.
+// The format versions 3 and 260, and headers of 18 bytes. Reading the body alone keeps an unknown algorithm as its number;
+// `failed_descriptions_not_in_force` shows that a log with such a format description can't be read.
 #[test]
 fn description_refusals(rt: HostRuntime) {
     let alloc = rt.alloc();
     assert!(rt;
-        refusal(alloc, 19, 3) == Some(EventError::Invalid)
-            && refusal(alloc, 20, 1) == Some(EventError::Invalid)
-            && refusal(alloc, 75, 18) == Some(EventError::Invalid)
-            && refusal(alloc, 76, 2).is_none()
-            && reader_refusal(alloc, 19, 3) == Some(EventError::Invalid)
-            && reader_refusal(alloc, 76, 2) == Some(EventError::Algorithm)
+        read_error(alloc, 19, 3) == Some(EventError::Invalid)
+            && read_error(alloc, 20, 1) == Some(EventError::Invalid)
+            && read_error(alloc, 75, 18) == Some(EventError::Invalid)
+            && read_error(alloc, 76, 2).is_none()
     );
 }
 
-/// Whether the description gives these post-header lengths to START_EVENT_V3, QUERY_EVENT, TABLE_MAP_EVENT and
+/// Whether the format description has these post-header lengths for START_EVENT_V3, QUERY_EVENT, TABLE_MAP_EVENT and
 /// WRITE_ROWS_EVENT.
 fn has_lengths(description: &FormatDescriptionEvent<'_>, lengths: [u8; 4]) -> bool {
     description.get_event_type_header_length(EventType::START_EVENT_V3) == lengths[0]
@@ -200,14 +182,14 @@ fn has_lengths(description: &FormatDescriptionEvent<'_>, lengths: [u8; 4]) -> bo
         && description.get_event_type_header_length(EventType::WRITE_ROWS_EVENT) == lengths[3]
 }
 
-/// The post-header length of a type by a description that has these.
+/// The post-header length of a type in a format description with these lengths.
 fn length_of(lengths: &[u8], event_type: EventType) -> u8 {
-    made(lengths).get_event_type_header_length(event_type)
+    created(lengths).get_event_type_header_length(event_type)
 }
 
-/// Whether the description that is worked out, and one that names two lengths, give the others those of servers today.
+/// Whether the worked format description, and one with two lengths, have those of today's servers for the other types.
 fn fill_lengths(alloc: Global) -> bool {
-    let two = made(&[56, 12]);
+    let two = created(&[56, 12]);
     match description(alloc, DESCRIPTION) {
         Ok(read) => has_lengths(&read, [0, 13, 8, 10]) && has_lengths(&two, [56, 12, 8, 10]),
         Err(_) => false,

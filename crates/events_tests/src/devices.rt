@@ -1,8 +1,8 @@
-//! Readers and writers that give and take little at once, are interrupted and fail.
+//! Readers and writers that transfer few bytes at a time, are interrupted and fail.
 
 use std::io::{Error, ErrorKind, Read, Result as IoResult, Write};
 
-/// A reader that gives one byte at a call, unless the call is to meet an error.
+/// A reader that returns one byte for each call, unless the call should fail.
 #[derive(Drop)]
 pub(crate) struct Trickle<'a> {
     bytes: &'a [u8],
@@ -10,12 +10,12 @@ pub(crate) struct Trickle<'a> {
 }
 
 impl<'a> Trickle<'a> {
-    /// A reader of these bytes, which meets these errors at one call after the other, and none after that.
+    /// A reader of these bytes, whose first calls return these errors in order.
     pub(crate) fn new(bytes: &'a [u8], steps: &'a [Option<ErrorKind>]) -> Trickle<'a> {
         Trickle { bytes, steps }
     }
 
-    /// The error of the next call, or none where a byte moves.
+    /// The error of the next call, or None if a byte is transferred.
     fn step(&mut self) -> Option<ErrorKind> {
         let (first, rest) = self.steps.split_first()?;
         self.steps = rest;
@@ -40,7 +40,7 @@ impl Read for Trickle<'_> {
     }
 }
 
-/// A writer that takes so many bytes, and then fails.
+/// A writer that accepts a number of bytes, and then fails.
 #[derive(Drop)]
 pub(crate) struct NarrowWriter {
     pub(crate) room: usize,

@@ -1,4 +1,4 @@
-//! The types of events whose bodies have types of their own.
+//! The event types whose bodies have a struct.
 
 use events_bodies::{
     BeginLoadQueryEvent, IncidentEvent, IntvarEvent, RandEvent, RotateEvent, RowsQueryEvent,
@@ -12,7 +12,7 @@ use events_rows::{
 use rows_consts::EventType;
 use rows_meta::TableMapEvent;
 
-/// The type of the events that have such a body.
+/// The type of the events with such a body.
 fn type_of<'a, T: BinlogEvent<'a>>() -> EventType {
     T::EVENT_TYPE
 }

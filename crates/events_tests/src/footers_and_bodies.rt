@@ -1,6 +1,7 @@
-//! Which checksums a log has, and bodies that are read by what is known of their event.
+//! The checksum settings of a log, and bodies that are read in the context of their event.
 
 use crate::worked::{DESCRIPTION, TABLE_MAP};
+use crate::written::read_error;
 use events_frames::{
     BinlogCtx, BinlogEvent, BinlogEventFooter, BinlogEventHeader, BinlogStruct, EventError,
     FormatDescriptionEvent, read_body,
@@ -10,7 +11,7 @@ use rows_meta::TableMapEvent;
 use std::alloc::{AllocError, Global};
 use wire_buf::WireFault;
 
-/// Whether footers that are made say what they were made of.
+/// Whether footers have the values that they were created with.
 fn are_made() -> bool {
     let crc = BinlogEventFooter::new(BinlogChecksumAlg::BINLOG_CHECKSUM_ALG_CRC32);
     let off = BinlogEventFooter::new(BinlogChecksumAlg::BINLOG_CHECKSUM_ALG_OFF);
@@ -29,8 +30,8 @@ fn are_made() -> bool {
         && unpacked != crc
 }
 
-/// Whether the footer of a description with this number of an algorithm refuses it.
-fn refuses_algorithm(number: u8) -> bool {
+/// Whether the footer of a format description with this algorithm number returns it as an error.
+fn fails_algorithm(number: u8) -> bool {
     let mut content = [0; 62];
     content[2..7].copy_from_slice(b"8.0.1");
     content[57] = number;
@@ -49,14 +50,14 @@ fn footers(rt: HostRuntime) {
         BinlogEventFooter::read(&DESCRIPTION[19..]) == Ok(crc)
             && BinlogEventFooter::read(&DESCRIPTION[19..80]) == Err(EventError::Frame)
             && BinlogEventFooter::read(&DESCRIPTION[19..75]) == Err(EventError::Frame)
-            && refuses_algorithm(2)
-            && refuses_algorithm(255)
-            && !refuses_algorithm(1)
+            && fails_algorithm(2)
+            && fails_algorithm(255)
+            && !fails_algorithm(1)
             && are_made()
     );
 }
 
-/// Whether the body is a table map of the table with this id, by what is known of its event.
+/// Whether the body, in the context of its event, is a table map with this table id.
 fn is_map(alloc: Global, ctx: BinlogCtx<'_>, body: &[u8], id: u64) -> bool {
     let len = ctx.post_header_len(EventType::TABLE_MAP_EVENT);
     match read_body::<TableMapEvent<'_>>(alloc, len, body) {
@@ -65,7 +66,7 @@ fn is_map(alloc: Global, ctx: BinlogCtx<'_>, body: &[u8], id: u64) -> bool {
     }
 }
 
-/// Whether the body is a description of so many bytes, by what is known of its event.
+/// Whether the body, in the context of its event, is a format description of this size.
 fn is_description(alloc: Global, ctx: BinlogCtx<'_>, body: &[u8], len: usize) -> bool {
     let ctx = <FormatDescriptionEvent<'_> as BinlogStruct<'_>>::context(ctx);
     match read_body::<FormatDescriptionEvent<'_>>(alloc, ctx, body) {
@@ -90,25 +91,17 @@ fn bodies_by_their_context(rt: HostRuntime) {
     );
 }
 
-/// Why the bytes aren't one header alone, or none where they are.
-fn header_refusal(alloc: Global, bytes: &[u8]) -> Option<EventError> {
-    read_body::<BinlogEventHeader>(alloc, (), bytes).err()
-}
-
-/// Why the bytes aren't a description's body, or none where they are.
-fn description_refusal(alloc: Global, bytes: &[u8]) -> Option<EventError> {
-    read_body::<FormatDescriptionEvent<'_>>(alloc, (), bytes).err()
-}
-
 #[test]
-fn bodies_refused(rt: HostRuntime) {
+fn bodies_failed(rt: HostRuntime) {
     let alloc = rt.alloc();
     assert!(rt;
-        header_refusal(alloc, &[0; 19]).is_none()
-            && header_refusal(alloc, &[0; 18]) == Some(EventError::EndOfBody)
-            && header_refusal(alloc, &[0; 20]) == Some(EventError::RemainingBytes)
-            && description_refusal(alloc, &[0; 56]) == Some(EventError::EndOfBody)
-            && description_refusal(alloc, &[0; 57]) == Some(EventError::Invalid)
+        read_error::<BinlogEventHeader>(alloc, &[0; 19]).is_none()
+            && read_error::<BinlogEventHeader>(alloc, &[0; 18]) == Some(EventError::EndOfBody)
+            && read_error::<BinlogEventHeader>(alloc, &[0; 20]) == Some(EventError::RemainingBytes)
+            && read_error::<FormatDescriptionEvent<'_>>(alloc, &[0; 56])
+                == Some(EventError::EndOfBody)
+            && read_error::<FormatDescriptionEvent<'_>>(alloc, &[0; 57])
+                == Some(EventError::Invalid)
             && EventError::from(WireFault::Form) == EventError::Invalid
             && EventError::from(AllocError) == EventError::Memory
     );

@@ -1,4 +1,4 @@
-//! Events as they stand one after the other in a log.
+//! Consecutive events in a log.
 
 use crate::devices::Trickle;
 use crate::worked::{BEGIN, COMMIT, INSERT, TABLE_MAP};
@@ -8,17 +8,17 @@ use std::alloc::{AllocError, Global};
 use std::io::ErrorKind;
 use wire_buf::Watched;
 
-/// Whether this event stands next in the log.
-fn gives(log: &mut Watched<&[u8]>, event: &mut Vec<u8>, bytes: &[u8]) -> bool {
+/// Whether this event is next in the log.
+fn returns_event(log: &mut Watched<&[u8]>, event: &mut Vec<u8>, bytes: &[u8]) -> bool {
     next_frame(log, event) == Ok(NextFrame::Event) && event.as_slice() == bytes
 }
 
-/// The four events of a log, one after the other.
+/// The four events of a log, in order.
 fn log_of_four(alloc: Global) -> Result<Vec<u8>, AllocError> {
-    let mut log = Vec::from_slice(alloc, BEGIN)?;
-    log.extend_from_slice(TABLE_MAP)?;
-    log.extend_from_slice(INSERT)?;
-    log.extend_from_slice(COMMIT)?;
+    let mut log = Vec::new(alloc);
+    for event in [BEGIN, TABLE_MAP, INSERT, COMMIT] {
+        log.extend_from_slice(event)?;
+    }
     Ok(log)
 }
 
@@ -28,17 +28,17 @@ fn events_of_a_log(rt: HostRuntime) -> Result<(), AllocError> {
     let mut log = Watched::new(bytes.as_slice());
     let mut event = Vec::new(rt.alloc());
     assert!(rt;
-        gives(&mut log, &mut event, BEGIN)
-            && gives(&mut log, &mut event, TABLE_MAP)
-            && gives(&mut log, &mut event, INSERT)
-            && gives(&mut log, &mut event, COMMIT)
+        returns_event(&mut log, &mut event, BEGIN)
+            && returns_event(&mut log, &mut event, TABLE_MAP)
+            && returns_event(&mut log, &mut event, INSERT)
+            && returns_event(&mut log, &mut event, COMMIT)
             && next_frame(&mut log, &mut event) == Ok(NextFrame::Ended)
             && event.is_empty()
     );
     Ok(())
 }
 
-/// Whether the log's first frame comes out so, and leaves these bytes.
+/// Whether reading the log's first frame has this result and leaves these bytes.
 fn comes_out(
     alloc: Global,
     log: &[u8],
@@ -63,7 +63,7 @@ fn frame_ends(rt: HostRuntime) {
     );
 }
 
-/// Whether so many bytes of `cde` are gathered so behind `ab`, where the reader meets these errors.
+/// Whether gathering this many bytes of `cde` after `ab` has this result when the reader returns these errors.
 fn gathers(
     alloc: Global,
     steps: &[Option<ErrorKind>],
@@ -78,7 +78,7 @@ fn gathers(
     gather(&mut reader, count, &mut out) == outcome && out.as_slice() == all
 }
 
-/// Whether the byte that came stays where a log's reader then fails.
+/// Whether a byte that was read is kept if the reader then fails.
 fn keeps_what_came(alloc: Global) -> bool {
     let mut log = Watched::new(Trickle::new(COMMIT, &[None, Some(ErrorKind::Other)]));
     let mut event = Vec::new(alloc);
@@ -102,27 +102,37 @@ fn bytes_gathered(rt: HostRuntime) {
     );
 }
 
-// A header says 4,294,967,295 bytes, and nothing stands behind it, or two bytes; or so many are asked of 19 bytes.
+/// Whether the log ends within its first event, whose bytes are then in a buffer of at most 8 KiB.
+fn ends_in_little_memory(alloc: Global, log: &[u8]) -> bool {
+    let mut event = Vec::new(alloc);
+    next_frame(&mut Watched::new(log), &mut event) == Ok(NextFrame::Ended)
+        && event.as_slice() == log
+        && event.capacity() <= 8_192
+}
+
+/// Whether all bytes are gathered, in a buffer of at most 8 KiB, if so many are wanted.
+fn gathers_in_little_memory(alloc: Global, bytes: &[u8], count: u64) -> bool {
+    let mut out = Vec::new(alloc);
+    gather(&mut Watched::new(bytes), count, &mut out) == Ok(())
+        && out.as_slice() == bytes
+        && out.capacity() <= 8_192
+}
+
+// A header with the event size 4,294,967,295, followed by nothing or by two bytes; or a request for as many bytes from a reader
+// with 19.
 #[test]
 fn huge_event_size(rt: HostRuntime) {
     let alloc = rt.alloc();
     let bytes = b"\0\0\0\0\x02\x01\0\0\0\xff\xff\xff\xff\0\0\0\0\0\0ab".as_slice();
-    let (mut alone, mut cut, mut out) = (Vec::new(alloc), Vec::new(alloc), Vec::new(alloc));
     assert!(rt;
-        next_frame(&mut Watched::new(&bytes[..19]), &mut alone) == Ok(NextFrame::Ended)
-            && alone.as_slice() == &bytes[..19]
-            && alone.capacity() <= 8_192
-            && next_frame(&mut Watched::new(bytes), &mut cut) == Ok(NextFrame::Ended)
-            && cut.as_slice() == bytes
-            && cut.capacity() <= 8_192
-            && gather(&mut Watched::new(&bytes[..19]), 4_294_967_295, &mut out) == Ok(())
-            && out.as_slice() == &bytes[..19]
-            && out.capacity() <= 8_192
+        ends_in_little_memory(alloc, &bytes[..19])
+            && ends_in_little_memory(alloc, bytes)
+            && gathers_in_little_memory(alloc, &bytes[..19], 4_294_967_295)
     );
 }
 
-/// What comes of all of a reader's 70,000 bytes where memory is for so many, how many stand in the buffer then, and how
-/// many are left to be read.
+/// The result of gathering all of a reader's 70,000 bytes with this much memory, the number of bytes in the buffer afterwards,
+/// and how many remain to be read.
 fn gathered_in(
     alloc: Global,
     size: usize,
@@ -137,7 +147,7 @@ fn gathered_in(
     Ok((fault, out.len(), reader.into_inner().len()))
 }
 
-// Memory is refused for the first 4 KiB, for more than 32 KiB, and not at all.
+// Memory runs out at the first 4 KiB, beyond 32 KiB, and not at all.
 #[test]
 fn bytes_gathered_without_memory(rt: HostRuntime) {
     let alloc = rt.alloc();

@@ -1,4 +1,4 @@
-//! Headers of events, and the mark at the front of a file.
+//! Headers of events, and the magic number of a file.
 
 use crate::devices::{NarrowWriter, Trickle};
 use events_frames::{BinlogEventHeader, BinlogFileHeader, EventError};
@@ -17,13 +17,13 @@ fn is_written(alloc: Global, header: &BinlogEventHeader, bytes: &[u8]) -> bool {
     header.serialize(&mut out).is_ok() && out.as_slice() == bytes
 }
 
-/// Whether the bytes begin with this header, and so many stand behind it.
+/// Whether the bytes begin with this header, and this many bytes follow it.
 fn is_header(alloc: Global, bytes: &[u8], header: BinlogEventHeader, left: usize) -> bool {
     let mut buf = ParseBuf(bytes);
     buf.parse::<BinlogEventHeader>(alloc, ()) == Ok(header) && buf.len() == left
 }
 
-/// Whether headers that are made say what they were made of.
+/// Whether headers have the values that they were created with.
 fn are_made() -> bool {
     let header = BinlogEventHeader::new(1, 15, 3, 4, 5, 0x8001);
     let unknown = BinlogEventHeader::new(1, 200, 3, 4, 5, 0);
@@ -56,19 +56,19 @@ fn event_header(rt: HostRuntime) {
     );
 }
 
-/// Why the bytes don't begin with the mark of a file, or none where they do.
-fn refused_mark(mut bytes: &[u8]) -> Option<EventError> {
+/// Why the bytes don't begin with the magic number of a file, or None if they do.
+fn failed_magic(mut bytes: &[u8]) -> Option<EventError> {
     BinlogFileHeader::read(&mut bytes).err()
 }
 
 #[test]
-fn file_mark(rt: HostRuntime) {
+fn magic_number(rt: HostRuntime) {
     let mut out = Vec::new(rt.alloc());
     let steps = [None, Some(ErrorKind::Other)];
     assert!(rt;
-        refused_mark(b"\xfebin").is_none()
-            && refused_mark(b"\xfebio") == Some(EventError::Invalid)
-            && refused_mark(b"\xfebi") == Some(EventError::Eof)
+        failed_magic(b"\xfebin").is_none()
+            && failed_magic(b"\xfebio") == Some(EventError::Invalid)
+            && failed_magic(b"\xfebi") == Some(EventError::Eof)
             && BinlogFileHeader::read(&mut Trickle::new(b"\xfebin", &steps))
                 == Err(EventError::Read)
             && BinlogFileHeader.write(&mut out) == Ok(())

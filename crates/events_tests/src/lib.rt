@@ -1,5 +1,5 @@
-//! Tests of the crates of events: a file for each subject, and what the tests have in common in `devices` and
-//! `worked`.
+//! Tests of frames, descriptions and the bodies of events: a file for each subject, and `devices` and `written` for what they
+//! share. Tests of owned events, files and streams are in `events_stream_tests`; both use the bytes in `samples` and `worked`.
 #![tactic(auto)]
 
 #[cfg(test)]
@@ -9,13 +9,7 @@ mod descriptions;
 #[cfg(test)]
 mod devices;
 #[cfg(test)]
-mod event_data;
-#[cfg(test)]
 mod event_types;
-#[cfg(test)]
-mod example;
-#[cfg(test)]
-mod files;
 #[cfg(test)]
 mod footers_and_bodies;
 #[cfg(test)]
@@ -27,20 +21,16 @@ mod headers;
 #[cfg(test)]
 mod memory;
 #[cfg(test)]
-mod owned_events;
-#[cfg(test)]
 mod parts;
 #[cfg(test)]
 mod queries;
 #[cfg(test)]
-mod readers;
-#[cfg(test)]
 mod rows_by_type;
+pub mod samples;
 #[cfg(test)]
 mod status_vars;
 #[cfg(test)]
 mod user_vars;
-#[cfg(test)]
-mod worked;
+pub mod worked;
 #[cfg(test)]
 mod written;

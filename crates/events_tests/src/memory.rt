@@ -1,11 +1,9 @@
-//! Bodies that are written where memory may be refused.
+//! Writing bodies when memory may run out, and their equality.
 
-use crate::bodies::{BEGIN_LOAD, INCIDENT, INTVAR, RAND, ROTATE, XID};
-use crate::descriptions::made;
-use crate::gtids::FULL;
-use crate::queries::{LOAD, QUERY};
-use crate::rows_by_type::UPDATE;
-use crate::user_vars::UNSIGNED;
+use crate::descriptions::created;
+use crate::samples::{
+    BEGIN_LOAD, FULL, INCIDENT, INTVAR, LOAD, QUERY, RAND, ROTATE, UNSIGNED, UPDATE, XID,
+};
 use crate::worked::{DESCRIPTION, INSERT, TABLE_MAP};
 use events_bodies::{
     BeginLoadQueryEvent, IncidentEvent, IntvarEvent, RandEvent, RotateEvent, RowsQueryEvent,
@@ -25,8 +23,8 @@ use std::alloc::Global;
 use std::borrow::CowSlice;
 use wire_buf::{MySerialize, WireFault};
 
-/// What comes of a body behind `ab` where memory is for so many bytes: the answer, how many bytes stand there then, and
-/// whether the first two are still `ab`. None where not even the two find a place.
+/// The result of writing a body after `ab` with this much memory: the result of the call, the number of bytes afterwards, and
+/// whether the first two are still `ab`. None if there is no memory for these two.
 fn written_in<T: MySerialize>(
     alloc: Global,
     body: &T,
@@ -43,38 +41,42 @@ fn written_in<T: MySerialize>(
     Some((answer, out.len(), out.as_slice().starts_with(b"ab")))
 }
 
-/// In how many of the memories of up to 1,024 bytes the body is written, as `len` bytes, in how many it is refused and
-/// what stood there stands alone, and in how many neither.
+/// For all memory sizes up to 1,024 bytes: in how many the body is written with `len` bytes, in how many memory runs out and the
+/// buffer is unchanged, and in how many neither.
 fn outcomes<T: MySerialize>(alloc: Global, body: &T, len: usize) -> (usize, usize, usize) {
-    let (mut written, mut refused, mut wrong) = (0usize, 0usize, 0usize);
+    let (mut written, mut failed, mut wrong) = (0usize, 0usize, 0usize);
     for size in 1..=1024usize {
         match written_in(alloc, body, size) {
             None => {}
             Some((Ok(()), all, true)) if all == len.wrapping_add(2) => {
                 written = written.wrapping_add(1)
             }
-            Some((Err(WireFault::Memory), 2, true)) => refused = refused.wrapping_add(1),
+            Some((Err(WireFault::Memory), 2, true)) => failed = failed.wrapping_add(1),
             Some(_) => wrong = wrong.wrapping_add(1),
         }
     }
-    (written, refused, wrong)
+    (written, failed, wrong)
 }
 
-/// Whether the body is written in some of these memories, refused in others, and in none written in part.
-fn is_whole_or_refused<T: MySerialize>(alloc: Global, body: &T, len: usize) -> bool {
-    let (written, refused, wrong) = outcomes(alloc, body, len);
-    written > 0 && refused > 0 && wrong == 0
+/// Whether the body is written in some of these memory sizes, memory runs out in others, and it is never written partly.
+fn is_all_or_nothing<T: MySerialize>(alloc: Global, body: &T, len: usize) -> bool {
+    let (written, failed, wrong) = outcomes(alloc, body, len);
+    written > 0 && failed > 0 && wrong == 0
 }
 
-/// The same of the body that the bytes are.
-fn refuses<'a, T: BinlogStruct<'a, Fault = WireFault> + Drop>(
+/// The same for the body with these bytes, which equals the one that is read from them again.
+fn fails<'a, T: BinlogStruct<'a, Fault = WireFault> + PartialEq + Drop>(
     alloc: Global,
     in_force: &'a FormatDescriptionEvent<'a>,
     body: &'a [u8],
 ) -> bool {
-    match read_struct::<T>(alloc, BinlogCtx::new(body.len(), in_force, 0), body) {
-        Ok(read) => is_whole_or_refused(alloc, &read, body.len()),
-        Err(_) => false,
+    let ctx = BinlogCtx::new(body.len(), in_force, 0);
+    match (
+        read_struct::<T>(alloc, ctx, body),
+        read_struct::<T>(alloc, ctx, body),
+    ) {
+        (Ok(read), Ok(again)) => read == again && is_all_or_nothing(alloc, &read, body.len()),
+        _ => false,
     }
 }
 
@@ -82,12 +84,12 @@ fn refuses<'a, T: BinlogStruct<'a, Fault = WireFault> + Drop>(
 fn serialize_with_refused_memory_rotate(rt: HostRuntime) {
     let name = [b'n'; 100];
     let event = RotateEvent::new(4, CowSlice::Borrowed(&name));
-    assert!(rt; is_whole_or_refused(rt.alloc(), &event, 108));
+    assert!(rt; is_all_or_nothing(rt.alloc(), &event, 108));
 }
 
 #[test]
 fn serialize_with_refused_memory_description(rt: HostRuntime) {
-    assert!(rt; is_whole_or_refused(rt.alloc(), &made(&[56, 13]), 59));
+    assert!(rt; is_all_or_nothing(rt.alloc(), &created(&[56, 13]), 59));
 }
 
 #[test]
@@ -97,7 +99,7 @@ fn serialize_with_refused_memory_query(rt: HostRuntime) {
         CowSlice::Borrowed(b"test"),
         CowSlice::Borrowed(b"insert into t values (1), (2), (3), (4)"),
     );
-    assert!(rt; is_whole_or_refused(rt.alloc(), &event, 62));
+    assert!(rt; is_all_or_nothing(rt.alloc(), &event, 62));
 }
 
 #[test]
@@ -105,14 +107,14 @@ fn serialize_with_refused_memory_plain_bodies(rt: HostRuntime) {
     let alloc = rt.alloc();
     let fde = FormatDescriptionEvent::new(BinlogVersion::Version4);
     assert!(rt;
-        refuses::<RotateEvent<'_>>(alloc, &fde, ROTATE)
-            && refuses::<XidEvent>(alloc, &fde, XID)
-            && refuses::<RandEvent>(alloc, &fde, RAND)
-            && refuses::<IntvarEvent>(alloc, &fde, INTVAR)
-            && refuses::<BeginLoadQueryEvent<'_>>(alloc, &fde, BEGIN_LOAD)
-            && refuses::<IncidentEvent<'_>>(alloc, &fde, INCIDENT)
-            && refuses::<RowsQueryEvent<'_>>(alloc, &fde, b"\0select 1")
-            && refuses::<UserVarEvent<'_>>(alloc, &fde, UNSIGNED)
+        fails::<RotateEvent<'_>>(alloc, &fde, ROTATE)
+            && fails::<XidEvent>(alloc, &fde, XID)
+            && fails::<RandEvent>(alloc, &fde, RAND)
+            && fails::<IntvarEvent>(alloc, &fde, INTVAR)
+            && fails::<BeginLoadQueryEvent<'_>>(alloc, &fde, BEGIN_LOAD)
+            && fails::<IncidentEvent<'_>>(alloc, &fde, INCIDENT)
+            && fails::<RowsQueryEvent<'_>>(alloc, &fde, b"\0select 1")
+            && fails::<UserVarEvent<'_>>(alloc, &fde, UNSIGNED)
     );
 }
 
@@ -121,12 +123,12 @@ fn serialize_with_refused_memory_other_bodies(rt: HostRuntime) {
     let alloc = rt.alloc();
     let fde = FormatDescriptionEvent::new(BinlogVersion::Version4);
     assert!(rt;
-        refuses::<FormatDescriptionEvent<'_>>(alloc, &fde, &DESCRIPTION[19..76])
-            && refuses::<QueryEvent<'_>>(alloc, &fde, QUERY)
-            && refuses::<ExecuteLoadQueryEvent<'_>>(alloc, &fde, LOAD)
-            && refuses::<GtidEvent<'_>>(alloc, &fde, FULL)
-            && refuses::<AnonymousGtidEvent<'_>>(alloc, &fde, FULL)
-            && refuses::<TableMapEvent<'_>>(alloc, &fde, &TABLE_MAP[19..])
+        fails::<FormatDescriptionEvent<'_>>(alloc, &fde, &DESCRIPTION[19..76])
+            && fails::<QueryEvent<'_>>(alloc, &fde, QUERY)
+            && fails::<ExecuteLoadQueryEvent<'_>>(alloc, &fde, LOAD)
+            && fails::<GtidEvent<'_>>(alloc, &fde, FULL)
+            && fails::<AnonymousGtidEvent<'_>>(alloc, &fde, FULL)
+            && fails::<TableMapEvent<'_>>(alloc, &fde, &TABLE_MAP[19..])
     );
 }
 
@@ -138,12 +140,12 @@ fn serialize_with_refused_memory_rows_events(rt: HostRuntime) {
     let one = b"\x07\0\0\0\0\0\x01\0\x01\x01row";
     let two = b"\x07\0\0\0\0\0\x01\0\x01\x01\x01rows";
     assert!(rt;
-        refuses::<WriteRowsEvent<'_>>(alloc, &fde, &INSERT[19..])
-            && refuses::<UpdateRowsEvent<'_>>(alloc, &fde, UPDATE)
-            && refuses::<DeleteRowsEvent<'_>>(alloc, &fde, &INSERT[19..])
-            && refuses::<PartialUpdateRowsEvent<'_>>(alloc, &fde, UPDATE)
-            && refuses::<WriteRowsEventV1<'_>>(alloc, &fde, one)
-            && refuses::<UpdateRowsEventV1<'_>>(alloc, &fde, two)
-            && refuses::<DeleteRowsEventV1<'_>>(alloc, &fde, one)
+        fails::<WriteRowsEvent<'_>>(alloc, &fde, &INSERT[19..])
+            && fails::<UpdateRowsEvent<'_>>(alloc, &fde, UPDATE)
+            && fails::<DeleteRowsEvent<'_>>(alloc, &fde, &INSERT[19..])
+            && fails::<PartialUpdateRowsEvent<'_>>(alloc, &fde, UPDATE)
+            && fails::<WriteRowsEventV1<'_>>(alloc, &fde, one)
+            && fails::<UpdateRowsEventV1<'_>>(alloc, &fde, two)
+            && fails::<DeleteRowsEventV1<'_>>(alloc, &fde, one)
     );
 }

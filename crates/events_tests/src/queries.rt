@@ -1,6 +1,7 @@
-//! QUERY_EVENT and EXECUTE_LOAD_QUERY_EVENT: read, made and written.
+//! QUERY_EVENT and EXECUTE_LOAD_QUERY_EVENT: reading, creating and writing them.
 
-use crate::written::{is_short, is_written};
+use crate::samples::{LOAD, QUERY};
+use crate::written::{is_read, is_short, is_text, is_written};
 use events_frames::read_body;
 use events_queries::{ExecuteLoadQueryEvent, QueryEvent};
 use rows_consts::{LoadDuplicateHandling, StatusVarKey, UnknownDuplicateHandling};
@@ -8,22 +9,13 @@ use std::alloc::Global;
 use std::borrow::CowSlice;
 use wire_buf::MySerialize;
 
-/// `drop table t` in the schema `test`, which the thread 9 ran in 1 second with the error 1051, with its options and
-/// its character sets.
-pub(crate) const QUERY: &[u8] =
-    b"\x09\0\0\0\x01\0\0\0\x04\x1b\x04\x0c\0\0\0\0\0\0\x04\x21\0\x21\0\x08\0test\0drop table t";
-
 /// The status variables of both.
 const VARS: &[u8] = b"\0\0\0\0\0\x04\x21\0\x21\0\x08\0";
-
-/// A statement for the file 7, whose name stands in it from byte 10 to byte 14, and whose rows replace others.
-pub(crate) const LOAD: &[u8] =
-    b"\x09\0\0\0\x01\0\0\0\x04\x1b\x04\x0c\0\x07\0\0\0\x0a\0\0\0\x0e\0\0\0\x02\0\0\0\0\0\x04\x21\0\x21\0\x08\0test\0LOAD DATA 'a' REPLACE";
 
 /// The text of that statement.
 const LOAD_TEXT: &[u8] = b"LOAD DATA 'a' REPLACE";
 
-/// Whether the event says what `QUERY` does.
+/// Whether the event has the contents of `QUERY`.
 fn is_drop(read: &QueryEvent<'_>) -> bool {
     read.thread_id() == 9
         && read.execution_time() == 1
@@ -34,38 +26,28 @@ fn is_drop(read: &QueryEvent<'_>) -> bool {
         && read.len() == QUERY.len()
 }
 
-/// Whether `QUERY` is read so, and written as it is, also where it borrows nothing.
-fn reads_query(alloc: Global) -> bool {
-    let Ok(read) = read_body::<QueryEvent<'_>>(alloc, (), QUERY) else {
-        return false;
-    };
-    if !is_drop(&read) || !is_written(alloc, &read, QUERY) {
-        return false;
-    }
-    match read.into_owned(alloc) {
-        Ok(owned) => is_drop(&owned) && is_written(alloc, &owned, QUERY),
-        Err(_) => false,
-    }
-}
-
-/// Whether setters make the event that `QUERY` is.
+/// Whether setters create the event `QUERY`, which is read from its bytes when it is owned.
 fn makes_query(alloc: Global) -> bool {
     let empty = QueryEvent::new(
         CowSlice::Borrowed(b""),
         CowSlice::Borrowed(b""),
         CowSlice::Borrowed(b""),
     );
-    let made = empty
+    let created = empty
         .with_thread_id(9)
         .with_execution_time(1)
         .with_error_code(1051)
         .with_status_vars(CowSlice::Borrowed(VARS))
         .with_schema(CowSlice::Borrowed(b"test"))
         .with_query(CowSlice::Borrowed(b"drop table t"));
-    is_drop(&made) && read_body(alloc, (), QUERY) == Ok(made)
+    let has_fields = is_drop(&created);
+    match created.into_owned(alloc) {
+        Ok(owned) => has_fields && is_drop(&owned) && is_read(alloc, owned, QUERY),
+        Err(_) => false,
+    }
 }
 
-/// Whether the byte behind the schema is skipped, and written as 0; the other fields are empty or 0.
+/// Whether the byte after the schema is ignored, and written as 0; the other fields are empty or 0.
 fn skips_a_byte(alloc: Global) -> bool {
     match read_body::<QueryEvent<'_>>(alloc, (), b"\0\0\0\0\0\0\0\0\x01\0\0\0\0d!BEGIN") {
         Ok(read) => {
@@ -81,30 +63,21 @@ fn skips_a_byte(alloc: Global) -> bool {
     }
 }
 
-/// Whether a schema and a statement that aren't UTF-8 are texts with replacement characters.
+/// Whether a schema and a statement that aren't UTF-8 are converted to text with replacement characters.
 fn is_lossy(alloc: Global) -> bool {
     let event = QueryEvent::new(
         CowSlice::Borrowed(b""),
         CowSlice::Borrowed(b"d\xff"),
         CowSlice::Borrowed(b"use `d\xff`"),
     );
-    let is_schema = match event.schema(alloc) {
-        Ok(schema) => schema.as_ref() == "d\u{fffd}",
-        Err(_) => false,
-    };
-    is_schema
-        && match event.query(alloc) {
-            Ok(query) => query.as_ref() == "use `d\u{fffd}`",
-            Err(_) => false,
-        }
+    is_text(event.schema(alloc), "d\u{fffd}") && is_text(event.query(alloc), "use `d\u{fffd}`")
 }
 
 #[test]
 fn query_body(rt: HostRuntime) {
     let alloc = rt.alloc();
     assert!(rt;
-        reads_query(alloc)
-            && makes_query(alloc)
+        makes_query(alloc)
             && skips_a_byte(alloc)
             && is_lossy(alloc)
             && is_short::<QueryEvent<'_>>(alloc, &QUERY[..12])
@@ -152,7 +125,7 @@ fn has_numbers(read: &ExecuteLoadQueryEvent<'_>) -> bool {
         && read.len() == LOAD.len()
 }
 
-/// Whether the event says what `LOAD` does.
+/// Whether the event has the contents of `LOAD`.
 fn is_load(read: &ExecuteLoadQueryEvent<'_>) -> bool {
     has_numbers(read)
         && read.status_vars_raw() == VARS
@@ -160,21 +133,7 @@ fn is_load(read: &ExecuteLoadQueryEvent<'_>) -> bool {
         && read.query_raw() == LOAD_TEXT
 }
 
-/// Whether `LOAD` is read so, and written as it is, also where it borrows nothing.
-fn reads_load(alloc: Global) -> bool {
-    let Ok(read) = read_body::<ExecuteLoadQueryEvent<'_>>(alloc, (), LOAD) else {
-        return false;
-    };
-    if !is_load(&read) || !is_written(alloc, &read, LOAD) {
-        return false;
-    }
-    match read.into_owned(alloc) {
-        Ok(owned) => is_load(&owned) && is_written(alloc, &owned, LOAD),
-        Err(_) => false,
-    }
-}
-
-/// An event of the file 1, where all else is empty or 0.
+/// An event for file 1, with all other fields empty or 0.
 fn empty_load<'a>() -> ExecuteLoadQueryEvent<'a> {
     ExecuteLoadQueryEvent::new(
         1,
@@ -185,7 +144,7 @@ fn empty_load<'a>() -> ExecuteLoadQueryEvent<'a> {
     )
 }
 
-/// Whether setters make the event that `LOAD` is.
+/// Whether setters create the event `LOAD`, which is read from its bytes when it is owned.
 fn makes_load(alloc: Global) -> bool {
     let numbered = empty_load()
         .with_thread_id(9)
@@ -195,14 +154,18 @@ fn makes_load(alloc: Global) -> bool {
         .with_start_pos(10)
         .with_end_pos(14)
         .with_dup_handling(LoadDuplicateHandling::LOAD_DUP_REPLACE);
-    let made = numbered
+    let created = numbered
         .with_status_vars(CowSlice::Borrowed(VARS))
         .with_schema(CowSlice::Borrowed(b"test"))
         .with_query(CowSlice::Borrowed(LOAD_TEXT));
-    is_load(&made) && read_body(alloc, (), LOAD) == Ok(made)
+    let has_fields = is_load(&created);
+    match created.into_owned(alloc) {
+        Ok(owned) => has_fields && is_load(&owned) && is_read(alloc, owned, LOAD),
+        Err(_) => false,
+    }
 }
 
-/// Whether an unknown handling of duplicates and the byte behind the schema are read, and that byte is written as 0.
+/// Whether an unknown handling of duplicates and the byte after the schema are read, and that byte is written as 0.
 fn keeps_handling(alloc: Global) -> bool {
     let read = [0u8; 26];
     let mut bytes = [0u8; 28];
@@ -228,8 +191,7 @@ fn keeps_handling(alloc: Global) -> bool {
 fn execute_load_query_body(rt: HostRuntime) {
     let alloc = rt.alloc();
     assert!(rt;
-        reads_load(alloc)
-            && makes_load(alloc)
+        makes_load(alloc)
             && keeps_handling(alloc)
             && is_short::<ExecuteLoadQueryEvent<'_>>(alloc, &LOAD[..25])
             && is_short::<ExecuteLoadQueryEvent<'_>>(alloc, &LOAD[..42])

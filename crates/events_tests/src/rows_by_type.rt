@@ -1,5 +1,6 @@
-//! Rows events by their types.
+//! Rows events by type.
 
+use crate::samples::UPDATE;
 use crate::worked::{INSERT, TABLE_MAP, changed};
 use events_frames::{BinlogCtx, BinlogStruct, EventError, FormatDescriptionEvent, read_struct};
 use events_rows::{RowsEventData, WriteRowsEvent};
@@ -7,14 +8,10 @@ use rows_consts::{BinlogVersion, EventType};
 use rows_events::{RowsEventRows, RowsEventType};
 use rows_images::BinlogRow;
 use rows_meta::TableMapEvent;
-use std::alloc::{AllocError, Global};
+use std::alloc::Global;
 use wire_buf::MySerialize;
 
-/// Table 7, the flag of a statement's end and no extra data; two columns, of which the image before the change has the
-/// first and the one after it both.
-pub(crate) const UPDATE: &[u8] = b"\x07\0\0\0\0\0\x01\0\x02\0\x02\x01\x03rows";
-
-/// Reads the body of a rows event, where a description says no post-header lengths.
+/// Reads the body of a rows event, if the format description lists no post-header lengths.
 fn read<'a>(
     alloc: Global,
     in_force: &'a FormatDescriptionEvent<'a>,
@@ -29,7 +26,7 @@ fn read<'a>(
     )
 }
 
-/// Whether the event says the one inserted row.
+/// Whether the event has the one inserted row.
 fn is_insert(event: &WriteRowsEvent<'_>) -> bool {
     event.table_id() == 7
         && event.num_columns() == 1
@@ -49,42 +46,33 @@ fn by_struct<'a>(
     read_struct(alloc, BinlogCtx::new(17, in_force, 30), &INSERT[19..])
 }
 
-/// Whether the two are equal, and say the one inserted row.
-fn are_inserts(first: &WriteRowsEvent<'_>, second: &WriteRowsEvent<'_>) -> bool {
-    is_insert(first) && is_insert(second) && first == second
+/// Whether two events are equal.
+fn are_equal(first: RowsEventData<'_>, second: RowsEventData<'_>) -> bool {
+    let are_equal = first == second;
+    drop(first);
+    drop(second);
+    are_equal
 }
 
-/// Whether the event is one of inserted rows that equals this one.
-fn is_same_insert(event: &RowsEventData<'_>, insert: &WriteRowsEvent<'_>) -> bool {
-    match event {
-        RowsEventData::WriteRowsEvent(event) => are_inserts(event, insert),
-        _ => false,
-    }
-}
-
-/// The same of an event that is dropped then.
-fn is_one_insert(event: RowsEventData<'_>, insert: &WriteRowsEvent<'_>) -> bool {
-    let is_same = is_same_insert(&event, insert);
-    drop(event);
-    is_same
-}
-
-/// Whether the event is read by its type as this one.
+/// Whether reading by the type gives this event.
 fn reads_insert(
     alloc: Global,
     in_force: &FormatDescriptionEvent<'_>,
-    insert: &WriteRowsEvent<'_>,
+    insert: WriteRowsEvent<'_>,
 ) -> bool {
     match read(alloc, in_force, RowsEventType::WriteRows, &INSERT[19..]) {
-        Ok(event) => is_one_insert(event, insert),
+        Ok(event) => are_equal(event, RowsEventData::WriteRowsEvent(insert)),
         Err(_) => false,
     }
 }
 
-/// Whether the event is read as one by its struct and by its type.
+/// Whether reading by the struct and by the type gives the same event, with the one inserted row.
 fn reads_both(alloc: Global, in_force: &FormatDescriptionEvent<'_>) -> bool {
     match by_struct(alloc, in_force) {
-        Ok(insert) => reads_insert(alloc, in_force, &insert),
+        Ok(insert) => {
+            let is_insert = is_insert(&insert);
+            reads_insert(alloc, in_force, insert) && is_insert
+        }
         Err(_) => false,
     }
 }
@@ -95,7 +83,7 @@ fn a_write_event(rt: HostRuntime) {
     assert!(rt; reads_both(rt.alloc(), &in_force));
 }
 
-/// Whether the images before the change have the first column, and those after it both.
+/// Whether the before images have the first column, and the after images both.
 fn has_images(event: &RowsEventData<'_>) -> bool {
     match (event.columns_before_image(), event.columns_after_image()) {
         (Some(before), Some(after)) => {
@@ -108,7 +96,7 @@ fn has_images(event: &RowsEventData<'_>) -> bool {
     }
 }
 
-/// Whether the event says the update, as one of this type.
+/// Whether the event is the update, with this type.
 fn is_update(event: &RowsEventData<'_>, event_type: EventType) -> bool {
     event.event_type() == event_type
         && event.table_id() == 7
@@ -117,33 +105,28 @@ fn is_update(event: &RowsEventData<'_>, event_type: EventType) -> bool {
         && has_images(event)
 }
 
-/// Whether the event is written as the update.
+/// Whether the event is written as the bytes of the update.
 fn is_written(alloc: Global, event: &RowsEventData<'_>) -> bool {
     let mut out = Vec::new(alloc);
     event.serialize(&mut out).is_ok() && out.as_slice() == UPDATE && event.len() == UPDATE.len()
 }
 
-/// The same event, borrowed from nothing.
-fn owned(alloc: Global, event: RowsEventData<'_>) -> Result<RowsEventData<'static>, AllocError> {
-    event.into_owned(alloc)
-}
-
-/// Whether the event says the update and is written as it.
+/// Whether the event is the update and is written as its bytes.
 fn is_one_update(alloc: Global, event: RowsEventData<'_>, event_type: EventType) -> bool {
     let is_one = is_update(&event, event_type) && is_written(alloc, &event);
     drop(event);
     is_one
 }
 
-/// The same of the event where it borrows nothing.
+/// The same for the owned event.
 fn is_kept(alloc: Global, event: RowsEventData<'_>, event_type: EventType) -> bool {
-    match owned(alloc, event) {
+    match event.into_owned(alloc) {
         Ok(event) => is_one_update(alloc, event, event_type),
         Err(_) => false,
     }
 }
 
-/// Whether the update is read as an event of this type, and written as it was read.
+/// Whether the update is read as an event of this type, and written unchanged.
 fn keeps_update(alloc: Global, event_type: RowsEventType, named: EventType) -> bool {
     let in_force = FormatDescriptionEvent::new(BinlogVersion::Version4);
     match read(alloc, &in_force, event_type, UPDATE) {
@@ -169,18 +152,13 @@ fn updates_and_partial_updates(rt: HostRuntime) {
 }
 
 /// The type and the number of columns of an event.
-fn said(event: &RowsEventData<'_>) -> (EventType, u64) {
-    (event.event_type(), event.num_columns())
-}
-
-/// The same of an event that is dropped then.
-fn said_once(event: RowsEventData<'_>) -> (EventType, u64) {
-    let said = said(&event);
+fn type_and_columns(event: RowsEventData<'_>) -> (EventType, u64) {
+    let type_and_columns = (event.event_type(), event.num_columns());
     drop(event);
-    said
+    type_and_columns
 }
 
-/// The type and the number of columns that are read, or why none is.
+/// The type and the number of columns that are read, or the error.
 fn columns(
     alloc: Global,
     event_type: RowsEventType,
@@ -188,14 +166,14 @@ fn columns(
 ) -> Result<(EventType, u64), EventError> {
     let in_force = FormatDescriptionEvent::new(BinlogVersion::Version4);
     match read(alloc, &in_force, event_type, body) {
-        Ok(event) => Ok(said_once(event)),
+        Ok(event) => Ok(type_and_columns(event)),
         Err(fault) => Err(fault),
     }
 }
 
-// Events of version 1 have no extra data, so that its size of 2 is taken for the number of columns.
+// Events of version 1 have no extra data, so its size of 2 is read as the column count.
 #[test]
-fn types_and_refusals(rt: HostRuntime) {
+fn types_and_errors(rt: HostRuntime) {
     let alloc = rt.alloc();
     let Ok(uncounted) = changed(alloc, UPDATE, 10, 251) else {
         return;
@@ -217,7 +195,7 @@ fn types_and_refusals(rt: HostRuntime) {
     );
 }
 
-/// Whether the row was inserted, and has one column.
+/// Whether the row was inserted and has one column.
 fn is_inserted(pair: &(Option<BinlogRow>, Option<BinlogRow>)) -> bool {
     match pair {
         (None, Some(row)) => row.len() == 1,
@@ -225,32 +203,20 @@ fn is_inserted(pair: &(Option<BinlogRow>, Option<BinlogRow>)) -> bool {
     }
 }
 
-/// Whether a row comes next that was inserted and has one column.
-fn gives_row(rows: &mut RowsEventRows<'_>) -> bool {
-    match rows.next() {
+/// Whether one inserted row with one column is next, and then nothing more.
+fn returns_one_row(rows: &mut RowsEventRows<'_>) -> bool {
+    let returns_row = match rows.next() {
         Some(Ok(pair)) => is_inserted(&pair),
         _ => false,
-    }
+    };
+    returns_row && rows.next().is_none()
 }
 
-/// Whether one inserted row comes, and then nothing more.
-fn gives_one_row(rows: &mut RowsEventRows<'_>) -> bool {
-    gives_row(rows) && rows.next().is_none()
-}
-
-/// Whether the event has one inserted row alone, by this table map.
+/// Whether the event has exactly one inserted row, by this table map.
 fn has_one_row(alloc: Global, map: &TableMapEvent<'_>, event: RowsEventData<'_>) -> bool {
-    let has_one = gives_one_row(&mut event.rows(alloc, map));
+    let has_one = returns_one_row(&mut event.rows(alloc, map));
     drop(event);
     has_one
-}
-
-/// The map of the row's table.
-fn table_map<'a>(
-    alloc: Global,
-    in_force: &'a FormatDescriptionEvent<'a>,
-) -> Result<TableMapEvent<'a>, EventError> {
-    read_struct(alloc, BinlogCtx::new(18, in_force, 19), &TABLE_MAP[19..])
 }
 
 /// Whether the inserted row is read by this table map.
@@ -267,7 +233,7 @@ fn reads_row(
 
 /// Whether the inserted row is read by its table map.
 fn reads_mapped_row(alloc: Global, in_force: &FormatDescriptionEvent<'_>) -> bool {
-    match table_map(alloc, in_force) {
+    match read_struct(alloc, BinlogCtx::new(18, in_force, 19), &TABLE_MAP[19..]) {
         Ok(map) => reads_row(alloc, in_force, &map),
         Err(_) => false,
     }

@@ -1,52 +1,45 @@
-//! Status variables: each key's value, and how a block of them ends.
+//! Status variables: the value of each key, as its `Debug` text, and how a block of them ends.
 
+use crate::written::has_text;
 use events_queries::{StatusVar, StatusVarVal, StatusVars, StatusVarsIterator};
 use rows_consts::StatusVarKey as Key;
 use std::alloc::Global;
 use std::borrow::CowSlice;
 use wire_buf::{MySerialize, ParseBuf};
-use wire_forms::{RawBytes, RawFlags};
-use wire_seqs::Seq;
 
-/// The options 0, the character sets 33, 33 and 8, and a key that is never written.
+/// The options 0, the character sets 33, 33 and 8, and a key that servers never write.
 const BLOCK: &[u8] = b"\0\0\0\0\0\x04\x21\0\x21\0\x08\0\x0e\0";
 
-/// Whether a value that is dropped then is the same as this one.
-fn is_same(given: StatusVarVal<'_>, value: &StatusVarVal<'_>) -> bool {
-    let is_same = given == *value;
-    drop(given);
-    is_same
+/// Whether two values are equal, and have this `Debug` text.
+fn are_same(alloc: Global, first: StatusVarVal<'_>, second: StatusVarVal<'_>, text: &str) -> bool {
+    let are_same = first == second && has_text(alloc, &first, text);
+    drop(first);
+    drop(second);
+    are_same
 }
 
-/// Whether the variable says this value.
-fn is_value(alloc: Global, var: &StatusVar<'_>, value: &StatusVarVal<'_>) -> bool {
-    match var.get_value(alloc) {
-        Ok(given) => is_same(given, value),
-        Err(_) => false,
+/// Whether the variable's value has this `Debug` text.
+fn is_value(alloc: Global, var: &StatusVar<'_>, text: &str) -> bool {
+    match (var.get_value(alloc), var.get_value(alloc)) {
+        (Ok(first), Ok(second)) => are_same(alloc, first, second, text),
+        _ => false,
     }
 }
 
-/// Whether the block's first variable has this key, stands as all the bytes behind it, and says this value.
-fn is_first(alloc: Global, block: &[u8], key: Key, value: &StatusVarVal<'_>) -> bool {
+/// Whether the block's first variable has this key, all the bytes after it, and a value with this `Debug` text.
+fn has_value(alloc: Global, block: &[u8], key: Key, text: &str) -> bool {
     match StatusVarsIterator::new(block).next() {
         Some(var) => {
             var.key() == key
                 && block.get(1..) == Some(var.value_raw())
-                && is_value(alloc, &var, value)
+                && is_value(alloc, &var, text)
         }
         None => false,
     }
 }
 
-/// Whether the block says this value of its one variable, which has the key.
-fn says(alloc: Global, block: &[u8], key: Key, value: StatusVarVal<'_>) -> bool {
-    let is_first = is_first(alloc, block, key, &value);
-    drop(value);
-    is_first
-}
-
 /// Whether the next variable has this key and these bytes.
-fn gives(vars: &mut StatusVarsIterator<'_>, key: Key, bytes: &[u8]) -> bool {
+fn returns_event(vars: &mut StatusVarsIterator<'_>, key: Key, bytes: &[u8]) -> bool {
     match vars.next() {
         Some(var) => var.key() == key && var.value_raw() == bytes,
         None => false,
@@ -59,14 +52,14 @@ fn status_variables(rt: HostRuntime) {
     let mut iter = vars.iter();
     assert!(rt;
         vars.as_bytes() == BLOCK
-            && gives(&mut iter, Key::Flags2, b"\0\0\0\0")
-            && gives(&mut iter, Key::Charset, b"\x21\0\x21\0\x08\0")
+            && returns_event(&mut iter, Key::Flags2, b"\0\0\0\0")
+            && returns_event(&mut iter, Key::Charset, b"\x21\0\x21\0\x08\0")
             && iter.next().is_none()
             && iter.next().is_none()
     );
 }
 
-/// The bytes of the first variable of the key, or none where the block has no such variable.
+/// The bytes of the first variable with the key, or None if the block has none.
 fn found<'a>(vars: &'a StatusVars<'_>, key: Key) -> Option<&'a [u8]> {
     match vars.get_status_var(key) {
         Some(var) => Some(var.value_raw()),
@@ -89,44 +82,34 @@ fn variables_found_by_key(rt: HostRuntime) {
 }
 
 #[test]
-fn options_and_mode(rt: HostRuntime) {
+fn options_and_settings(rt: HostRuntime) {
     let alloc = rt.alloc();
     assert!(rt;
-        says(
+        has_value(
             alloc,
             b"\0\0\x40\0\x08",
             Key::Flags2,
-            StatusVarVal::Flags2(RawFlags::new(0x0800_4000))
-        ) && says(
+            "Flags2(RawFlags(134234112, PhantomData<_>))"
+        ) && has_value(
             alloc,
             b"\x01\0\0\x20\x54\x01\0\0\0",
             Key::SqlMode,
-            StatusVarVal::SqlMode(RawFlags::new(0x1_5420_0000)),
-        )
-    );
-}
-
-#[test]
-fn counters_and_character_sets(rt: HostRuntime) {
-    let alloc = rt.alloc();
-    assert!(rt;
-        says(
+            "SqlMode(RawFlags(5706350592, PhantomData<_>))"
+        ) && has_value(
             alloc,
-            b"\x03\x0a\0\x02\x01",
-            Key::AutoIncrement,
-            StatusVarVal::AutoIncrement {
-                increment: 10,
-                offset: 258,
-            }
-        ) && says(
+            b"\x10\x01",
+            Key::ExplicitDefaultsForTimestamp,
+            "ExplicitDefaultsForTimestamp(1)"
+        ) && has_value(
             alloc,
-            b"\x04\x21\0\xff\0\x08\0",
-            Key::Charset,
-            StatusVarVal::Charset {
-                charset_client: 33,
-                collation_connection: 255,
-                collation_server: 8,
-            }
+            b"\x13\x02",
+            Key::SqlRequirePrimaryKey,
+            "SqlRequirePrimaryKey(2)"
+        ) && has_value(
+            alloc,
+            b"\x14\x03",
+            Key::DefaultTableEncryption,
+            "DefaultTableEncryption(3)"
         )
     );
 }
@@ -135,53 +118,68 @@ fn counters_and_character_sets(rt: HostRuntime) {
 fn texts(rt: HostRuntime) {
     let alloc = rt.alloc();
     assert!(rt;
-        says(
+        has_value(
             alloc,
             b"\x02\x03std\0",
             Key::Catalog,
-            StatusVarVal::Catalog(b"std")
-        ) && says(
+            "Catalog([115, 116, 100])"
+        ) && has_value(
             alloc,
             b"\x05\x06SYSTEM",
             Key::TimeZone,
-            StatusVarVal::TimeZone(b"SYSTEM")
-        ) && says(
+            "TimeZone([83, 89, 83, 84, 69, 77])"
+        ) && has_value(
             alloc,
             b"\x06\x03std",
             Key::CatalogNz,
-            StatusVarVal::CatalogNz(b"std")
-        ) && says(
+            "CatalogNz([115, 116, 100])"
+        ) && has_value(
             alloc,
             b"\x0b\x04root\x09localhost",
             Key::Invoker,
-            StatusVarVal::Invoker {
-                username: b"root",
-                hostname: b"localhost",
-            }
+            "Invoker { username: [114, 111, 111, 116], hostname: [108, 111, 99, 97, 108, 104, 111, 115, 116] }"
+        ) && has_value(
+            alloc,
+            b"\x0c\x02test\0db\0",
+            Key::UpdatedDbNames,
+            "UpdatedDbNames(Some(Seq([RawBytes([116, 101, 115, 116], PhantomData<_>), \
+RawBytes([100, 98], PhantomData<_>)], PhantomData<_>)))"
+        ) && has_value(
+            alloc,
+            b"\x0c\xfe",
+            Key::UpdatedDbNames,
+            "UpdatedDbNames(None)"
         )
     );
 }
 
 #[test]
-fn numbers_of_two_bytes(rt: HostRuntime) {
+fn counters_and_character_sets(rt: HostRuntime) {
     let alloc = rt.alloc();
     assert!(rt;
-        says(
+        has_value(
             alloc,
-            b"\x07\x05\x01",
-            Key::LcTimeNames,
-            StatusVarVal::LcTimeNames(261)
-        ) && says(
+            b"\x03\x0a\0\x02\x01",
+            Key::AutoIncrement,
+            "AutoIncrement { increment: 10, offset: 258 }"
+        ) && has_value(
             alloc,
-            b"\x08\xff\x01",
-            Key::CharsetDatabase,
-            StatusVarVal::CharsetDatabase(511)
-        ) && says(
-            alloc,
-            b"\x12\xff\x02",
-            Key::DefaultCollationForUtf8mb4,
-            StatusVarVal::DefaultCollationForUtf8mb4(767),
-        )
+            b"\x04\x21\0\xff\0\x08\0",
+            Key::Charset,
+            "Charset { charset_client: 33, collation_connection: 255, collation_server: 8 }"
+        ) && has_value(alloc, b"\x07\x05\x01", Key::LcTimeNames, "LcTimeNames(261)")
+            && has_value(
+                alloc,
+                b"\x08\xff\x01",
+                Key::CharsetDatabase,
+                "CharsetDatabase(511)"
+            )
+            && has_value(
+                alloc,
+                b"\x12\xff\x02",
+                Key::DefaultCollationForUtf8mb4,
+                "DefaultCollationForUtf8mb4(767)"
+            )
     );
 }
 
@@ -189,83 +187,31 @@ fn numbers_of_two_bytes(rt: HostRuntime) {
 fn longer_numbers(rt: HostRuntime) {
     let alloc = rt.alloc();
     assert!(rt;
-        says(
+        has_value(
             alloc,
             b"\x09\x03\0\0\0\0\0\0\x80",
             Key::TableMapForUpdate,
-            StatusVarVal::TableMapForUpdate(0x8000_0000_0000_0003),
-        ) && says(
+            "TableMapForUpdate(9223372036854775811)"
+        ) && has_value(
             alloc,
             b"\x0a\x7c\0\0\x01",
             Key::MasterDataWritten,
-            StatusVarVal::MasterDataWritten(0x0100_007c),
-        ) && says(
+            "MasterDataWritten(16777340)"
+        ) && has_value(
             alloc,
             b"\x0d\x3f\x42\x0f",
             Key::Microseconds,
-            StatusVarVal::Microseconds(999_999)
-        ) && says(
+            "Microseconds(999999)"
+        ) && has_value(
             alloc,
             b"\x11\x34\x12\0\0\0\0\0\x01",
             Key::DdlLoggedWithXid,
-            StatusVarVal::DdlLoggedWithXid(0x0100_0000_0000_1234),
+            "DdlLoggedWithXid(72057594037932596)"
         )
     );
 }
 
-#[test]
-fn settings(rt: HostRuntime) {
-    let alloc = rt.alloc();
-    assert!(rt;
-        says(
-            alloc,
-            b"\x10\x01",
-            Key::ExplicitDefaultsForTimestamp,
-            StatusVarVal::ExplicitDefaultsForTimestamp(1),
-        ) && says(
-            alloc,
-            b"\x13\x02",
-            Key::SqlRequirePrimaryKey,
-            StatusVarVal::SqlRequirePrimaryKey(2),
-        ) && says(
-            alloc,
-            b"\x14\x03",
-            Key::DefaultTableEncryption,
-            StatusVarVal::DefaultTableEncryption(3),
-        )
-    );
-}
-
-/// Whether the block says the names of two schemas.
-fn says_two_names(alloc: Global, block: &[u8]) -> bool {
-    let names = [
-        RawBytes::new(CowSlice::Borrowed(b"test")),
-        RawBytes::new(CowSlice::Borrowed(b"db")),
-    ];
-    let two = Seq::new(CowSlice::Borrowed(&names));
-    says(
-        alloc,
-        block,
-        Key::UpdatedDbNames,
-        StatusVarVal::UpdatedDbNames(Some(two)),
-    )
-}
-
-#[test]
-fn names_of_schemas(rt: HostRuntime) {
-    let alloc = rt.alloc();
-    assert!(rt;
-        says_two_names(alloc, b"\x0c\x02test\0db\0")
-            && says(
-                alloc,
-                b"\x0c\xfe",
-                Key::UpdatedDbNames,
-                StatusVarVal::UpdatedDbNames(None)
-            )
-    );
-}
-
-/// Whether no variable stands whole at the front of the bytes.
+/// Whether the bytes don't begin with a complete variable.
 fn has_none(block: &[u8]) -> bool {
     StatusVarsIterator::new(block).next().is_none()
 }
@@ -287,7 +233,7 @@ fn variables_cut_off(rt: HostRuntime) {
     );
 }
 
-/// Whether the block is read at the front of the bytes, made owned, and written as itself.
+/// Whether the block is read from the start of the bytes, made owned, and written unchanged.
 fn is_kept(alloc: Global, bytes: &[u8]) -> bool {
     let mut buf = ParseBuf(bytes);
     let Ok(read) = buf.parse::<StatusVars<'_>>(alloc, BLOCK.len()) else {

@@ -1,6 +1,7 @@
-//! USER_VAR_EVENT: read and written.
+//! USER_VAR_EVENT: reading and writing it.
 
-use crate::written::{is_short, is_written, refusal};
+use crate::samples::UNSIGNED;
+use crate::written::{is_read, is_short, is_text, read_error};
 use bitflags::Flags;
 use events_bodies::UserVarEvent;
 use events_frames::{EventError, read_body};
@@ -8,57 +9,34 @@ use rows_flags::UserVarFlags;
 use std::alloc::Global;
 use wire_consts::{ItemResult, UnknownItemResultType};
 
-/// `@n`, an unsigned integer, 300.
-pub(crate) const UNSIGNED: &[u8] = b"\x01\0\0\0n\0\x02\x3f\0\0\0\x08\0\0\0\x2c\x01\0\0\0\0\0\0\x01";
-
-/// `@name`, the text `ab` in utf8mb4, of a server that writes no flags.
+/// `@name`, the text `ab` in utf8mb4, from a server that writes no flags.
 const TEXT: &[u8] = b"\x04\0\0\0name\0\0\xff\0\0\0\x02\0\0\0ab";
 
 /// `@n`, NULL.
 const NULL: &[u8] = b"\x01\0\0\0n\x01";
 
-/// Whether the body is one of an unsigned integer.
-fn is_unsigned(read: &UserVarEvent<'_>) -> bool {
-    read.name_raw() == b"n".as_slice()
-        && !read.is_null()
-        && read.value() == Some(b"\x2c\x01\0\0\0\0\0\0".as_slice())
-        && read.charset() == 63
-        && read.value_type() == Ok(ItemResult::INT_RESULT)
-        && read.flags_raw() == 1
-        && read.flags() == UserVarFlags::UNSIGNED
-        && read.len() == UNSIGNED.len()
+/// Whether the variable has this name and this value.
+fn is_variable(read: &UserVarEvent<'_>, name: &[u8], value: Option<&[u8]>) -> bool {
+    read.name_raw() == name && read.value() == value && read.is_null() == value.is_none()
 }
 
-/// Whether the body is one of a text without flags.
-fn is_text(read: &UserVarEvent<'_>) -> bool {
-    read.name_raw() == b"name".as_slice()
-        && !read.is_null()
-        && read.value() == Some(b"ab".as_slice())
-        && read.charset() == 255
-        && read.value_type() == Ok(ItemResult::STRING_RESULT)
-        && read.flags_raw() == 0
-        && read.flags() == UserVarFlags::empty()
-        && read.len() == TEXT.len()
+/// Whether the value has this character set, this type and these flags.
+fn has_type(
+    read: &UserVarEvent<'_>,
+    charset: u32,
+    value_type: ItemResult,
+    flags: UserVarFlags,
+) -> bool {
+    read.charset() == charset
+        && read.value_type() == Ok(value_type)
+        && read.flags_raw() == flags.bits()
+        && read.flags() == flags
 }
 
-/// Whether the body is NULL.
-fn is_null(read: &UserVarEvent<'_>) -> bool {
-    read.name_raw() == b"n".as_slice()
-        && read.is_null()
-        && read.value().is_none()
-        && read.charset() == 63
-        && read.value_type() == Ok(ItemResult::STRING_RESULT)
-        && read.flags_raw() == 0
-        && read.len() == NULL.len()
-}
-
-/// Whether the variable is written as these bytes, also where it borrows nothing.
+/// Whether an event that is the same when it is owned is read from the bytes.
 fn is_kept(alloc: Global, read: UserVarEvent<'_>, bytes: &[u8]) -> bool {
-    if !is_written(alloc, &read, bytes) {
-        return false;
-    }
     match read.into_owned(alloc) {
-        Ok(owned) => is_written(alloc, &owned, bytes),
+        Ok(owned) => is_read(alloc, owned, bytes),
         Err(_) => false,
     }
 }
@@ -66,7 +44,11 @@ fn is_kept(alloc: Global, read: UserVarEvent<'_>, bytes: &[u8]) -> bool {
 /// Whether an unsigned integer is read and kept.
 fn reads_unsigned(alloc: Global) -> bool {
     match read_body::<UserVarEvent<'_>>(alloc, (), UNSIGNED) {
-        Ok(read) => is_unsigned(&read) && is_kept(alloc, read, UNSIGNED),
+        Ok(read) => {
+            let has_fields = is_variable(&read, b"n", Some(b"\x2c\x01\0\0\0\0\0\0"))
+                && has_type(&read, 63, ItemResult::INT_RESULT, UserVarFlags::UNSIGNED);
+            is_kept(alloc, read, UNSIGNED) && has_fields
+        }
         Err(_) => false,
     }
 }
@@ -74,7 +56,11 @@ fn reads_unsigned(alloc: Global) -> bool {
 /// Whether a text without flags is read and kept.
 fn reads_text(alloc: Global) -> bool {
     match read_body::<UserVarEvent<'_>>(alloc, (), TEXT) {
-        Ok(read) => is_text(&read) && is_kept(alloc, read, TEXT),
+        Ok(read) => {
+            let has_fields = is_variable(&read, b"name", Some(b"ab"))
+                && has_type(&read, 255, ItemResult::STRING_RESULT, UserVarFlags::empty());
+            is_kept(alloc, read, TEXT) && has_fields
+        }
         Err(_) => false,
     }
 }
@@ -82,7 +68,11 @@ fn reads_text(alloc: Global) -> bool {
 /// Whether NULL is read and kept.
 fn reads_null(alloc: Global) -> bool {
     match read_body::<UserVarEvent<'_>>(alloc, (), NULL) {
-        Ok(read) => is_null(&read) && is_kept(alloc, read, NULL),
+        Ok(read) => {
+            let has_fields = is_variable(&read, b"n", None)
+                && has_type(&read, 63, ItemResult::STRING_RESULT, UserVarFlags::empty());
+            is_kept(alloc, read, NULL) && has_fields
+        }
         Err(_) => false,
     }
 }
@@ -93,7 +83,7 @@ fn user_variables(rt: HostRuntime) {
     assert!(rt; reads_unsigned(alloc) && reads_text(alloc) && reads_null(alloc));
 }
 
-/// What type of value the bytes name, and all bits of its flags.
+/// The type of the value in the bytes, and all bits of its flags.
 fn type_and_flags(
     alloc: Global,
     bytes: &[u8],
@@ -116,16 +106,16 @@ fn user_variables_of_unknown_types(rt: HostRuntime) {
 }
 
 #[test]
-fn user_variables_refused(rt: HostRuntime) {
+fn user_variables_failed(rt: HostRuntime) {
     let alloc = rt.alloc();
     assert!(rt;
         is_short::<UserVarEvent<'_>>(alloc, &UNSIGNED[..22])
             && is_short::<UserVarEvent<'_>>(alloc, &TEXT[..9])
             && is_short::<UserVarEvent<'_>>(alloc, &NULL[..5])
             && is_short::<UserVarEvent<'_>>(alloc, &NULL[..4])
-            && refusal::<UserVarEvent<'_>>(alloc, b"\x01\0\0\0n\x01\0")
+            && read_error::<UserVarEvent<'_>>(alloc, b"\x01\0\0\0n\x01\0")
                 == Some(EventError::RemainingBytes)
-            && refusal::<UserVarEvent<'_>>(
+            && read_error::<UserVarEvent<'_>>(
                 alloc,
                 b"\x01\0\0\0n\0\x02\x3f\0\0\0\x08\0\0\0\x2c\x01\0\0\0\0\0\0\x01\0",
             ) == Some(EventError::RemainingBytes)
@@ -134,11 +124,8 @@ fn user_variables_refused(rt: HostRuntime) {
 
 /// Whether the name of the variable is this text.
 fn is_named(alloc: Global, body: &[u8], wanted: &str) -> bool {
-    let Ok(read) = read_body::<UserVarEvent<'_>>(alloc, (), body) else {
-        return false;
-    };
-    match read.name(alloc) {
-        Ok(name) => name.as_str() == wanted,
+    match read_body::<UserVarEvent<'_>>(alloc, (), body) {
+        Ok(read) => is_text(read.name(alloc), wanted),
         Err(_) => false,
     }
 }

@@ -1,11 +1,13 @@
-//! What tests of bodies have in common: how a body is written, and how it is refused.
+//! Shared by the tests of bodies: how a body is read and written, its texts, and its errors.
 
 use events_frames::{BinlogStruct, EventError, read_body};
 use rows_consts::BinlogVersion;
-use std::alloc::Global;
+use std::alloc::{AllocError, Global};
+use std::borrow::CowStr;
+use std::fmt::Debug;
 use wire_buf::{MyDeserialize, MySerialize, WireFault};
 
-/// Whether the body is written as the bytes, and says how many they are.
+/// Whether the body is written as the bytes, and `len` returns their number.
 pub(crate) fn is_written<'a, T: BinlogStruct<'a> + MySerialize>(
     alloc: Global,
     body: &T,
@@ -17,8 +19,36 @@ pub(crate) fn is_written<'a, T: BinlogStruct<'a> + MySerialize>(
         && body.len(BinlogVersion::Version4) == bytes.len()
 }
 
-/// Why the bytes aren't a body, or none where they are.
-pub(crate) fn refusal<'a, T: MyDeserialize<'a, Ctx = (), Fault = WireFault> + Drop>(
+/// Whether the bytes are read as this body, which is written as the same bytes.
+pub(crate) fn is_read<'a, T: BinlogStruct<'a, Ctx = (), Fault = WireFault> + PartialEq + Drop>(
+    alloc: Global,
+    body: T,
+    bytes: &'a [u8],
+) -> bool {
+    match read_body::<T>(alloc, (), bytes) {
+        Ok(read) => read == body && is_written(alloc, &read, bytes),
+        Err(_) => false,
+    }
+}
+
+/// Whether the `Debug` text of the value is this one.
+pub(crate) fn has_text<T: Debug>(alloc: Global, value: &T, text: &str) -> bool {
+    match format!(in alloc; "{value:?}") {
+        Ok(given) => given.as_str() == text,
+        Err(_) => false,
+    }
+}
+
+/// Whether a field as text is this one.
+pub(crate) fn is_text(field: Result<CowStr<'_>, AllocError>, text: &str) -> bool {
+    match field {
+        Ok(given) => given.as_ref() == text,
+        Err(_) => false,
+    }
+}
+
+/// Why the bytes aren't a body, or None if they are.
+pub(crate) fn read_error<'a, T: MyDeserialize<'a, Ctx = (), Fault = WireFault> + Drop>(
     alloc: Global,
     bytes: &'a [u8],
 ) -> Option<EventError> {
@@ -30,5 +60,5 @@ pub(crate) fn is_short<'a, T: MyDeserialize<'a, Ctx = (), Fault = WireFault> + D
     alloc: Global,
     bytes: &'a [u8],
 ) -> bool {
-    refusal::<T>(alloc, bytes) == Some(EventError::EndOfBody)
+    read_error::<T>(alloc, bytes) == Some(EventError::EndOfBody)
 }

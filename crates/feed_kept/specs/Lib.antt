@@ -1,3 +1,5 @@
+pub mod Words
+pub mod CommitLines
 pub mod Kept
 pub mod LineStarts
 pub mod Worked

@@ -1,5 +1,5 @@
-//! How much of a text that was cut off anywhere is whole transactions. Who prints the feed into a file and is stopped cuts the
-//! file off there, and asks again from the place behind the last transaction that is whole.
+//! Finds the complete transactions of a truncated text of the feed. To resume a feed that was printed into a file and was
+//! interrupted, truncate the file there, and ask from the position after the last complete transaction.
 #![tactic(auto)]
 
 mod keeper;

@@ -1,6 +1,6 @@
 pub mod EventLemmas
 pub mod WritingLemmas
 pub mod ReportLemmas
-pub mod WholeReports
-pub mod MarkLemmas
-pub mod FrontLemmas
+pub mod CompleteReports
+pub mod MagicNumberLemmas
+pub mod PrefixLemmas

@@ -12,7 +12,7 @@ Appends-then (Some x) (Some y) (Some z) a b p q = q ∙ ap (λ (t : List ℕ). t
 
 pub HasWritten-more : (old mid new : Option (List ℕ)) (bytes rest after : List ℕ) (n : ℕ) → HasWritten old mid bytes rest → Appends mid new (take n rest) → after ≡ drop n rest → HasWritten old new bytes after
 HasWritten-more old mid new bytes rest after n h w e = record {
-  front = h.front ++ take n rest;
-  parts = append_assoc h.front (take n rest) after ∙ ap (λ (t : List ℕ). h.front ++ (take n rest ++ t)) e ∙ ap (λ (t : List ℕ). h.front ++ t) (take-append-drop n rest) ∙ h.parts;
-  written = Appends-then old mid new h.front (take n rest) h.written w;
+  prefix = h.prefix ++ take n rest;
+  parts = append_assoc h.prefix (take n rest) after ∙ ap (λ (t : List ℕ). h.prefix ++ (take n rest ++ t)) e ∙ ap (λ (t : List ℕ). h.prefix ++ t) (take-append-drop n rest) ∙ h.parts;
+  written = Appends-then old mid new h.prefix (take n rest) h.written w;
 }

@@ -1,5 +1,5 @@
 pub mod Events
 pub mod Writing
-pub mod Marks
+pub mod MagicNumbers
 pub mod Reports
 pub mod WorkedReports

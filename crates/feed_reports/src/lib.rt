@@ -6,5 +6,5 @@ mod reporting;
 pub mod worked;
 mod writing;
 
-pub use reporting::{read_mark, report, verdict_of};
+pub use reporting::{read_magic_number, report, verdict_of};
 pub use writing::{put_all, put_shown};

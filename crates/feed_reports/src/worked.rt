@@ -1,14 +1,14 @@
-//! Worked examples, which the definitions compute: small files with the text that is printed of each, and its verdict.
+//! Worked examples, computed from the definitions: small files, the text that is printed of each, and its verdict.
 
 ghost use Rattle.std.specs.Prelude.{◌≡◌, [], ◌∷◌, ◌++◌, codes};
 ghost use Rattle.feed_rules.specs.declared.verdict.Verdict.TheVariants as v;
 ghost use Rattle.feed_rules.specs.WorkedEvents.{write_event, commit_event, one_insert_events, insert_text, one_insert_text};
-ghost use Rattle.feed_reports.specs.Events.{mark};
+ghost use Rattle.feed_reports.specs.Events.{magic_number};
 ghost use Rattle.feed_reports.specs.WorkedReports.{printed_of, prints, file_of, without_commit, without_last_byte, checksummed_file, broken_header};
 
-/// Whole files, and files that end early or are damaged.
+/// Complete files, and files that end early or are damaged.
 pub fn worked_reports()
-    ensures mark_alone { printed_of mark ≡ prints [] v.End }
+    ensures magic_alone { printed_of magic_number ≡ prints [] v.End }
     ensures no_bytes { printed_of [] ≡ prints [] v.Mark }
     ensures unfinished_transaction { printed_of without_commit ≡ prints [] v.End }
     ensures unfinished_transaction_within_an_event { printed_of without_last_byte ≡ prints [] v.End }

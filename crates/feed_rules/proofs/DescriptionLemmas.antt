@@ -1,9 +1,9 @@
--- What a description says is computed as its grammar says it.
+-- The computed fields of a format description are those that its format states.
 use Rattle.std.proofs.Common.{◌≡◌, inl, inr, ◌≤◌, [], length, take, drop, refl, sym, ap, ◌∙◌, arith}
 use Rattle.std.specs.Prelude.{slice_index}
 use Rattle.std.proofs.lemmas.Bool.Decides.{leb_tells}
 use Rattle.std.proofs.lemmas.List.{append-nil, drop-drop}
-use Rattle.wire_buf.specs.Spelling.{Begins}
+use Rattle.wire_buf.specs.Encoding.{Begins}
 use Rattle.events_frames.specs.Descriptions.{Description, IsDescription}
 use Rattle.events_frames.specs.EventParts.{Parts, Describes}
 use Rattle.events_frames.specs.Footers.{no_footer}

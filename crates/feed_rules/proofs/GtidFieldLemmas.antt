@@ -1,31 +1,31 @@
--- What stands behind the number of a GTID event is never a fault: so each body that is taken is in the grammar.
+-- The bytes after the number of a GTID event are never a fault: each body that is taken is in its format.
 use Rattle.std.proofs.Common.{◌≡◌, ◌⊎◌, inl, inr, ℕ, Bool, true, false, List, [], ◌++◌, Option, Some, None, refl, sym, ap, ◌∙◌, append_assoc}
 use Rattle.std.specs.Prelude.{is_some}
 use Rattle.std.proofs.lemmas.Bool.Decides.{leb_tells, eqb_tells}
-use Rattle.wire_buf.specs.Fronts.{number_front, lenenc_front}
+use Rattle.wire_buf.specs.LenencSplit.{split_number, split_lenenc}
 use Rattle.wire_buf.specs.Numbers.{IsLenenc}
-use Rattle.wire_buf.specs.Spelling.{Begins, Reads, Lacks, Alone}
-use Rattle.rows_meta.specs.TableMaps.{number}
-use Rattle.events_gtids.specs.Gtids.{Gtid, IsClock, IsGtid}
-use Rattle.events_gtids.specs.OptionalFields.{IsNext}
+use Rattle.wire_buf.specs.Encoding.{Begins, Reads, Lacks, Alone}
+use Rattle.rows_meta.specs.TableMaps.{little_endian}
+use Rattle.events_gtids.specs.Gtids.{GtidBody, IsClock, IsGtid}
+use Rattle.events_gtids.specs.OptionalFields.{ReadsOptional}
 use Rattle.events_gtids.specs.Stamps.{IsStamp, top_bit}
 use Rattle.events_gtids.proofs.ClockLemmas.{clock_reads, numbers_lack, other_typecode}
 use Rattle.events_gtids.proofs.GtidLemmas.{IsHead, Fields, FieldsRow, FieldsSettled, fields_read, gtid_reads, whole}
 use Rattle.events_gtids.proofs.OptionalLemmas.{Tail}
-use Rattle.events_gtids.proofs.StampLemmas.{alone_reads, twice_reads, first_lacks, second_lacks}
+use Rattle.events_gtids.proofs.AnnouncedPairLemmas.{alone_reads, twice_reads, first_lacks, second_lacks}
 use Rattle.feed_rules.specs.Bodies.{gtid_in}
 use Rattle.feed_rules.specs.Readers.{Reader, IsReaderOf}
-use Rattle.feed_rules.proofs.BodyKindLemmas.{IsGtidFront, gtid_none, whole_read}
+use Rattle.feed_rules.proofs.BodyKindLemmas.{IsGtidHead, gtid_none, whole_read}
 use Rattle.feed_rules.proofs.ReaderLemmas.{number_reader, lenenc_reader, text_reader, both_reader, some_is}
 
--- a value is read at the front, or none stands there
+-- the bytes begin with a value, or with none
 abbrev Decided : {A : Type 0} → (A → List ℕ → List ℕ → Type 0) → List ℕ → Type 0
-Decided {A} form x = ((v : A) × (r : List ℕ) × Reads form v x r) ⊎ Lacks form x
+Decided {A} format x = ((v : A) × (r : List ℕ) × Reads format v x r) ⊎ Lacks format x
 
-decided : {A : Type 0} (form : A → List ℕ → List ℕ → Type 0) (read : Reader A) → IsReaderOf form read → (x : List ℕ) → Decided form x
-decided {A = A} form read is x = by (read x) refl
+decided : {A : Type 0} (format : A → List ℕ → List ℕ → Type 0) (read : Reader A) → IsReaderOf format read → (x : List ℕ) → Decided format x
+decided {A = A} format read is x = by (read x) refl
   where
-    by : (o : Option (A × List ℕ)) → read x ≡ o → Decided form x
+    by : (o : Option (A × List ℕ)) → read x ≡ o → Decided format x
     by None e = inr (λ v rest t. absurd (cc (sym e ∙ ap read t.joined ∙ is.here v t.bytes rest t.is)))
     by (Some (v, r)) e = inl (
       v,
@@ -38,8 +38,8 @@ decided {A = A} form read is x = by (read x) refl
       },
     )
 
-number_decided : (n : ℕ) (x : List ℕ) → Decided (number n) x
-number_decided n = decided (number n) (number_front n) (number_reader n)
+number_decided : (n : ℕ) (x : List ℕ) → Decided (little_endian n) x
+number_decided n = decided (little_endian n) (split_number n) (number_reader n)
 
 -- ---- the optional fields
 
@@ -64,19 +64,19 @@ stamp_decided n x = elim (number_decided n x) [
   | inr lacks ↦ inr (first_lacks n x lacks)
 ]
 
--- a field is read, where the one before it was there
-next_there : {A : Type 0} (form : A → List ℕ → List ℕ → Type 0) (on : Bool) (x : List ℕ) → Decided form x → (o : Option A) × (y : List ℕ) × IsNext form on o x y
-next_there form false x d = (None, x, (refl, refl))
-next_there form true x (inl p) = (Some p.0, p.1, p.2)
-next_there form true x (inr lacks) = (None, x, (lacks, refl))
+-- a field is read if the one before it was present
+next_there : {A : Type 0} (format : A → List ℕ → List ℕ → Type 0) (on : Bool) (x : List ℕ) → Decided format x → (o : Option A) × (y : List ℕ) × ReadsOptional format on o x y
+next_there format false x d = (None, x, (refl, refl))
+next_there format true x (inl p) = (Some p.0, p.1, p.2)
+next_there format true x (inr lacks) = (None, x, (lacks, refl))
 
 fields_there : (x : List ℕ) → (f : Fields) × Reads (Tail FieldsRow FieldsSettled) f x []
 fields_there x =
     let c = next_there IsClock true x (clock_decided x) in
     let t = next_there (IsStamp 7) (is_some c.0) c.1 (stamp_decided 7 c.1) in
-    let l = next_there (Alone IsLenenc) (is_some t.0) t.1 (decided (Alone IsLenenc) lenenc_front lenenc_reader t.1) in
+    let l = next_there (Alone IsLenenc) (is_some t.0) t.1 (decided (Alone IsLenenc) split_lenenc lenenc_reader t.1) in
     let v = next_there (IsStamp 4) (is_some l.0) l.1 (stamp_decided 4 l.1) in
-    let k = next_there (number 8) (is_some v.0) v.1 (number_decided 8 v.1) in (
+    let k = next_there (little_endian 8) (is_some v.0) v.1 (number_decided 8 v.1) in (
       (c.0, (t.0, (l.0, (v.0, (k.0, k.1))))),
       fields_read c.0 t.0 l.0 v.0 k.0 (is_some c.0) (is_some t.0) (is_some l.0) (is_some v.0) k.1 x c.1 t.1 l.1 v.1 k.1 refl refl refl refl c.2 t.2 l.2 v.2 k.2 refl,
     )
@@ -87,26 +87,26 @@ head_decided : (x : List ℕ) → Decided IsHead x
 head_decided = decided IsHead _ (both_reader _ _ _ _ (number_reader 1) (both_reader _ _ _ _ (text_reader 16) (number_reader 8)))
 
 -- what a body begins with
-head_begins : (v : ℕ × (List ℕ × (ℕ × List ℕ))) (body : List ℕ) → IsGtidFront v body [] → Begins (IsHead (v.0, (v.1.0, v.1.1.0))) body v.1.1.1
+head_begins : (v : ℕ × (List ℕ × (ℕ × List ℕ))) (body : List ℕ) → IsGtidHead v body [] → Begins (IsHead (v.0, (v.1.0, v.1.1.0))) body v.1.1.1
 head_begins v body h =
     let i = h.second_is in
     let j = i.second_is in
     let last = j.second_is.bytes_are in
     record {
-      bytes = h.front ++ (i.front ++ j.front);
+      bytes = h.prefix ++ (i.prefix ++ j.prefix);
       joined =
-          h.joined ∙ ap (λ (l : List ℕ). h.front ++ l) (i.joined ∙ ap (λ (l : List ℕ). i.front ++ l) (j.joined ∙ ap (λ (l : List ℕ). j.front ++ l) (sym last)) ∙ sym (append_assoc i.front j.front v.1.1.1))
-          ∙ sym (append_assoc h.front (i.front ++ j.front) v.1.1.1);
+          h.joined ∙ ap (λ (l : List ℕ). h.prefix ++ l) (i.joined ∙ ap (λ (l : List ℕ). i.prefix ++ l) (j.joined ∙ ap (λ (l : List ℕ). j.prefix ++ l) (sym last)) ∙ sym (append_assoc i.prefix j.prefix v.1.1.1))
+          ∙ sym (append_assoc h.prefix (i.prefix ++ j.prefix) v.1.1.1);
       is = record {
-        front = h.front;
-        back = i.front ++ j.front;
+        prefix = h.prefix;
+        suffix = i.prefix ++ j.prefix;
         joined = refl;
         first_is = h.first_is;
-        second_is = record { front = i.front; back = j.front; joined = refl; first_is = i.first_is; second_is = j.first_is };
+        second_is = record { prefix = i.prefix; suffix = j.prefix; joined = refl; first_is = i.first_is; second_is = j.first_is };
       };
     }
 
-pub gtid_there : (body : List ℕ) (x : List ℕ × ℕ) → gtid_in body ≡ Some x → (g : Gtid) × IsGtid g body []
+pub gtid_there : (body : List ℕ) (x : List ℕ × ℕ) → gtid_in body ≡ Some x → (g : GtidBody) × IsGtid g body []
 gtid_there body x e = elim (head_decided body) [
   | inl p ↦ let f = fields_there p.1 in (whole (p.0, f.0), whole_read IsGtid (whole (p.0, f.0)) body (gtid_reads p.0 f.0 body p.1 p.2 f.1))
   | inr lacks ↦ absurd (cc (sym e ∙ gtid_none body (λ v h. lacks (v.0, (v.1.0, v.1.1.0)) v.1.1.1 (head_begins v body h))))

@@ -14,7 +14,7 @@ pub mod TextLemmas
 pub mod KnownBodyLemmas
 pub mod GtidFieldLemmas
 pub mod TableLemmas
-pub mod StandingLemmas
+pub mod FeedStateLemmas
 pub mod SoundLemmas
 pub mod TakingLemmas
 pub mod DamageLemmas

@@ -2,7 +2,7 @@
 use Rattle.std.proofs.Common.{◌≡◌, ℕ, suc, ◌<◌, Bool, true, false, List, [], ◌∷◌, length, Option, Some, None, Ok, Err, refl, sym, ap, ◌∙◌, arith}
 use Rattle.std.specs.Prelude.{◌==◌, Result}
 use Rattle.std.proofs.lemmas.List.{length-map}
-use Rattle.rows_cells.specs.Images.{PlacedValue}
+use Rattle.rows_cells.specs.Images.{ColumnValue}
 use Rattle.rows_jsonb.specs.Items.{Walked, items_at}
 use Rattle.rows_times.specs.Readings.{Reading, ◌>>=◌}
 use Rattle.rows_jsonb.proofs.ItemLemmas.{walk_done}
@@ -19,7 +19,7 @@ not_empty : (n : ℕ) → 0 < n → (n == 0) ≡ false
 not_empty n h = search (arith, h)
 
 -- as many texts as rows
-row_texts-length : (rows : List (List (List PlacedValue))) (texts : List (List (List ℕ))) → row_texts rows ≡ Ok texts → length texts ≡ length rows
+row_texts-length : (rows : List (List (List ColumnValue))) (texts : List (List (List ℕ))) → row_texts rows ≡ Ok texts → length texts ≡ length rows
 unfolding row_texts
 row_texts-length [] texts h = let same : [] ≡ texts = cc in ap length (sym same)
 row_texts-length (row ∷ rows) texts h = of (image_texts row) (row_texts rows) (row_texts-length rows) refl h
@@ -30,8 +30,8 @@ row_texts-length (row ∷ rows) texts h = of (image_texts row) (row_texts rows) 
     of (Ok own) (Err v) hyp e h = cc
     of (Err v) q hyp e h = cc
 
--- rows that all have a text were found to the end
-walked-all : (w : Walked (List (List PlacedValue))) (texts : List (List (List ℕ))) → walked_texts w ≡ Some texts → (w.fault ≡ None) × (length texts ≡ length w.items)
+-- rows that all have a text were read up to the end
+walked-all : (w : Walked (List (List ColumnValue))) (texts : List (List (List ℕ))) → walked_texts w ≡ Some texts → (w.fault ≡ None) × (length texts ≡ length w.items)
 walked-all w texts h = of w.fault (row_texts w.items) refl refl h
   where
     of : (o : Option RowsError) (q : Reading (List (List (List ℕ)))) → w.fault ≡ o → row_texts w.items ≡ q → ◌≡◌ {A = Option (List (List (List ℕ)))} (elim o [ None ↦ value_or_none q | Some e ↦ None ]) (Some texts)
@@ -41,13 +41,13 @@ walked-all w texts h = of w.fault (row_texts w.items) refl refl h
     of (Some v) q f e h = cc
 
 module _ (r : RowsBody) (t : TableMap) where
-  -- what is said of the rows that were found in bytes, where these were taken so
-  abbrev HasAll : Walked (List (List PlacedValue)) → Result (List Row) Verdict → Type 0
+  -- the property of the rows read from bytes, for this result
+  abbrev HasAll : Walked (List (List ColumnValue)) → Result (List Row) Verdict → Type 0
   HasAll w o = (w.fault ≡ None) × (length (rows_in o) ≡ length w.items)
 
-  all-of : (w : Walked (List (List PlacedValue))) (o : Option (List (List (List ℕ)))) → walked_texts w ≡ o → fault_in (rows_by r t o) ≡ None → HasAll w (rows_by r t o)
+  all-of : (w : Walked (List (List ColumnValue))) (o : Option (List (List (List ℕ)))) → walked_texts w ≡ o → fault_in (rows_by r t o) ≡ None → HasAll w (rows_by r t o)
   all-of w None e h = cc
-  all-of w (Some texts) e h = let all = walked-all w texts e in (all.0, length-map texts (λ images. record { change = change_of r; database = t.database; table = t.table; images = images }) ∙ all.1)
+  all-of w (Some texts) e h = let all = walked-all w texts e in (all.0, length-map texts (λ images. record { on_rows = change_of r; database = t.database; table = t.table; images = images }) ∙ all.1)
 
   -- no bytes are no rows
   abbrev rows_of : List ℕ → Bool → Result (List Row) Verdict

@@ -1,4 +1,4 @@
--- Texts that are put one behind the other.
+-- Texts that are appended in sequence.
 use Rattle.std.proofs.Common.{◌≡◌, ℕ, List, ◌∷◌, [], ◌++◌, Some, length, take, drop, ap, ◌∙◌, append_assoc, arith}
 use Rattle.std.proofs.lemmas.List.{take_all}
 use Rattle.std.proofs.Math.ListN.{length-drop}
@@ -8,38 +8,38 @@ use Rattle.std.specs.Fmt.{decimal}
 use Rattle.hex.specs.Hex.{encode_lower}
 use Rattle.events_queries.specs.Queries.{Query}
 use Rattle.feed_writers.specs.Quoting.{quoted}
-use Rattle.feed_rules.specs.KindViews.{gtid_seen}
+use Rattle.feed_rules.specs.KindViews.{gtid_view}
 use Rattle.feed_rules.specs.Texts.{gtid_text, line_text, uuid_text}
 use Rattle.feed_rules.specs.Transactions.{Stated}
 use Rattle.feed_rules.specs.declared.event_kind.Gtid.{Gtid}
 use Rattle.feed_rules.specs.declared.event_kind.Gtid.TheVariants as named
 
 -- one text, and then another
-pub put_behind : (old mid new a b : List ℕ) → mid ≡ old ++ a → new ≡ mid ++ b → new ≡ old ++ (a ++ b)
-put_behind old mid new a b first second = second ∙ ap (λ (t : List ℕ). t ++ b) first ∙ append_assoc old a b
+pub put_after : (old mid new a b : List ℕ) → mid ≡ old ++ a → new ≡ mid ++ b → new ≡ old ++ (a ++ b)
+put_after old mid new a b first second = second ∙ ap (λ (t : List ℕ). t ++ b) first ∙ append_assoc old a b
 
--- ---- identifiers
+-- ---- GTIDs
 
-pub anonymous_put : (g : Gtid) (old new : List ℕ) → g ≡ named.Anonymous → new ≡ old ++ 45 ∷ [] → new ≡ old ++ gtid_text (Some (gtid_seen g))
+pub anonymous_put : (g : Gtid) (old new : List ℕ) → g ≡ named.Anonymous → new ≡ old ++ 45 ∷ [] → new ≡ old ++ gtid_text (Some (gtid_view g))
 unfolding gtid_text
 anonymous_put g old new is h = rw is h
 
 pub numbered_put : (g : Gtid) (uuid : List ℕ) (number : ℕ) (old one two new : List ℕ) → g ≡ named.Numbered uuid number → one ≡ old ++ uuid_text uuid → two ≡ one ++ 58 ∷ [] → new ≡ two ++ decimal number
-    → new ≡ old ++ gtid_text (Some (gtid_seen g))
+    → new ≡ old ++ gtid_text (Some (gtid_view g))
 unfolding gtid_text
 numbered_put g uuid number old one two new is a b c =
-    rw is (put_behind old one new (uuid_text uuid) (58 ∷ decimal number) a (put_behind one two new (58 ∷ []) (decimal number) b c))
+    rw is (put_after old one new (uuid_text uuid) (58 ∷ decimal number) a (put_after one two new (58 ∷ []) (decimal number) b c))
 
-pub tagged_put : (g : Gtid) (body : Bor (List ℕ)) (old one new : List ℕ) → g ≡ named.Tagged body → one ≡ old ++ codes "tagged " → new ≡ one ++ quoted body.now → new ≡ old ++ gtid_text (Some (gtid_seen g))
+pub tagged_put : (g : Gtid) (body : Bor (List ℕ)) (old one new : List ℕ) → g ≡ named.Tagged body → one ≡ old ++ codes "tagged " → new ≡ one ++ quoted body.now → new ≡ old ++ gtid_text (Some (gtid_view g))
 unfolding gtid_text
-tagged_put g body old one new is a b = rw is (put_behind old one new (codes "tagged ") (quoted body.now) a b)
+tagged_put g body old one new is a b = rw is (put_after old one new (codes "tagged ") (quoted body.now) a b)
 
--- the five groups of a uuid
+-- the five groups of a UUID
 pub uuid_put : (u old t0 t1 t2 t3 new : List ℕ) → length u ≡ 16 → t0 ≡ old ++ encode_lower (take 4 u) → t1 ≡ t0 ++ 45 ∷ encode_lower (take 2 (drop 4 u)) → t2 ≡ t1 ++ 45 ∷ encode_lower (take 2 (drop 6 u))
     → t3 ≡ t2 ++ 45 ∷ encode_lower (take 2 (drop 8 u)) → new ≡ t3 ++ 45 ∷ encode_lower (take 6 (drop 10 u)) → new ≡ old ++ uuid_text u
 uuid_put u old t0 t1 t2 t3 new sixteen a b c d e =
     let all : take 6 (drop 10 u) ≡ drop 10 u = take_all 6 (drop 10 u) (omega (arith, sixteen, length-drop 10 u)) in
-    put_behind old t3 new _ _ (put_behind old t2 t3 _ _ (put_behind old t1 t2 _ _ (put_behind old t0 t1 _ _ a b) c) d) (e ∙ ap (λ (l : List ℕ). t3 ++ 45 ∷ encode_lower l) all)
+    put_after old t3 new _ _ (put_after old t2 t3 _ _ (put_after old t1 t2 _ _ (put_after old t0 t1 _ _ a b) c) d) (e ∙ ap (λ (l : List ℕ). t3 ++ 45 ∷ encode_lower l) all)
 
 -- ---- statements
 
@@ -48,4 +48,4 @@ pub statement_put : (q : Query) (schema query old one two new : List ℕ) → sc
 unfolding line_text
 statement_put q schema query old one two new s t a b c =
     let names : two ≡ one ++ (quoted q.schema ++ 32 ∷ quoted q.query) = rw (← s, ← t) b in
-    put_behind old two new (codes "statement " ++ (quoted q.schema ++ 32 ∷ quoted q.query)) (10 ∷ []) (put_behind old one two (codes "statement ") (quoted q.schema ++ 32 ∷ quoted q.query) a names) c
+    put_after old two new (codes "statement " ++ (quoted q.schema ++ 32 ∷ quoted q.query)) (10 ∷ []) (put_after old one two (codes "statement ") (quoted q.schema ++ 32 ∷ quoted q.query) a names) c

@@ -12,9 +12,9 @@ pub mod Rules
 pub mod Texts
 pub mod Sums
 pub mod Tables
-pub mod Standing
-pub mod Sound
-pub mod SoundEvents
+pub mod FeedStates
+pub mod SplitEvents
+pub mod EventCheckers
 pub mod Laws
 pub mod WorkedEvents
 pub mod Verdicts

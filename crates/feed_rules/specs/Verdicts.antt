@@ -1,4 +1,4 @@
--- The names that the program prints of verdicts, and its exit status.
+-- The names and the exit status that the program gives verdicts.
 use Rattle.std.specs.Prelude.{ℕ, List, codes}
 use Rattle.feed_rules.specs.declared.verdict.Verdict.{Verdict}
 use Rattle.feed_rules.specs.declared.verdict.Verdict.TheVariants.{End, Closed, Mark, TooLarge, OutOfNumber, ServerError, NotAnEvent, Frame, Algorithm, Checksum, Size, Body, NoTableMap, Row, Outside, Inside, Unshown, UnknownKind, Memory, Read, Write}
@@ -26,7 +26,7 @@ verdict_name Memory = codes "Memory"
 verdict_name Read = codes "Read"
 verdict_name Write = codes "Write"
 
--- 0 at the end of a binary log or a stream, else 1
+-- 0 for `End`, else 1
 abbrev pub verdict_status : Verdict → ℕ
 verdict_status End = 0
 verdict_status _ = 1

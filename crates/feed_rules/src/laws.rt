@@ -1,4 +1,4 @@
-//! The laws of the rules, each the contract of a function that does nothing.
+//! Laws of the feed's rules, each stated as the contract of a function that does nothing.
 
 ghost use Rattle.std.specs.Prelude.{◌≡◌, ◌↔◌, ◌≤◌, ◌+◌, ℕ, List, [], ◌++◌, Some, None, true, false, codes, length, nat_eq};
 ghost use Rattle.std.specs.List.{starts_with};
@@ -12,11 +12,11 @@ ghost use Rattle.rows_events.specs.EventShapes.{event_rows};
 ghost use Rattle.rows_events.specs.RowsEvents.{RowsBody, IsRowsEvent};
 ghost use Rattle.rows_events.specs.declared.rows_event_ctx.RowsEventCtx.{RowsEventCtx};
 ghost use Rattle.events_bodies.specs.Bodies.{IsRotate, IsXid};
-ghost use Rattle.events_frames.specs.Events.{size_of};
-ghost use Rattle.events_frames.specs.EventParts.{Parts, IsEvent, Describes, least_behind};
+ghost use Rattle.events_frames.specs.Events.{header_size_field};
+ghost use Rattle.events_frames.specs.EventParts.{Parts, IsEvent, Describes, min_content_after};
 ghost use Rattle.events_frames.specs.Descriptions.{Description, IsDescription};
 ghost use Rattle.events_frames.specs.Footers.{Footer};
-ghost use Rattle.events_gtids.specs.Gtids.{Gtid, IsGtid};
+ghost use Rattle.events_gtids.specs.Gtids.{GtidBody, IsGtid};
 ghost use Rattle.events_queries.specs.Queries.{IsQuery};
 ghost use Rattle.feed_rules.specs.Readers.{IsBodyOf};
 ghost use Rattle.feed_rules.specs.Bodies.{query_in, rotate_in, xid_in, table_map_in, rows_event_in, gtid_in, is_description_body};
@@ -27,9 +27,9 @@ ghost use Rattle.feed_rules.specs.Checks.{fault_of};
 ghost use Rattle.feed_rules.specs.Transactions.{Line, Transaction, lines_at};
 ghost use Rattle.feed_rules.specs.Rules.{Rules, rules, good, shown, up_to_fault, fault_after, shown_after};
 ghost use Rattle.feed_rules.specs.Texts.{line_text};
-ghost use Rattle.feed_rules.specs.Laws.{IsOpen, IsOf, Each, IsBetween};
+ghost use Rattle.feed_rules.specs.Laws.{IsOpen, IsCompleteAtEvent, Each, IsBetween};
 
-/// A body is read exactly where it is in its grammar, and as what it spells.
+/// Each `.._in` function reads a body exactly if the body is in its type's format, and returns the value that the format states.
 pub fn bodies_are_read()
     ensures query { IsBodyOf IsQuery query_in }
     ensures rotate { IsBodyOf IsRotate rotate_in }
@@ -38,59 +38,59 @@ pub fn bodies_are_read()
     ensures rows_event { (ctx : RowsEventCtx) → IsBodyOf (IsRowsEvent ctx) (rows_event_in ctx) }
 {}
 
-/// The parts of an event under the description in force are those that its grammar says, and all bytes are an event that are
-/// as long as their header says and long enough for what stands in them.
+/// The computed parts of an event are those that its format states. Bytes are an event if they are as long as their header says
+/// and long enough for their fields.
 pub fn parts_are_those_of_events()
     ensures one { (f : Footer) (e : Event) (p : Parts) → IsEvent f p e → p ≡ parts f e }
-    ensures whole { (f : Footer) (e : Event) → size_of e ≡ length e → 19 + least_behind f (header_of e) (content e) ≤ length e → IsEvent f (parts f e) e }
+    ensures whole { (f : Footer) (e : Event) → header_size_field e ≡ length e → 19 + min_content_after f (header_of e) (content e) ≤ length e → IsEvent f (parts f e) e }
 {}
 
-/// What a description says is computed as its grammar says it.
+/// The computed fields of a format description are those that its format states.
 pub fn descriptions_are_read()
     ensures { (d : Description) (p : Parts) → Describes d p → d ≡ description_by p }
 {}
 
-/// A body is taken for that of a GTID event exactly where it is in its grammar, and its uuid and its number are those that the
-/// grammar says; and a body is taken for a description's exactly where it is in that grammar.
+/// `gtid_in` reads a body exactly if it is in a GTID event's format, with the UUID and the number that the format states.
+/// `is_description_body` accepts a body exactly if it is in a format description's format.
 pub fn gtids_are_read()
-    ensures gtid { (g : Gtid) (body : List ℕ) → IsGtid g body [] → gtid_in body ≡ Some (g.sid, g.gno) }
-    ensures taken { (body : List ℕ) (x : List ℕ × ℕ) → gtid_in body ≡ Some x → (g : Gtid) × IsGtid g body [] }
+    ensures gtid { (g : GtidBody) (body : List ℕ) → IsGtid g body [] → gtid_in body ≡ Some (g.sid, g.gno) }
+    ensures taken { (body : List ℕ) (x : List ℕ × ℕ) → gtid_in body ≡ Some x → (g : GtidBody) × IsGtid g body [] }
     ensures description { (body : List ℕ) → (is_description_body body ≡ true) ↔ ((d : Description) × IsDescription d body []) }
 {}
 
-/// What the first of some events show is the first of what all of them show, whatever the rules.
+/// A prefix of the events shows a prefix of the transactions, under any rules.
 pub fn first_events_show_the_first_transactions()
     ensures { (r : Rules) (first more : List Event) → (later : List Transaction) × (shown r (first ++ more) ≡ shown r first ++ later) }
 {}
 
-/// Where a transaction is open, some begin has no begin, commit, rollback or description after it.
+/// If a transaction is open, there is a begin with no begin, commit, rollback or description after it.
 pub fn inside_is_an_open_begin()
     ensures { (past : List Kind) → is_inside past ≡ true → IsOpen past }
 {}
 
-/// Each transaction that is shown is whole at one of the events without a fault: a stretch from a begin up to the commit
-/// that this event is, or the statement that it is, outside a transaction. No line of it looks like its opening line or its
-/// commit line.
+/// Each shown transaction is complete at one of the events before the first fault: it reaches from a begin to the commit that
+/// this event is, or it is the statement, outside a transaction, that this event is. None of its row and statement lines begins
+/// with `begin ` or `commit `.
 pub fn shown_transactions_are_whole()
-    ensures whole { (f : List ℕ → ℕ) (l : List Event) → Each (IsOf (good (rules f) l)) (shown (rules f) l) }
+    ensures whole { (f : List ℕ → ℕ) (l : List Event) → Each (IsCompleteAtEvent (good (rules f) l)) (shown (rules f) l) }
     ensures not_opening { (x : Line) → starts_with nat_eq (line_text x) (codes "begin ") ≡ false }
     ensures not_closing { (x : Line) → starts_with nat_eq (line_text x) (codes "commit ") ≡ false }
 {}
 
-/// From a place between transactions on, what events show and their first fault follow from the events and the description
-/// in force, whatever came before.
+/// From a position between two transactions on, only the later events and the description in force decide what is shown and which
+/// fault is first. Earlier events don't matter.
 pub fn what_came_before_does_not_matter()
     ensures fault { (f : List ℕ → ℕ) (p q l : List Event) → in_force p ≡ in_force q → IsBetween (kinds p) → IsBetween (kinds q) → fault_after (fault_of f) p l ≡ fault_after (fault_of f) q l }
     ensures shown { (f : List ℕ → ℕ) (p q l : List Event) → in_force p ≡ in_force q → IsBetween (kinds p) → IsBetween (kinds q) → shown_after (rules f) p (up_to_fault (fault_of f) p l) ≡ shown_after (rules f) q (up_to_fault (fault_of f) q l) }
 {}
 
-/// The plan that a table map says is that of the code's plan of the map.
+/// The plan that the specification computes from a table map is that of the code's plan of the map.
 pub fn plans_are_those_of_maps()
     ensures { (plan : ColumnPlan) (map : TableMapEvent) → IsPlanOf plan map → table_plan plan ≡ plan_by (map_of map) }
 {}
 
-/// A rows event has a line for each row that is found by its table map. Where it is shown, its rows data is rows to its end, each
-/// of which is a pair of images, or one image; and it has as many lines as these.
+/// A rows event has one line for each of its rows. If it is no fault, its rows data is rows up to its end, each of them one image
+/// or a pair of images, and it has as many lines as rows.
 pub fn a_line_for_each_row()
     ensures lines { (past : List Kind) (r : RowsBody) → length (lines_at past (Rows r)) ≡ length (rows_in (rows_result (newest_map past r.table_id) r)) }
     ensures pairs { (r : RowsBody) (t : TableMap) → fault_in (rows_result (Some t) r) ≡ None → length (rows_in (rows_result (Some t) r)) ≡ length (event_rows r (plan_by t)).items }

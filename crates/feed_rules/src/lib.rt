@@ -1,21 +1,20 @@
-//! The rules of the change feed: which transactions the events of a binary log show, which event is its first fault, and
-//! why.
+//! The rules of the change feed: which transactions the events of a binary log show, which event is the first fault, and why.
 #![tactic(auto)]
 
+mod checked_parts;
+mod event_checker;
 mod event_kind;
 pub mod laws;
 mod lines;
 mod open_transaction;
-mod sound_events;
-mod sound_parts;
 mod tables;
 mod texts;
 mod transactions;
 mod verdict;
 pub mod worked;
 
+pub use event_checker::EventChecker;
 pub use event_kind::{EventKind, Gtid};
 pub use lines::put_rows;
-pub use sound_events::SoundEvents;
 pub use transactions::Transactions;
 pub use verdict::{Verdict, name_of, status};

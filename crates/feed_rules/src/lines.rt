@@ -1,10 +1,10 @@
-//! The lines of rows.
+//! Prints the lines of a rows event.
 
 ghost use Rattle.std.specs.Prelude.{◌≡◌, ◌++◌, IfOk, IfErr, OnOk};
 ghost use Rattle.rows_cells.specs.ImageViews.{image_shape};
 ghost use Rattle.rows_cells.specs.RowViews.{row_shape};
 ghost use Rattle.feed_text.specs.Buffers.{text_in};
-ghost use Rattle.feed_rules.specs.RowLines.{row_verdict, IsRowRefused, image_text_at, images_texts_at, row_texts_at, rows_texts_at, PutsImage, PutsImages, PutsRow, PutsLines, PutsRows, IsLinesRefused};
+ghost use Rattle.feed_rules.specs.RowLines.{row_verdict, IsRowError, image_text_at, images_texts_at, row_texts_at, rows_texts_at, PutsImage, PutsImages, PutsRow, PutsLines, PutsRows, IsRowsError};
 ghost use Rattle.feed_rules.specs.Rows.{event_texts};
 ghost use Rattle.rows_images.specs.ImageShapes.{table_plan};
 ghost use Rattle.rows_events.specs.Views.{body_of};
@@ -17,11 +17,14 @@ use rows_images::ColumnPlan;
 use rows_times::RowsError;
 use std::alloc::{Allocator, Global};
 
-/// Appends a line for each row of an event, by the plan of its table. Each line begins with `start`: what happened to the row,
-/// and the names of its table. `columns` is a buffer for the columns of the event's images.
+/// Appends a line for each row of an event. `plan` is that of the event's table; each line begins with `start`, the kind of
+/// change and the names of the table; `columns` is a buffer for the columns of the event's images. An event without rows data has
+/// no lines, and its columns aren't checked.
 ///
-/// `Row` where a row can't be read, or has no text, or takes no bytes, and `Memory` for want of memory; some of the lines are
-/// put then. An event without rows data has no lines, and its columns aren't looked at.
+/// - `Row`: a row can't be read, can't be printed, or takes no bytes.
+/// - `Memory`: out of memory.
+///
+/// After an error, `text` may hold some of the lines.
 pub fn put_rows<A: Allocator>(
     alloc: Global,
     event: &RowsEvent<'_>,
@@ -31,7 +34,7 @@ pub fn put_rows<A: Allocator>(
     text: &mut TextBuffer<A>,
 ) -> Result<(), Verdict>
     ensures ok { OnOk result (PutsRows (body_of event.now) (table_plan plan.now) start.now (text_in text.old) (text_in text.new)) }
-    ensures err { IfErr result (IsLinesRefused (event_texts (body_of event.now) (table_plan plan.now))) }
+    ensures err { IfErr result (IsRowsError (event_texts (body_of event.now) (table_plan plan.now))) }
 {
     if event.rows_data().is_empty() {
         return Ok(());
@@ -44,7 +47,7 @@ pub fn put_rows<A: Allocator>(
     put_lines(alloc, images, start, rows.rest(), text)
 }
 
-/// What a fault of rows is to the feed.
+/// The feed's verdict for an error of the rows reader.
 fn row_verdict(fault: RowsError) -> Verdict
     ensures { result ≡ row_verdict fault }
 {
@@ -54,7 +57,7 @@ fn row_verdict(fault: RowsError) -> Verdict
     }
 }
 
-/// Appends the text of the image at the front of the bytes, and answers what follows it.
+/// Appends the text of the image at the start of the bytes, and returns the remaining bytes.
 fn put_image<'a, A: Allocator>(
     alloc: Global,
     plan: ImagePlan<'_>,
@@ -62,7 +65,7 @@ fn put_image<'a, A: Allocator>(
     text: &mut TextBuffer<A>,
 ) -> Result<&'a [u8], Verdict>
     ensures ok { IfOk result (λ rest. PutsImage (image_shape plan.entry) bytes.now rest.now (text_in text.old) (text_in text.new)) }
-    ensures err { IfErr result (IsRowRefused (image_text_at (image_shape plan.entry) bytes.now)) }
+    ensures err { IfErr result (IsRowError (image_text_at (image_shape plan.entry) bytes.now)) }
 {
     let mut cells = match ImageCells::of(plan, bytes) {
         Ok(cells) => cells,
@@ -74,7 +77,7 @@ fn put_image<'a, A: Allocator>(
     }
 }
 
-/// Appends the texts of the images of a row, with ` to` between two, and answers what follows them.
+/// Appends the texts of a row's images, with ` to` between the two of an update, and returns the remaining bytes.
 fn put_images<'a, A: Allocator>(
     alloc: Global,
     plan: RowPlan<'_>,
@@ -82,7 +85,7 @@ fn put_images<'a, A: Allocator>(
     text: &mut TextBuffer<A>,
 ) -> Result<&'a [u8], Verdict>
     ensures ok { IfOk result (λ rest. PutsImages (row_shape plan.entry) bytes.now rest.now (text_in text.old) (text_in text.new)) }
-    ensures err { IfErr result (IsRowRefused (images_texts_at (row_shape plan.entry) bytes.now)) }
+    ensures err { IfErr result (IsRowError (images_texts_at (row_shape plan.entry) bytes.now)) }
 {
     let rest = put_image(alloc, plan.first, bytes, text)?;
     let Some(second) = plan.second else {
@@ -92,7 +95,7 @@ fn put_images<'a, A: Allocator>(
     put_image(alloc, second, rest, text)
 }
 
-/// Appends the text of the row at the front, and answers what follows it.
+/// Appends the text of the row at the start of the bytes, and returns the remaining bytes.
 fn put_row<'a, A: Allocator>(
     alloc: Global,
     plan: RowPlan<'_>,
@@ -100,7 +103,7 @@ fn put_row<'a, A: Allocator>(
     text: &mut TextBuffer<A>,
 ) -> Result<&'a [u8], Verdict>
     ensures ok { IfOk result (λ rest. PutsRow (row_shape plan.entry) bytes.now rest.now (text_in text.old) (text_in text.new)) }
-    ensures err { IfErr result (IsRowRefused (row_texts_at (row_shape plan.entry) bytes.now)) }
+    ensures err { IfErr result (IsRowError (row_texts_at (row_shape plan.entry) bytes.now)) }
 {
     let rest = put_images(alloc, plan, bytes, text)?;
     if rest.len() >= bytes.len() {
@@ -109,7 +112,7 @@ fn put_row<'a, A: Allocator>(
     Ok(rest)
 }
 
-/// Appends a line for each row, each of which begins so: the rows that the bytes are, to their end.
+/// Appends a line for each row of the rows data, up to its end. Each line begins with `start`.
 fn put_lines<A: Allocator>(
     alloc: Global,
     plan: RowPlan<'_>,
@@ -118,7 +121,7 @@ fn put_lines<A: Allocator>(
     text: &mut TextBuffer<A>,
 ) -> Result<(), Verdict>
     ensures ok { OnOk result (PutsLines (row_shape plan.entry) start.now rows_data.now (text_in text.old) (text_in text.new)) }
-    ensures err { IfErr result (IsLinesRefused (rows_texts_at (row_shape plan.entry) rows_data.now)) }
+    ensures err { IfErr result (IsRowsError (rows_texts_at (row_shape plan.entry) rows_data.now)) }
 {
     let mut rest = rows_data;
     while !rest.is_empty() {

@@ -1,11 +1,11 @@
-//! The text of the lines of transactions.
+//! Prints the lines of transactions.
 
 ghost use Rattle.std.specs.Prelude.{◌≡◌, ◌++◌, ◌∷◌, OnOk, Some};
 ghost use Rattle.hex.specs.Hex.{encode_lower};
 ghost use Rattle.events_queries.specs.QueryViews.{query_of};
 ghost use Rattle.feed_writers.specs.Quoting.{quoted};
 ghost use Rattle.feed_text.specs.Buffers.{text_in};
-ghost use Rattle.feed_rules.specs.KindViews.{gtid_seen};
+ghost use Rattle.feed_rules.specs.KindViews.{gtid_view};
 ghost use Rattle.feed_rules.specs.Rows.{change_by};
 ghost use Rattle.feed_rules.specs.Transactions.{Stated};
 ghost use Rattle.feed_rules.specs.Texts.{change_word, commit_line, gtid_text, line_text, uuid_text};
@@ -16,14 +16,12 @@ use feed_text::TextBuffer;
 use rows_events::RowImages;
 use std::alloc::{AllocError, Allocator};
 
-/// Appends the text of an identifier: `-`, the uuid and the number, or the body of a tagged one.
-///
-/// Some of it may be appended where memory is refused.
+/// Appends the text of a GTID: `-`, `uuid:number`, or `tagged` and the quoted body. Out of memory: a part of it may be appended.
 pub(crate) fn put_gtid<A: Allocator>(
     gtid: &Gtid<'_>,
     text: &mut TextBuffer<A>,
 ) -> Result<(), AllocError>
-    ensures ok { OnOk result (text_in text.new ≡ text_in text.old ++ gtid_text (Some (gtid_seen gtid.now))) }
+    ensures ok { OnOk result (text_in text.new ≡ text_in text.old ++ gtid_text (Some (gtid_view gtid.now))) }
 {
     match gtid {
         Gtid::Anonymous => text.put(b'-'),
@@ -39,9 +37,7 @@ pub(crate) fn put_gtid<A: Allocator>(
     }
 }
 
-/// Appends the line of a statement: its schema and its text between quotes.
-///
-/// Some of it may be appended where memory is refused.
+/// Appends the line of a statement: its quoted schema and its quoted text. Out of memory: a part of it may be appended.
 pub(crate) fn put_statement<A: Allocator>(
     query: &QueryEvent<'_>,
     text: &mut TextBuffer<A>,
@@ -53,9 +49,8 @@ pub(crate) fn put_statement<A: Allocator>(
     text.put(b'\n')
 }
 
-/// Appends the line of a commit: the position behind it in its log.
-///
-/// Some of it may be appended where memory is refused.
+/// Appends the commit line: `log_pos` is the position in the log after the commit event. Out of memory: a part of it may be
+/// appended.
 pub(crate) fn put_commit<A: Allocator>(
     log_pos: u32,
     text: &mut TextBuffer<A>,
@@ -67,9 +62,8 @@ pub(crate) fn put_commit<A: Allocator>(
     text.put(b'\n')
 }
 
-/// Appends what the line of a row begins with: what happened to the row, and the names of its table.
-///
-/// Some of it may be appended where memory is refused.
+/// Appends the start of a row's line: the kind of change, and the names of the table. Out of memory: a part of it may be
+/// appended.
 pub(crate) fn put_row_start<A: Allocator>(
     images: RowImages,
     names: &[u8],
@@ -81,7 +75,7 @@ pub(crate) fn put_row_start<A: Allocator>(
     text.put_text(names)
 }
 
-/// What an event whose rows have these images does to them, and a blank.
+/// The word for what an event with these images does to a row, and a space.
 fn change_word(images: RowImages) -> &'static [u8]
     ensures { result.now ≡ change_word (change_by images) }
 {
@@ -92,7 +86,7 @@ fn change_word(images: RowImages) -> &'static [u8]
     }
 }
 
-/// Appends two strings between quotes, with a blank between them.
+/// Appends two quoted strings with a space between them.
 pub(crate) fn put_two_quoted<A: Allocator>(
     first: &[u8],
     second: &[u8],
@@ -105,7 +99,7 @@ pub(crate) fn put_two_quoted<A: Allocator>(
     text.put_quoted(second)
 }
 
-/// Appends a uuid in hexadecimal digits, in five groups.
+/// Appends a UUID in hexadecimal digits, in groups of 8, 4, 4, 4 and 12.
 fn put_uuid<A: Allocator>(uuid: &[u8; 16], text: &mut TextBuffer<A>) -> Result<(), AllocError>
     ensures ok { OnOk result (text_in text.new ≡ text_in text.old ++ uuid_text uuid.now) }
 {

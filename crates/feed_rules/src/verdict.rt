@@ -1,4 +1,4 @@
-//! How a report or a stream ended.
+//! The result of a report or a stream.
 
 ghost use Rattle.std.specs.Prelude.{◌≡◌};
 ghost use Rattle.feed_rules.specs.declared.verdict.Verdict.TheVariants.{Memory};
@@ -6,46 +6,46 @@ ghost use Rattle.feed_rules.specs.Verdicts.{verdict_name, verdict_status};
 
 use std::alloc::{AllocError, AllocFailed};
 
-/// How a report or a stream ended: well, unfinished, or with its first fault.
+/// The result of a report or a stream: its end, an unfinished stream, or the first fault.
 #[derive(Clone, Copy, Debug, PartialEq, Eq)]
 pub enum Verdict {
-    /// A binary log ended after or within an event, or a stream by its closing packet.
+    /// The binary log ended after or within an event, or the stream with its closing packet.
     End,
-    /// A stream ended without its closing packet.
+    /// The stream ended without its closing packet.
     Closed,
-    /// A file doesn't begin with `fe 62 69 6e`.
+    /// The file doesn't begin with the magic number `fe 62 69 6e`.
     Mark,
     /// A packet is longer than the limit.
     TooLarge,
     /// A packet's sequence number isn't the next one.
     OutOfNumber,
-    /// A server sent an error packet.
+    /// The server sent an error packet.
     ServerError,
-    /// A payload is no event, no closing packet and no error packet.
+    /// A payload is neither an event nor a closing packet nor an error packet.
     NotAnEvent,
-    /// An event is shorter than its header, its checksum or its description must be.
+    /// An event is shorter than its header and checksum, or than a format description's fields.
     Frame,
-    /// A description's checksum algorithm is unknown.
+    /// The checksum algorithm of a format description is unknown.
     Algorithm,
     /// An event's stored checksum isn't that of its bytes.
     Checksum,
     /// An event is longer than 4,294,967,276 bytes.
     Size,
-    /// An event's body isn't in its grammar.
+    /// An event's body isn't in its type's format.
     Body,
-    /// Rows came of a table that no table map of the transaction names.
+    /// The transaction has no table map for the table of a rows event.
     NoTableMap,
-    /// A row can't be read, or is empty.
+    /// A row can't be read, or takes no bytes.
     Row,
-    /// A commit or rows came outside a transaction.
+    /// A commit, a rollback or rows outside a transaction.
     Outside,
-    /// A transaction was opened within another.
+    /// A begin, a GTID or a rotate within an open transaction, or a GTID or a rotate while a GTID waits.
     Inside,
-    /// An event came of a known kind that the feed doesn't show.
+    /// An event that the feed knows but doesn't show.
     Unshown,
-    /// An event came of an unknown kind that may not be ignored.
+    /// An event of an unknown type without LOG_EVENT_IGNORABLE_F.
     UnknownKind,
-    /// A growth was refused.
+    /// Out of memory.
     Memory,
     /// The reader failed.
     Read,
@@ -53,7 +53,7 @@ pub enum Verdict {
     Write,
 }
 
-/// A verdict's name, as the program prints it.
+/// The name of a verdict, as the program prints it.
 pub fn name_of(verdict: &Verdict) -> &'static str
     ensures { result.now ≡ verdict_name verdict.now }
 {
@@ -82,7 +82,7 @@ pub fn name_of(verdict: &Verdict) -> &'static str
     }
 }
 
-/// The exit status of a program that ended with this verdict: 0 for `End`, else 1.
+/// The exit status of a program for a verdict: 0 for `End`, else 1.
 pub fn status(verdict: &Verdict) -> u8
     ensures { result ≡ verdict_status verdict.now }
 {

@@ -1,4 +1,4 @@
-//! Worked examples, which the definitions compute: lists of events with the text that they show and their first fault.
+//! Worked examples, computed from the definitions: lists of events, the text that they show and their first fault.
 
 ghost use Rattle.std.specs.Prelude.{◌≡◌, [], ◌∷◌, ◌++◌, codes, Some, None};
 ghost use Rattle.feed_rules.specs.declared.verdict.Verdict.TheVariants as v;
@@ -27,7 +27,7 @@ pub fn worked_checksums()
     ensures unknown_algorithm { shown_of (description_event 2 ∷ []) ≡ shows [] (Some v.Algorithm) }
 {}
 
-/// Statements, GTIDs and events of other kinds.
+/// Statements, GTIDs and events of other types.
 pub fn worked_kinds()
     ensures lone_statement { shown_of (query_event 53 (codes "test") (codes "drop table t") ∷ []) ≡ shows (transaction (codes "-") (codes "statement 'test' 'drop table t'") (codes "53")) None }
     ensures transaction_with_gtid { shown_of (gtid_event ∷ one_insert_events) ≡ shows (insert_text (codes "01020304-0506-0708-090a-0b0c0d0e0f10:5") (codes "142")) None }

@@ -1,95 +1,95 @@
--- Packets that are written chunk by chunk.
+-- Packets, written chunk by chunk.
 use Rattle.std.proofs.Common.{◌≡◌, ℕ, ◌+◌, ◌%◌, ◌<◌, ◌≤◌, Bool, true, false, ◌⊎◌, inl, inr, min, List, [], ◌∷◌, ◌++◌, length, take, drop, Option, refl, sym, ap, subst, ◌∙◌, append_assoc, length-append, arith}
 use Rattle.std.specs.Prelude.{◌==◌}
 use Rattle.std.specs.Io.KnownBytes.{Appends}
 use Rattle.std.proofs.KnownBytes.{Appends-nil, Appends-trans}
 use Rattle.std.proofs.lemmas.List.{append-nil, take-append-drop}
-use Rattle.wire_packets.specs.Framing.{longest, chunk, framing, next_number}
+use Rattle.wire_packets.specs.Framing.{max_chunk_len, chunk, framing, next_sequence_id}
 use Rattle.wire_packets.proofs.FramingLemmas.{same_chunk}
 use Rattle.wire_packets.proofs.PacketLemmas.{framing_short, framing_long, order}
 use Rattle.feed_rules.specs.declared.verdict.Verdict.{Verdict}
-use Rattle.feed_reports.specs.Writing.{IsCutWrite}
+use Rattle.feed_reports.specs.Writing.{IsInterruptedWrite}
 
--- ---- writes that are cut short
+-- ---- interrupted writes
 
--- behind bytes that were written
-pub cut-later : (old mid new : Option (List ℕ)) (a b : List ℕ) (failed : Bool) (v : Verdict) → Appends old mid a → IsCutWrite mid new b failed v → IsCutWrite old new (a ++ b) failed v
+-- after bytes that were written
+pub cut-later : (old mid new : Option (List ℕ)) (a b : List ℕ) (failed : Bool) (v : Verdict) → Appends old mid a → IsInterruptedWrite mid new b failed v → IsInterruptedWrite old new (a ++ b) failed v
 cut-later old mid new a b failed v w h =
-    (h.0, record { front = a ++ h.1.front; back = h.1.back; parts = append_assoc a h.1.front h.1.back ∙ ap (λ (t : List ℕ). a ++ t) h.1.parts; written = Appends-trans old mid new a h.1.front w h.1.written }, h.2)
+    (h.0, record { prefix = a ++ h.1.prefix; suffix = h.1.suffix; parts = append_assoc a h.1.prefix h.1.suffix ∙ ap (λ (t : List ℕ). a ++ t) h.1.parts; written = Appends-trans old mid new a h.1.prefix w h.1.written }, h.2)
 
 -- before bytes that come later
-pub cut-sooner : (old new : Option (List ℕ)) (a b : List ℕ) (failed : Bool) (v : Verdict) → IsCutWrite old new a failed v → IsCutWrite old new (a ++ b) failed v
+pub cut-sooner : (old new : Option (List ℕ)) (a b : List ℕ) (failed : Bool) (v : Verdict) → IsInterruptedWrite old new a failed v → IsInterruptedWrite old new (a ++ b) failed v
 cut-sooner old new a b failed v h =
-    (h.0, record { front = h.1.front; back = h.1.back ++ b; parts = sym (append_assoc h.1.front h.1.back b) ∙ ap (λ (t : List ℕ). t ++ b) h.1.parts; written = h.1.written }, h.2)
+    (h.0, record { prefix = h.1.prefix; suffix = h.1.suffix ++ b; parts = sym (append_assoc h.1.prefix h.1.suffix b) ∙ ap (λ (t : List ℕ). t ++ b) h.1.parts; written = h.1.written }, h.2)
 
 -- ---- chunks
 
--- Some first chunks of a packet were written; the next has this number, and these bytes are left for it and those behind it.
+-- The first few chunks of a packet were written; the next has this number, and `rest` are the bytes for it and the chunks after it.
 pub record IsWithin (k : ℕ) (p : List ℕ) (old now : Option (List ℕ)) (number : ℕ) (rest : List ℕ) : Type 0 where
   pub at : ℕ
-  pub front : List ℕ
-  pub is : framing k p ≡ front ++ framing at rest
-  pub next : next_number k p ≡ next_number at rest
+  pub prefix : List ℕ
+  pub is : framing k p ≡ prefix ++ framing at rest
+  pub next : next_sequence_id k p ≡ next_sequence_id at rest
   pub counted : number ≡ at % 256
-  pub written : Appends old now front
+  pub written : Appends old now prefix
 
--- all of it was written, and the chunk behind it has this number
-pub record IsBehind (k : ℕ) (p : List ℕ) (old now : Option (List ℕ)) (number : ℕ) : Type 0 where
+-- The whole packet was written, and the next chunk has this number.
+pub record IsAfter (k : ℕ) (p : List ℕ) (old now : Option (List ℕ)) (number : ℕ) : Type 0 where
   pub written : Appends old now (framing k p)
-  pub next : number ≡ next_number k p
+  pub next : number ≡ next_sequence_id k p
 
 pub within-none : (k : ℕ) (p : List ℕ) (old : Option (List ℕ)) → k < 256 → IsWithin k p old old k p
-within-none k p old h = record { at = k; front = []; is = refl; next = refl; counted = omega arith; written = Appends-nil old }
+within-none k p old h = record { at = k; prefix = []; is = refl; next = refl; counted = omega arith; written = Appends-nil old }
 
--- a chunk is the last where it isn't of the greatest length
+-- a chunk is the last if it is shorter than the maximum
 abbrev pub IsLast : List ℕ → List ℕ → Type 0
-IsLast a b = (length a < longest) × (b ≡ [])
+IsLast a b = (length a < max_chunk_len) × (b ≡ [])
 
 module _ (k : ℕ) (p : List ℕ) (old now new : Option (List ℕ)) (number : ℕ) (rest a b : List ℕ) (h : IsWithin k p old now number rest) (parts : rest ≡ a ++ b) where
   -- the packet from such a chunk on
-  long : length a ≡ longest → framing h.at rest ≡ chunk number a ++ framing (h.at + 1) b
+  long : length a ≡ max_chunk_len → framing h.at rest ≡ chunk number a ++ framing (h.at + 1) b
   long l = ap (framing h.at) parts ∙ framing_long h.at a b l ∙ ap (λ (c : List ℕ). c ++ framing (h.at + 1) b) (sym (same_chunk number h.at a h.counted))
 
   short : IsLast a b → framing h.at rest ≡ chunk number a
   short l = ap (framing h.at) (parts ∙ ap (λ (t : List ℕ). a ++ t) l.1 ∙ append-nil a) ∙ framing_short h.at a l.0 ∙ sym (same_chunk number h.at a h.counted)
 
-  pub within-more : length a ≡ longest → Appends now new (chunk number a) → IsWithin k p old new ((number + 1) % 256) b
+  pub within-more : length a ≡ max_chunk_len → Appends now new (chunk number a) → IsWithin k p old new ((number + 1) % 256) b
   within-more l w = record {
     at = h.at + 1;
-    front = h.front ++ chunk number a;
-    is = h.is ∙ ap (λ (t : List ℕ). h.front ++ t) (long l) ∙ sym (append_assoc h.front (chunk number a) (framing (h.at + 1) b));
+    prefix = h.prefix ++ chunk number a;
+    is = h.is ∙ ap (λ (t : List ℕ). h.prefix ++ t) (long l) ∙ sym (append_assoc h.prefix (chunk number a) (framing (h.at + 1) b));
     next = h.next ∙ numbers;
     counted = omega (arith, h.counted);
-    written = Appends-trans old now new h.front (chunk number a) h.written w;
+    written = Appends-trans old now new h.prefix (chunk number a) h.written w;
   }
     where
-      numbers : next_number h.at rest ≡ next_number (h.at + 1) b
-      numbers = let e : length rest ≡ longest + length b = ap length parts ∙ length-append a b ∙ ap (λ (n : ℕ). n + length b) l in omega (arith, e)
+      numbers : next_sequence_id h.at rest ≡ next_sequence_id (h.at + 1) b
+      numbers = let e : length rest ≡ max_chunk_len + length b = ap length parts ∙ length-append a b ∙ ap (λ (n : ℕ). n + length b) l in omega (arith, e)
 
-  pub behind-last : IsLast a b → Appends now new (chunk number a) → IsBehind k p old new ((number + 1) % 256)
-  behind-last l w = record {
-    written = subst (Appends old new) (sym (h.is ∙ ap (λ (t : List ℕ). h.front ++ t) (short l))) (Appends-trans old now new h.front (chunk number a) h.written w);
+  pub after-last : IsLast a b → Appends now new (chunk number a) → IsAfter k p old new ((number + 1) % 256)
+  after-last l w = record {
+    written = subst (Appends old new) (sym (h.is ∙ ap (λ (t : List ℕ). h.prefix ++ t) (short l))) (Appends-trans old now new h.prefix (chunk number a) h.written w);
     next = numbers;
   }
     where
-      numbers : (number + 1) % 256 ≡ next_number k p
+      numbers : (number + 1) % 256 ≡ next_sequence_id k p
       numbers = let e : length rest ≡ length a = ap length (parts ∙ ap (λ (t : List ℕ). a ++ t) l.1 ∙ append-nil a) in omega (arith, e, h.next, h.counted, l.0)
 
-  pub cut-within : (length a ≡ longest) ⊎ IsLast a b → (failed : Bool) (v : Verdict) → IsCutWrite now new (chunk number a) failed v → IsCutWrite old new (framing k p) failed v
-  cut-within (inl l) failed v c = subst (λ (t : List ℕ). IsCutWrite old new t failed v) (sym (h.is ∙ ap (λ (t : List ℕ). h.front ++ t) (long l))) (cut-later old now new h.front (chunk number a ++ framing (h.at + 1) b) failed v h.written (cut-sooner now new (chunk number a) (framing (h.at + 1) b) failed v c))
-  cut-within (inr l) failed v c = subst (λ (t : List ℕ). IsCutWrite old new t failed v) (sym (h.is ∙ ap (λ (t : List ℕ). h.front ++ t) (short l))) (cut-later old now new h.front (chunk number a) failed v h.written c)
+  pub cut-within : (length a ≡ max_chunk_len) ⊎ IsLast a b → (failed : Bool) (v : Verdict) → IsInterruptedWrite now new (chunk number a) failed v → IsInterruptedWrite old new (framing k p) failed v
+  cut-within (inl l) failed v c = subst (λ (t : List ℕ). IsInterruptedWrite old new t failed v) (sym (h.is ∙ ap (λ (t : List ℕ). h.prefix ++ t) (long l))) (cut-later old now new h.prefix (chunk number a ++ framing (h.at + 1) b) failed v h.written (cut-sooner now new (chunk number a) (framing (h.at + 1) b) failed v c))
+  cut-within (inr l) failed v c = subst (λ (t : List ℕ). IsInterruptedWrite old new t failed v) (sym (h.is ∙ ap (λ (t : List ℕ). h.prefix ++ t) (short l))) (cut-later old now new h.prefix (chunk number a) failed v h.written c)
 
--- ---- how a payload is cut
+-- ---- how a payload is split
 
 none_left : (b : List ℕ) → length b ≡ 0 → b ≡ []
 none_left [] h = refl
 none_left (x ∷ b) h = absurd (omega (arith, h))
 
--- as many bytes as fit are a whole chunk or the last
-pub either-chunk : (rest a b : List ℕ) → rest ≡ a ++ b → length a ≡ min (length rest) longest → (length a ≡ longest) ⊎ IsLast a b
-either-chunk rest a b parts len = either (order (length a) longest)
+-- as many bytes as fit are a full chunk or the last
+pub either-chunk : (rest a b : List ℕ) → rest ≡ a ++ b → length a ≡ min (length rest) max_chunk_len → (length a ≡ max_chunk_len) ⊎ IsLast a b
+either-chunk rest a b parts len = either (order (length a) max_chunk_len)
   where
-    either : (length a < longest) ⊎ (longest ≤ length a) → (length a ≡ longest) ⊎ IsLast a b
+    either : (length a < max_chunk_len) ⊎ (max_chunk_len ≤ length a) → (length a ≡ max_chunk_len) ⊎ IsLast a b
     either (inl lt) = inr (lt, none_left b (omega (arith, ap length parts, length-append a b, len, lt)))
     either (inr ge) = inl (omega (arith, len, ge))
 
@@ -99,19 +99,19 @@ joined-parts n rest a b p q = sym (ap (λ (x : List ℕ). x ++ b) p ∙ ap (λ (
 pub led-parts : (n : ℕ) (lead body a b : List ℕ) → a ≡ take n body → b ≡ drop n body → lead ++ body ≡ (lead ++ a) ++ b
 led-parts n lead body a b p q = ap (λ (x : List ℕ). lead ++ x) (joined-parts n body a b p q) ∙ sym (append_assoc lead a b)
 
--- the test whether a chunk is whole
-pub whole-then : (a b : List ℕ) (n : ℕ) → n ≡ length a → (n == longest) ≡ true → length a ≡ longest
+-- the test whether a chunk is full
+pub whole-then : (a b : List ℕ) (n : ℕ) → n ≡ length a → (n == max_chunk_len) ≡ true → length a ≡ max_chunk_len
 whole-then a b n e h = grind arith
 
-pub last-then : (a b : List ℕ) (n : ℕ) → n ≡ length a → (n == longest) ≡ false → (length a ≡ longest) ⊎ IsLast a b → IsLast a b
+pub last-then : (a b : List ℕ) (n : ℕ) → n ≡ length a → (n == max_chunk_len) ≡ false → (length a ≡ max_chunk_len) ⊎ IsLast a b → IsLast a b
 last-then a b n e h (inl l) = absurd (not_both n (e ∙ l) h)
   where
-    not_both : (n : ℕ) → n ≡ longest → (n == longest) ≡ false → ⊥
+    not_both : (n : ℕ) → n ≡ max_chunk_len → (n == max_chunk_len) ≡ false → ⊥
     not_both n e h = grind arith
 last-then a b n e h (inr l) = l
 
 -- the next chunk of a packet
-pub within-next : (k : ℕ) (p : List ℕ) (old now new : Option (List ℕ)) (number : ℕ) (rest a b : List ℕ) (n : ℕ) → IsWithin k p old now number rest → rest ≡ a ++ b → (length a ≡ longest) ⊎ IsLast a b → n ≡ length a → Appends now new (chunk number a)
-    → ((n == longest) ≡ true → IsWithin k p old new ((number + 1) % 256) b) × ((n == longest) ≡ false → IsBehind k p old new ((number + 1) % 256))
+pub within-next : (k : ℕ) (p : List ℕ) (old now new : Option (List ℕ)) (number : ℕ) (rest a b : List ℕ) (n : ℕ) → IsWithin k p old now number rest → rest ≡ a ++ b → (length a ≡ max_chunk_len) ⊎ IsLast a b → n ≡ length a → Appends now new (chunk number a)
+    → ((n == max_chunk_len) ≡ true → IsWithin k p old new ((number + 1) % 256) b) × ((n == max_chunk_len) ≡ false → IsAfter k p old new ((number + 1) % 256))
 within-next k p old now new number rest a b n h parts which e w =
-    (λ t. within-more k p old now new number rest a b h parts (whole-then a b n e t) w, λ f. behind-last k p old now new number rest a b h parts (last-then a b n e f which) w)
+    (λ t. within-more k p old now new number rest a b h parts (whole-then a b n e t) w, λ f. after-last k p old now new number rest a b h parts (last-then a b n e f which) w)

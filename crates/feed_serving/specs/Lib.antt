@@ -1,5 +1,5 @@
 pub mod Requests
-pub mod Places
+pub mod Positions
 pub mod Serving
 pub mod Sending
 pub mod ServedNames

@@ -1,4 +1,4 @@
-//! A server of a binary log: it takes a request, and sends the file's own events from a place on.
+//! A server of a binary log: it takes a request, and sends the file's events from a position on.
 #![tactic(auto)]
 
 pub mod laws;

@@ -1,10 +1,10 @@
-//! Packets, written straight from the bytes of their payloads.
+//! Writes packets directly from the bytes of their payloads.
 
 ghost use Rattle.std.specs.Prelude.{◌≡◌, ℕ, List, ◌+◌, ◌≤◌, ◌++◌, length, OnOk, IfOk, IfErr};
 ghost use Rattle.std.specs.Io.KnownBytes.{Appends};
 ghost use Rattle.wire_buf.specs.Watched.{inner_of, has_failed};
-ghost use Rattle.wire_packets.specs.Framing.{longest, chunk, framing, next_number};
-ghost use Rattle.feed_reports.specs.Writing.{IsCutWrite};
+ghost use Rattle.wire_packets.specs.Framing.{max_chunk_len, chunk, framing, next_sequence_id};
+ghost use Rattle.feed_reports.specs.Writing.{IsInterruptedWrite};
 
 use feed_reports::put_all;
 use feed_rules::Verdict;
@@ -14,13 +14,11 @@ use wire_buf::Watched;
 use wire_consts::MAX_PAYLOAD_LEN;
 use wire_packets::{PACKET_HEADER_LEN, chunk_header};
 
-/// The greatest length of what stands before an event in a payload, in bytes.
+/// The maximum length of what precedes an event in a payload, in bytes.
 const MAX_LEAD_LEN: usize = 3;
 
-/// Writes one chunk: its length in three bytes, its number, and its bytes, which are these two runs. What stands before the
-/// second run is written at once.
-///
-/// Refused with `Write` where the writer failed; a front of the chunk is then written.
+/// Writes one chunk: its length in three bytes, its sequence number, and its bytes, `lead` and then `slice`. The header and
+/// `lead` are written at once. `Write`: the writer failed after a prefix of the chunk.
 fn put_chunk<W: Write>(
     writer: &mut Watched<W>,
     number: u8,
@@ -28,25 +26,23 @@ fn put_chunk<W: Write>(
     slice: &[u8],
 ) -> Result<(), Verdict>
     requires lead { length lead.now ≤ MAX_LEAD_LEN }
-    requires short { length lead.now + length slice.now ≤ longest }
+    requires short { length lead.now + length slice.now ≤ max_chunk_len }
     ensures ok { OnOk result (Appends (W.contents (inner_of writer.old)) (W.contents (inner_of writer.new)) (chunk number (lead.now ++ slice.now))) }
-    ensures fault { IfErr result (IsCutWrite (W.contents (inner_of writer.old)) (W.contents (inner_of writer.new)) (chunk number (lead.now ++ slice.now)) (has_failed writer.new)) }
+    ensures fault { IfErr result (IsInterruptedWrite (W.contents (inner_of writer.old)) (W.contents (inner_of writer.new)) (chunk number (lead.now ++ slice.now)) (has_failed writer.new)) }
 {
-    let mut front = [0; PACKET_HEADER_LEN + MAX_LEAD_LEN];
+    let mut prefix = [0; PACKET_HEADER_LEN + MAX_LEAD_LEN];
     let begin = put_bytes(
-        &mut front,
+        &mut prefix,
         0,
         &chunk_header(lead.len() + slice.len(), number),
     );
-    let end = put_bytes(&mut front, begin, lead);
-    put_all(writer, &front[..end])?;
+    let end = put_bytes(&mut prefix, begin, lead);
+    put_all(writer, &prefix[..end])?;
     put_all(writer, slice)
 }
 
-/// Writes the packet of the payload that is `lead` and then `body`, in chunks numbered from `number` on, and answers the
-/// number of the chunk after it.
-///
-/// Refused with `Write` where the writer failed; a front of the packet is then written.
+/// Writes the packet of the payload `lead` and then `body`, in chunks with sequence numbers from `number` on, and returns the
+/// number after the last. `Write`: the writer failed after a prefix of the packet.
 pub(crate) fn put_packet<W: Write>(
     writer: &mut Watched<W>,
     number: u8,
@@ -55,8 +51,8 @@ pub(crate) fn put_packet<W: Write>(
 ) -> Result<u8, Verdict>
     requires { length lead.now ≤ MAX_LEAD_LEN }
     ensures ok { OnOk result (Appends (W.contents (inner_of writer.old)) (W.contents (inner_of writer.new)) (framing number (lead.now ++ body.now))) }
-    ensures next { IfOk result (λ n. n ≡ next_number number (lead.now ++ body.now)) }
-    ensures fault { IfErr result (IsCutWrite (W.contents (inner_of writer.old)) (W.contents (inner_of writer.new)) (framing number (lead.now ++ body.now)) (has_failed writer.new)) }
+    ensures next { IfOk result (λ n. n ≡ next_sequence_id number (lead.now ++ body.now)) }
+    ensures fault { IfErr result (IsInterruptedWrite (W.contents (inner_of writer.old)) (W.contents (inner_of writer.new)) (framing number (lead.now ++ body.now)) (has_failed writer.new)) }
 {
     let (slice, mut rest) = body.split_at(body.len().min(MAX_PAYLOAD_LEN - lead.len()));
     put_chunk(writer, number, lead, slice)?;

@@ -1,7 +1,7 @@
-//! Requests for a binary log, as a server takes them.
+//! Dump requests, as a server reads them.
 
 ghost use Rattle.std.specs.Prelude.{◌≡◌, Ok, Err, IfOk, IfErr, option_map};
-ghost use Rattle.feed_serving.specs.Requests.{payload_of_packet, asked, IsNotAsked};
+ghost use Rattle.feed_serving.specs.Requests.{payload_of_packet, requested, IsNotAsked};
 ghost use Rattle.feed_rules.specs.declared.verdict.Verdict.TheVariants.{Memory as MemoryVerdict};
 
 use crate::served::{Refusal, Served};
@@ -14,21 +14,20 @@ use wire_packets::{PacketCodec, PacketCodecError};
 /// COM_BINLOG_DUMP.
 const COM_BINLOG_DUMP: u8 = 0x12;
 
-/// BINLOG_DUMP_NON_BLOCK: the answer ends where the binary log ends.
+/// BINLOG_DUMP_NON_BLOCK: the answer ends at the end of the binary log.
 const BINLOG_DUMP_NON_BLOCK: u16 = 1;
 
-/// Where in a request's payload the place stands.
-const PLACE: usize = 1;
+/// The offset of the position in a request's payload.
+const POSITION_OFFSET: usize = 1;
 
-/// Where the flags stand.
-const FLAGS: usize = 5;
+/// The offset of the flags.
+const FLAGS_OFFSET: usize = 5;
 
-/// Where the name stands, behind the replica's server id.
-const NAME: usize = 11;
+/// The offset of the name, after the replica's server id.
+const NAME_OFFSET: usize = 11;
 
-/// The payload of a request, where the bytes are exactly one packet from number 0 on.
-///
-/// Refused with `Memory` alone.
+/// Returns the payload of a request if the bytes are exactly one packet with sequence numbers from 0 on. The only error is
+/// `Memory`.
 fn payload_of(alloc: Global, request: &[u8]) -> Result<Option<Vec<u8>>, Verdict>
     ensures ok { IfOk result (λ payload. option_map (λ p. p.items) payload ≡ payload_of_packet request.now) }
     ensures err { IfErr result (λ v. v ≡ MemoryVerdict) }
@@ -53,13 +52,14 @@ fn payload_of(alloc: Global, request: &[u8]) -> Result<Option<Vec<u8>>, Verdict>
     }
 }
 
-/// The place from which a request asks for the binary log `name`.
+/// Returns the position from which a request asks for the binary log `name`. Fails with the first of these that holds:
 ///
-/// Refused with the first that holds: `NotADump` where the bytes aren't exactly one packet from number 0 on, or its payload
-/// isn't COM_BINLOG_DUMP; `Flags` where its flags aren't BINLOG_DUMP_NON_BLOCK alone; `Name` where it names another file.
-/// `Memory` for want of memory.
-pub(crate) fn asked_place(alloc: Global, request: &[u8], name: &[u8]) -> Result<u32, Served>
-    ensures ok { IfOk result (λ place. asked request.now name.now ≡ Ok place) }
+/// - `NotADump`: the bytes aren't exactly one packet with sequence numbers from 0 on, or its payload isn't COM_BINLOG_DUMP.
+/// - `Flags`: its flags aren't exactly BINLOG_DUMP_NON_BLOCK.
+/// - `Name`: it names another file.
+/// - `Memory`: out of memory.
+pub(crate) fn requested_position(alloc: Global, request: &[u8], name: &[u8]) -> Result<u32, Served>
+    ensures ok { IfOk result (λ position. requested request.now name.now ≡ Ok position) }
     ensures err { IfErr result (IsNotAsked request.now name.now) }
 {
     let payload = match payload_of(alloc, request) {
@@ -67,14 +67,14 @@ pub(crate) fn asked_place(alloc: Global, request: &[u8], name: &[u8]) -> Result<
         Ok(None) => return Err(Served::Refused(Refusal::NotADump)),
         Err(fault) => return Err(Served::Fault(fault)),
     };
-    if payload.len() < NAME || payload[0] != COM_BINLOG_DUMP {
+    if payload.len() < NAME_OFFSET || payload[0] != COM_BINLOG_DUMP {
         return Err(Served::Refused(Refusal::NotADump));
     }
-    if LittleEndian::read_u16(&payload[FLAGS..]) != BINLOG_DUMP_NON_BLOCK {
+    if LittleEndian::read_u16(&payload[FLAGS_OFFSET..]) != BINLOG_DUMP_NON_BLOCK {
         return Err(Served::Refused(Refusal::Flags));
     }
-    if &payload[NAME..] != name {
+    if &payload[NAME_OFFSET..] != name {
         return Err(Served::Refused(Refusal::Name));
     }
-    Ok(LittleEndian::read_u32(&payload[PLACE..]))
+    Ok(LittleEndian::read_u32(&payload[POSITION_OFFSET..]))
 }

@@ -1,38 +1,38 @@
-//! What became of a request for a binary log.
+//! The result of a request for a binary log.
 
 ghost use Rattle.std.specs.Prelude.{◌≡◌};
-ghost use Rattle.feed_serving.specs.ServedNames.{refusal_name, served_name};
+ghost use Rattle.feed_serving.specs.ServedNames.{error_name, served_name};
 
 use feed_rules::{Verdict, name_of};
 
-/// Why a request is refused.
+/// The reason why a request is rejected.
 #[derive(Clone, Copy, Debug, PartialEq, Eq)]
 pub enum Refusal {
-    /// It isn't exactly one packet from number 0 on whose payload is COM_BINLOG_DUMP.
+    /// It isn't exactly one packet with sequence numbers from 0 on whose payload is COM_BINLOG_DUMP.
     NotADump,
-    /// Its flags aren't BINLOG_DUMP_NON_BLOCK alone.
+    /// Its flags aren't exactly BINLOG_DUMP_NON_BLOCK.
     Flags,
     /// It names another binary log.
     Name,
-    /// No event begins at its place, and the last whole one doesn't end there.
+    /// No event begins at its position, and the last whole one doesn't end there.
     Place,
 }
 
-/// What became of a request.
+/// The result of a request.
 #[derive(Clone, Copy, Debug, PartialEq, Eq)]
 pub enum Served {
-    /// All was sent, and the closing packet behind it.
+    /// Everything was sent, with the closing packet at the end.
     Whole,
-    /// The request was refused, and nothing was sent.
+    /// The request was rejected, and nothing was sent.
     Refused(Refusal),
-    /// The binary log or a device has a fault: the closing packet wasn't sent.
+    /// The binary log or a device has a fault; the closing packet wasn't sent.
     Fault(Verdict),
 }
 
 impl Refusal {
-    /// The refusal's name, as the program prints it.
+    /// The name of the reason, as the program prints it.
     pub fn name(&self) -> &'static str
-        ensures { result.now ≡ refusal_name self.now }
+        ensures { result.now ≡ error_name self.now }
     {
         match self {
             Refusal::NotADump => "NotADump",
@@ -44,13 +44,13 @@ impl Refusal {
 }
 
 impl Served {
-    /// The outcome's name, as the program prints it: `Whole`, or the name of the refusal or of the fault.
+    /// The name of the result, as the program prints it: `Whole`, or the name of the rejection or of the fault.
     pub fn name(&self) -> &'static str
         ensures { result.now ≡ served_name self.now }
     {
         match self {
             Served::Whole => "Whole",
-            Served::Refused(refusal) => refusal.name(),
+            Served::Refused(error) => error.name(),
             Served::Fault(verdict) => name_of(verdict),
         }
     }

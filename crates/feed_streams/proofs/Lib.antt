@@ -1,6 +1,6 @@
 pub mod IncomingLemmas
 pub mod StreamLemmas
-pub mod AskingLemmas
+pub mod ResumePositionLemmas
 pub mod FollowLemmas
 pub mod FeedingLemmas
 pub mod AcknowledgementLemmas

@@ -1,7 +1,7 @@
 pub mod Words
 pub mod Streams
 pub mod Acknowledgements
-pub mod Asking
+pub mod ResumePositions
 pub mod Requests
 pub mod RequestErrors
 pub mod Incoming

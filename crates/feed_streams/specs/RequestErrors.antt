@@ -1,4 +1,4 @@
--- The names that the program prints of errors of a request.
+-- The names that the program prints for errors of making a request.
 use Rattle.std.specs.Prelude.{ℕ, List, codes}
 use Rattle.feed_streams.specs.declared.requests.RequestError.{RequestError}
 use Rattle.feed_streams.specs.declared.requests.RequestError.TheVariants.{NameTooLong, Memory}

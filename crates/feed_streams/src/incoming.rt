@@ -1,40 +1,40 @@
-//! The packets of an answer, in whatever pieces it comes.
+//! The packets of an answer that arrives in pieces of any lengths.
 
 ghost use Rattle.std.specs.Prelude.{◌≡◌, ◌<◌, ◌+◌, ◌++◌, List, ℕ, [], IfOk, IfSome, OnOk, OnErr, length};
-ghost use Rattle.wire_packets.specs.Standing.{HasRead, limit_of};
-ghost use Rattle.feed_streams.specs.Incoming.{IsFresh, IsThere, FindsNext, payload_at, behind};
+ghost use Rattle.wire_packets.specs.CodecState.{HasRead, codec_limit};
+ghost use Rattle.feed_streams.specs.Incoming.{IsFresh, IsFound, FindsNext, found_payload, after};
 
 use bytes::BytesMut;
 use std::alloc::{AllocError, Global};
 use wire_packets::{PACKET_HEADER_LEN, PacketCodec, PacketCodecError};
 
-/// The number of the first packet of an answer.
+/// The sequence number of an answer's first packet.
 const FIRST_NUMBER: u8 = 1;
 
-/// Where the payload of a packet is that came whole.
+/// Where the payload of a complete packet is.
 #[derive(Clone, Copy)]
-pub(crate) enum Place {
-    /// In the bytes that came, behind the packet's header; so long, in bytes.
+pub(crate) enum Found {
+    /// In the received bytes, after the packet's header; the length of the payload in bytes.
     Received(usize),
-    /// Gathered from the packet's chunks.
+    /// In the buffer that gathers a packet's chunks.
     Gathered,
 }
 
-/// The packets of a server's answer. The payload of a packet in one chunk is lent from the bytes that came.
+/// The packets of a server's answer. The payload of a packet of one chunk is borrowed from the received bytes.
 #[derive(Drop)]
 pub(crate) struct Incoming {
     codec: PacketCodec,
-    /// The bytes that came and aren't taken yet.
+    /// The received bytes that aren't taken yet.
     received: BytesMut,
-    /// What the codec gathered of the next packet.
+    /// The chunks of the next packet that the codec has gathered.
     gathered: Vec<u8>,
 }
 
 impl Incoming {
-    /// Before the first byte of an answer, whose payloads may be at most `limit` bytes long.
+    /// The state before the first byte of an answer. `limit` is the maximum length of a payload in bytes.
     pub(crate) fn new(alloc: Global, limit: usize) -> Incoming
         ensures fresh { IsFresh result }
-        ensures limit { limit_of result.codec ≡ limit }
+        ensures limit { codec_limit result.codec ≡ limit }
     {
         Incoming {
             codec: PacketCodec::with_number(limit, FIRST_NUMBER),
@@ -43,17 +43,17 @@ impl Incoming {
         }
     }
 
-    /// The same before another answer, with the buffers that there are.
+    /// Returns to that state for another answer, and keeps the buffers.
     pub(crate) fn restart(&mut self)
         ensures fresh { IsFresh self.new }
-        ensures limit { limit_of self.new.codec ≡ limit_of self.old.codec }
+        ensures limit { codec_limit self.new.codec ≡ codec_limit self.old.codec }
     {
         self.codec = PacketCodec::with_number(self.codec.max_allowed_packet, FIRST_NUMBER);
         self.received.clear();
         self.gathered.clear();
     }
 
-    /// More bytes of the answer came. A refusal keeps what came before.
+    /// Appends bytes of the answer. An error keeps the bytes received before.
     pub(crate) fn receive(&mut self, piece: &[u8]) -> Result<(), AllocError>
         ensures ok { OnOk result (self.new.received.items ≡ self.old.received.items ++ piece.now) }
         ensures err { OnErr result (self.new.received.items ≡ self.old.received.items) }
@@ -63,47 +63,47 @@ impl Incoming {
         self.received.extend_from_slice(piece)
     }
 
-    /// Where the payload of the next packet is, or None where no further packet came whole. `pass` it before the next is asked
-    /// for. Refused as `PacketCodec::decode` refuses it.
-    pub(crate) fn next(&mut self) -> Result<Option<Place>, PacketCodecError>
+    /// Finds the payload of the next packet; returns `None` if there is no further complete packet. Call `drop_found` on it before the
+    /// next call. Errors are those of `PacketCodec::decode`.
+    pub(crate) fn next(&mut self) -> Result<Option<Found>, PacketCodecError>
         ensures next { (s : List ℕ) (ps : List (List ℕ)) → HasRead self.old.codec 1 s ps self.old.gathered.items self.old.received.items
             → FindsNext self.new s ps result }
-        ensures there { IfOk result (λ found. IfSome found (λ place. IsThere self.new place)) }
-        ensures shorter { IfOk result (λ found. IfSome found (λ place. length (behind self.new place) < length self.old.received.items)) }
-        ensures limit { limit_of self.new.codec ≡ limit_of self.old.codec }
+        ensures there { IfOk result (λ next. IfSome next (λ found. IsFound self.new found)) }
+        ensures shorter { IfOk result (λ next. IfSome next (λ found. length (after self.new found) < length self.old.received.items)) }
+        ensures limit { codec_limit self.new.codec ≡ codec_limit self.old.codec }
     {
         if let Some(payload) = self.codec.decode_in_place(self.received.as_slice()) {
-            return Ok(Some(Place::Received(payload.len())));
+            return Ok(Some(Found::Received(payload.len())));
         }
         match self.codec.decode(&mut self.received, &mut self.gathered) {
-            Ok(true) => Ok(Some(Place::Gathered)),
+            Ok(true) => Ok(Some(Found::Gathered)),
             Ok(false) => Ok(None),
             Err(fault) => Err(fault),
         }
     }
 
-    /// The payload there.
-    pub(crate) fn payload(&self, place: Place) -> &[u8]
-        requires { IsThere self.now place }
-        ensures { result.now ≡ payload_at self.now place }
+    /// Returns the payload that was found there.
+    pub(crate) fn payload(&self, found: Found) -> &[u8]
+        requires { IsFound self.now found }
+        ensures { result.now ≡ found_payload self.now found }
     {
-        match place {
-            Place::Received(len) => {
+        match found {
+            Found::Received(len) => {
                 let received = self.received.as_slice();
                 &received[PACKET_HEADER_LEN..PACKET_HEADER_LEN + len]
             }
-            Place::Gathered => self.gathered.as_slice(),
+            Found::Gathered => self.gathered.as_slice(),
         }
     }
 
-    /// Drops that packet.
-    pub(crate) fn pass(&mut self, place: Place)
-        requires { IsThere self.old place }
-        ensures received { self.new.received.items ≡ behind self.old place }
+    /// Drops the packet that was found there.
+    pub(crate) fn drop_found(&mut self, found: Found)
+        requires { IsFound self.old found }
+        ensures received { self.new.received.items ≡ after self.old found }
         ensures gathered { self.new.gathered.items ≡ [] }
         ensures codec { self.new.codec ≡ self.old.codec }
     {
-        if let Place::Received(len) = place {
+        if let Found::Received(len) = found {
             self.received.advance(PACKET_HEADER_LEN);
             self.received.advance(len);
         }

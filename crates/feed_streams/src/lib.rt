@@ -1,14 +1,14 @@
-//! A follower of a server's packets: it asks for a binary log, and writes the transactions of the answer as they come.
+//! A follower of a server's packets: it requests a binary log, and writes the answer's transactions as they arrive.
 #![tactic(auto)]
 
 mod acknowledgements;
 mod follower;
-mod form;
+mod format;
 mod incoming;
 pub mod laws;
 mod requests;
 pub mod worked;
 
 pub use follower::Follower;
-pub use form::PayloadForm;
+pub use format::PayloadFormat;
 pub use requests::{RequestError, request};

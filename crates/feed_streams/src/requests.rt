@@ -12,19 +12,19 @@ use wire_packets::packet_to_chunks;
 /// COM_BINLOG_DUMP.
 const COM_BINLOG_DUMP: u8 = 0x12;
 
-/// BINLOG_DUMP_NON_BLOCK: the answer ends where the binary log ends.
+/// BINLOG_DUMP_NON_BLOCK: the answer ends at the end of the binary log.
 const BINLOG_DUMP_NON_BLOCK: u16 = 1;
 
-/// The greatest length of a binary log's name in bytes.
+/// The maximum length of a binary log's name in bytes.
 const MAX_NAME_LEN: usize = 511;
 
-/// Why a request can't be made.
+/// The error of making a request.
 #[derive(Clone, Copy, Debug, PartialEq, Eq, Error)]
 pub enum RequestError {
     /// The binary log's name is longer than 511 bytes.
     #[error("the binary log's name is longer than 511 bytes")]
     NameTooLong,
-    /// A growth was refused.
+    /// Out of memory.
     #[error("out of memory")]
     Memory,
 }
@@ -32,7 +32,7 @@ pub enum RequestError {
 impl RequestError {
     ghost use Rattle.feed_streams.specs.RequestErrors.{request_error_name};
 
-    /// The error's name, as the program prints it.
+    /// The name of the error, as the program prints it.
     pub fn name(&self) -> &'static str
         ensures { result.now ≡ request_error_name self.now }
     {
@@ -59,7 +59,10 @@ pub(crate) struct LogName {
 }
 
 impl LogName {
-    /// A name, which is kept. Refused with `NameTooLong` exactly where it is longer than 511 bytes, and with `Memory`.
+    /// Copies a name.
+    ///
+    /// - `NameTooLong`: it is longer than 511 bytes, and only then.
+    /// - `Memory`: out of memory.
     pub(crate) fn new(alloc: Global, name: &[u8]) -> Result<LogName, RequestError>
         ensures name { IfOk result (λ it. it.bytes.items ≡ name.now) }
         ensures too_long { IsErrOf result RequestError.NameTooLong ↔ (511 < length name.now) }
@@ -71,7 +74,7 @@ impl LogName {
         Ok(LogName { bytes })
     }
 
-    /// Its bytes.
+    /// The bytes of the name.
     pub(crate) fn as_slice(&self) -> &[u8]
         ensures name { result.now ≡ self.now.bytes.items }
         ensures fits { length result.now ≤ 511 }
@@ -80,30 +83,35 @@ impl LogName {
     }
 }
 
-/// The payload of COM_BINLOG_DUMP.
-fn dump_payload(alloc: Global, place: u32, server: u32, name: &[u8]) -> Result<Vec<u8>, AllocError>
-    ensures { IfOk result (λ payload. payload.items ≡ payload_of place server name.now) }
+/// Makes the payload of COM_BINLOG_DUMP.
+fn dump_payload(
+    alloc: Global,
+    position: u32,
+    server: u32,
+    name: &[u8],
+) -> Result<Vec<u8>, AllocError>
+    ensures { IfOk result (λ payload. payload.items ≡ payload_of position server name.now) }
 {
     let mut payload = Vec::new(alloc);
     payload.extend_from_slice(&[COM_BINLOG_DUMP])?;
-    payload.extend_from_slice(&place.to_le_bytes())?;
+    payload.extend_from_slice(&position.to_le_bytes())?;
     payload.extend_from_slice(&BINLOG_DUMP_NON_BLOCK.to_le_bytes())?;
     payload.extend_from_slice(&server.to_le_bytes())?;
     payload.extend_from_slice(name)?;
     Ok(payload)
 }
 
-/// The packet of COM_BINLOG_DUMP, for a name that is short enough. Refused for want of memory alone.
+/// Makes the packet of COM_BINLOG_DUMP for a name of at most 511 bytes. The only error is that of memory.
 #[tactic(auto, unfolding(crate::specs::Requests::dump_request))]
 pub(crate) fn dump_packet(
     alloc: Global,
-    place: u32,
+    position: u32,
     server: u32,
     name: &[u8],
 ) -> Result<Vec<u8>, AllocError>
-    ensures { IfOk result (λ packet. packet.items ≡ dump_request place server name.now) }
+    ensures { IfOk result (λ packet. packet.items ≡ dump_request position server name.now) }
 {
-    let payload = dump_payload(alloc, place, server, name)?;
+    let payload = dump_payload(alloc, position, server, name)?;
     let mut packet = BytesMut::new(alloc);
     if let Err(_) = packet_to_chunks(0, &payload, &mut packet) {
         return Err(AllocError);
@@ -111,15 +119,22 @@ pub(crate) fn dump_packet(
     Vec::from_slice(alloc, packet.as_slice())
 }
 
-/// The packet that asks a server for the events of the binary log `name` from `place` on, by a replica with
-/// the id `server`: COM_BINLOG_DUMP with the flag BINLOG_DUMP_NON_BLOCK, framed from number 0. Refused with
-/// `NameTooLong` exactly where the name is longer than 511 bytes, and with `Memory`.
-pub fn request(alloc: Global, place: u32, server: u32, name: &[u8]) -> Result<Vec<u8>, RequestError>
-    ensures packet { IfOk result (λ packet. packet.items ≡ dump_request place server name.now) }
+/// Returns the packet that requests the events of the binary log `name` from position `position` on, for a replica with the id
+/// `server`: COM_BINLOG_DUMP with the flag BINLOG_DUMP_NON_BLOCK and the sequence number 0.
+///
+/// - `NameTooLong`: the name is longer than 511 bytes, and only then.
+/// - `Memory`: out of memory.
+pub fn request(
+    alloc: Global,
+    position: u32,
+    server: u32,
+    name: &[u8],
+) -> Result<Vec<u8>, RequestError>
+    ensures packet { IfOk result (λ packet. packet.items ≡ dump_request position server name.now) }
     ensures too_long { IsErrOf result RequestError.NameTooLong ↔ (511 < length name.now) }
 {
     if name.len() > MAX_NAME_LEN {
         return Err(RequestError::NameTooLong);
     }
-    Ok(dump_packet(alloc, place, server, name)?)
+    Ok(dump_packet(alloc, position, server, name)?)
 }

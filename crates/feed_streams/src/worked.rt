@@ -1,11 +1,11 @@
-//! Worked examples, which the definitions compute: streams with the text that they show and their verdict, and a request.
+//! Worked examples, computed from the definitions: streams, the text that they show and their verdict, and a request.
 
 ghost use Rattle.std.specs.Prelude.{◌≡◌, [], ◌∷◌, ◌++◌, codes};
 ghost use Rattle.feed_rules.specs.declared.verdict.Verdict.TheVariants as v;
 ghost use Rattle.feed_rules.specs.WorkedEvents.{insert_text, one_insert_text};
 ghost use Rattle.feed_streams.specs.Requests.{dump_request};
 ghost use Rattle.feed_streams.specs.Streams.{Plain, SemiSync};
-ghost use Rattle.feed_streams.specs.WorkedStreams.{stream_prints, prints, open_answer, whole_answer, checksummed_answer, semi_synchronous_answer, closing_packet, misnumbered_answer, misnumbered_front, empty_payload, long_closing_payload, short_event_payload, error_packet, program_limit, worked_request, flagged_answer, misnumbered_flagged_answer, ack_of, asks_for};
+ghost use Rattle.feed_streams.specs.WorkedStreams.{stream_prints, prints, open_answer, whole_answer, checksummed_answer, semi_synchronous_answer, closing_packet, misnumbered_answer, truncated_misnumbered, empty_payload, long_closing_payload, short_event_payload, error_packet, program_limit, worked_request, flagged_answer, misnumbered_flagged_answer, ack_of, asks_for};
 
 /// Answers of a server.
 pub fn worked_answers()
@@ -18,7 +18,7 @@ pub fn worked_answers()
 /// Packets and payloads that end a stream.
 pub fn worked_ends()
     ensures out_of_number { stream_prints Plain program_limit misnumbered_answer ≡ prints [] v.OutOfNumber }
-    ensures cut_short { stream_prints Plain program_limit misnumbered_front ≡ prints [] v.Closed }
+    ensures cut_short { stream_prints Plain program_limit truncated_misnumbered ≡ prints [] v.Closed }
     ensures too_large { stream_prints Plain 38 (39 ∷ 0 ∷ 0 ∷ 1 ∷ []) ≡ prints [] v.TooLarge }
     ensures too_large_first { stream_prints Plain 38 (39 ∷ 0 ∷ 0 ∷ 2 ∷ []) ≡ prints [] v.TooLarge }
     ensures empty_payload { stream_prints Plain program_limit empty_payload ≡ prints [] v.NotAnEvent }
@@ -33,7 +33,7 @@ pub fn worked_requests()
     ensures { dump_request 4 1 (codes "master-bin.000002") ≡ worked_request }
 {}
 
-/// Acknowledgements: of flagged events alone, once each, up to the first that isn't taken.
+/// Acknowledgements: only of flagged events, one for each, up to the first event that isn't taken.
 pub fn worked_acknowledgements()
     ensures semi_synchronous { asks_for SemiSync semi_synchronous_answer ≡ ack_of 42 ∷ ack_of 142 ∷ [] }
     ensures unknown_bits { asks_for SemiSync (flagged_answer 254 255) ≡ ack_of 142 ∷ [] }

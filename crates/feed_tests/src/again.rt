@@ -1,4 +1,4 @@
-//! Answers that break off, and the requests that go on.
+//! Connections that drop, and the requests that resume.
 
 use crate::following::LIMIT;
 use crate::samples::{TEXT, two_inserts};
@@ -15,7 +15,7 @@ use wire_buf::Watched;
 const BOTH: &str =
     "begin -\ninsert 'd' 't' 0=5\ncommit 142\nbegin -\ninsert 'd' 't' 0=5\ncommit 280\n";
 
-/// What is answered to a request for a log.
+/// The answer to a request for a log.
 pub fn answered(alloc: Global, asked: &[u8], log: &[u8]) -> Vec<u8> {
     let mut reader = Watched::new(log);
     let mut writer = Watched::new(Vec::new(alloc));
@@ -23,13 +23,13 @@ pub fn answered(alloc: Global, asked: &[u8], log: &[u8]) -> Vec<u8> {
     writer.into_inner()
 }
 
-/// What is answered to a request for a log from a place on.
-fn answer_from(alloc: Global, place: u32, log: &[u8]) -> Result<Vec<u8>, RequestError> {
-    let asked = request(alloc, place, 1, NAME)?;
+/// The answer to a request for a log from a position on.
+fn answer_from(alloc: Global, from: u32, log: &[u8]) -> Result<Vec<u8>, RequestError> {
+    let asked = request(alloc, from, 1, NAME)?;
     Ok(answered(alloc, &asked, log))
 }
 
-/// Whether a follower asks so for the next answer.
+/// Whether a follower's next request is this one.
 fn asks_for<F: Fn(&[u8]) -> u32>(follower: &mut Follower<F>, wanted: &[u8]) -> bool {
     match follower.again() {
         Ok(question) => question.as_slice() == wanted,
@@ -37,7 +37,7 @@ fn asks_for<F: Fn(&[u8]) -> u32>(follower: &mut Follower<F>, wanted: &[u8]) -> b
     }
 }
 
-/// Whether a follower asks so for the next answer, from this position.
+/// Whether a follower's next request is the one from this position.
 fn asks_from<F: Fn(&[u8]) -> u32>(
     alloc: Global,
     follower: &mut Follower<F>,
@@ -77,8 +77,8 @@ fn again_before_finish(rt: HostRuntime) -> Result<(), Fail> {
     Ok(())
 }
 
-/// Whether a follower of the first transaction's answer asks for the rest, and after its answer for what comes then; and
-/// whether after a fault nothing is asked for or taken, and both transactions are shown.
+/// Whether a follower that was fed the answer for the first transaction asks for the rest, and after that answer asks again; and
+/// whether after a fault it asks for nothing and ignores bytes, and has shown both transactions.
 fn ends_with_a_fault(alloc: Global, first: &[u8], rest: &[u8]) -> Result<bool, RequestError> {
     let (mut follower, _request) = Follower::start(alloc, 4, 1, NAME, LIMIT, crc32)?;
     let mut writer = Watched::new(Vec::new(alloc));
@@ -105,8 +105,8 @@ fn again_after_end_and_fault(rt: HostRuntime) -> Result<(), Fail> {
     Ok(())
 }
 
-/// Whether the whole log is printed, each transaction once, where its answer breaks off behind these bytes and the answer
-/// to the next request comes whole.
+/// Whether the whole log is printed, each transaction once, if the connection drops after these bytes and the answer to the next
+/// request is complete.
 fn goes_on(alloc: Global, log: &[u8], broken: &[u8]) -> Result<bool, RequestError> {
     let (mut follower, _request) = Follower::start(alloc, 4, 1, NAME, LIMIT, crc32)?;
     let mut writer = Watched::new(Vec::new(alloc));
@@ -121,7 +121,7 @@ fn goes_on(alloc: Global, log: &[u8], broken: &[u8]) -> Result<bool, RequestErro
     Ok(verdict == Some(Verdict::End) && writer.into_inner().as_slice() == BOTH.as_bytes())
 }
 
-// What is left of a packet or of a transaction is dropped, and so is the verdict of a follower that was finished.
+// The rest of a packet or of a transaction is dropped, and so is the verdict of a follower that was finished.
 #[test]
 fn answers_that_break_off_anywhere(rt: HostRuntime) -> Result<(), Fail> {
     let alloc = rt.alloc();

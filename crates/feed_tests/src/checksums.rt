@@ -1,4 +1,4 @@
-//! The checksum of bytes: published and zlib's values, and each short length bit by bit.
+//! The checksum of bytes: published values and zlib's, and each short length bit by bit.
 
 use crate::samples::{BEGIN, MAP, ROWS, XID};
 use bytes::BytesMut;
@@ -23,7 +23,7 @@ fn bit_by_bit(bytes: &[u8]) -> u32 {
     !register
 }
 
-/// Whether a new codec frames the payload as the bytes.
+/// Whether a new codec frames the payload as these bytes.
 fn frames(alloc: Global, payload: &[u8], bytes: &[u8]) -> bool {
     let mut codec = PacketCodec::default();
     let mut framed = BytesMut::new(alloc);
@@ -63,12 +63,12 @@ fn checksums_of_events_by_zlib(rt: HostRuntime) {
 fn checksums_of_each_short_length(rt: HostRuntime) {
     let mut bytes = [0u8; 40];
     let mut byte = 0x9du8;
-    for place in bytes.iter_mut() {
+    for position in bytes.iter_mut() {
         byte = byte.wrapping_mul(5).wrapping_add(37);
-        *place = byte;
+        *position = byte;
     }
     for len in 0..41 {
-        let (front, _) = bytes.split_at(len);
-        assert!(rt; crc32(front) == bit_by_bit(front));
+        let (prefix, _) = bytes.split_at(len);
+        assert!(rt; crc32(prefix) == bit_by_bit(prefix));
     }
 }

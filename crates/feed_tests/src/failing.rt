@@ -1,4 +1,4 @@
-//! Readers and writers that fail, and in what order they are asked.
+//! Readers and writers that fail, and the order in which they are called.
 
 use crate::again::answered;
 use crate::following::LIMIT;
@@ -15,7 +15,7 @@ use std::io::{self, ErrorKind, Read, Write};
 use std::test::*;
 use wire_buf::Watched;
 
-/// A writer that takes so many bytes, and then fails.
+/// A writer that takes a number of bytes, and then fails.
 #[derive(Drop)]
 pub struct Full {
     pub taken: Vec<u8>,
@@ -38,7 +38,7 @@ impl Write for Full {
     }
 }
 
-/// A reader that notes how many bytes it was asked for in all.
+/// A reader that records how many bytes were requested from it in all.
 #[derive(Drop)]
 struct Asked<'a> {
     bytes: &'a [u8],
@@ -55,7 +55,7 @@ impl Read for Asked<'_> {
     }
 }
 
-/// A writer that notes, of each byte, how many bytes the reader was asked for before it.
+/// A writer that records, for each byte, how many bytes were requested from the reader before it.
 #[derive(Drop)]
 struct Noted<'a> {
     asked: &'a Cell<usize>,
@@ -83,7 +83,7 @@ fn two_transactions(alloc: Global) -> Result<Vec<u8>, AllocError> {
     )
 }
 
-/// How many bytes the reader was asked for before each byte of the report was written, or none where the report isn't whole.
+/// For each byte of the report, how many bytes were requested from the reader before it; `None` if the report isn't complete.
 fn notes_of(alloc: Global, file: &[u8]) -> Option<Vec<usize>> {
     let asked = Cell::new(0usize);
     let mut reader = Watched::new(Asked {
@@ -115,7 +115,7 @@ fn transaction_is_written_before_more_is_asked_for(rt: HostRuntime) -> Result<()
     Ok(())
 }
 
-/// Whether the report of a log whose reader fails after these bytes is `Read`, after this text so many times.
+/// Whether the report of a log whose reader fails after these bytes is `Read`, after this number of transactions.
 fn is_cut(alloc: Global, prefix: &[u8], transactions: usize) -> bool {
     let mut reader = Watched::new(Pieces {
         bytes: prefix,
@@ -151,22 +151,23 @@ fn report_with_a_failing_reader(rt: HostRuntime) -> Result<(), Fail> {
     Ok(())
 }
 
-/// Whether what is kept of a front of the small log's text, and behind it what a follower that asks from there shows of the
-/// whole answer, are the text.
-fn is_mended(alloc: Global, log: &[u8], torn: &[u8]) -> bool {
-    let (len, place) = kept(torn);
-    let (whole, _) = torn.split_at(len.min(torn.len()));
-    let place = place.unwrap_or(4);
-    let Ok((mut follower, asked)) = Follower::start(alloc, place, 1, NAME, LIMIT, crc32) else {
+/// Whether the complete transactions of a prefix of the small log's text, followed by what a follower that resumes there shows of
+/// the whole answer, are the text.
+fn is_repaired(alloc: Global, log: &[u8], truncated: &[u8]) -> bool {
+    let (len, position) = kept(truncated);
+    let (whole, _) = truncated.split_at(len.min(truncated.len()));
+    let position = position.unwrap_or(4);
+    let Ok((mut follower, asked)) = Follower::start(alloc, position, 1, NAME, LIMIT, crc32) else {
         return false;
     };
     let mut writer = Watched::new(Vec::new(alloc));
     let verdict = follower.feed(&answered(alloc, &asked, log), &mut writer);
-    let (front, back) = TEXT.as_bytes().split_at(len.min(TEXT.len()));
-    verdict == Some(Verdict::End) && whole == front && writer.into_inner().as_slice() == back
+    let (written, back) = TEXT.as_bytes().split_at(len.min(TEXT.len()));
+    verdict == Some(Verdict::End) && whole == written && writer.into_inner().as_slice() == back
 }
 
-/// What a writer with room for so many bytes gets of the report, where it alone fails, unless there is room for all of it.
+/// The bytes of the report that a writer with this room takes; `None` unless only the writer failed and the verdict is `Write`,
+/// or nothing failed, the room is that of the whole report and the verdict is `End`.
 fn report_into(alloc: Global, file: &[u8], room: usize) -> Option<Vec<u8>> {
     let mut reader = Watched::new(file);
     let mut writer = Watched::new(Full {
@@ -189,10 +190,10 @@ fn report_into(alloc: Global, file: &[u8], room: usize) -> Option<Vec<u8>> {
 fn report_with_a_failing_writer(rt: HostRuntime) -> Result<(), Fail> {
     let file = one_insert(rt.alloc())?;
     for room in 0..TEXT.len() + 1 {
-        let (front, _) = TEXT.as_bytes().split_at(room);
+        let (written, _) = TEXT.as_bytes().split_at(room);
         match report_into(rt.alloc(), &file, room) {
             Some(taken) => assert!(rt;
-                taken.as_slice() == front && is_mended(rt.alloc(), &file, &taken)
+                taken.as_slice() == written && is_repaired(rt.alloc(), &file, &taken)
             ),
             None => assert!(rt; false),
         }

@@ -1,17 +1,14 @@
-//! Streams of packets that come in pieces of any length, limits of a payload, and what a follower answers at each piece.
+//! Streams of packets that arrive in pieces of any length, limits of a payload, and what a follower returns after each piece.
 
-use crate::samples::{
-    BEGIN, DESCRIPTION, MAP, ROWS, SUMMED_BEGIN, SUMMED_MAP, SUMMED_ROWS, SUMMED_TEXT, SUMMED_XID,
-    TEXT, XID, answer_of, put_packet,
-};
+use crate::samples::{BEGIN, MAP, ROWS, TEXT, XID, answer_of};
 use crc32::crc32;
 use feed_rules::Verdict;
 use feed_streams::{Follower, RequestError};
-use std::alloc::{AllocError, Global};
+use std::alloc::Global;
 use std::test::*;
 use wire_buf::Watched;
 
-/// The greatest length of a payload that the program allows.
+/// The program's maximum length of a payload.
 pub const LIMIT: usize = 1_073_741_824;
 
 /// Feeds a stream in pieces of these lengths and then in single bytes, and finishes.
@@ -51,7 +48,7 @@ fn is_followed_in(
     }
 }
 
-/// Whether a stream gives this text and this verdict, however it is cut.
+/// Whether a stream gives this text and this verdict, in any pieces.
 fn is_followed(alloc: Global, stream: &[u8], limit: usize, text: &str, verdict: Verdict) -> bool {
     let cuttings: [&[usize]; 5] = [
         &[],
@@ -68,7 +65,7 @@ fn is_followed(alloc: Global, stream: &[u8], limit: usize, text: &str, verdict: 
     true
 }
 
-/// The same of an answer of so many bytes with these events, which is whole or has no closing packet.
+/// The same for an answer with these events and this length, which has a closing packet or none.
 fn is_answer_followed(
     alloc: Global,
     events: &[&[u8]],
@@ -93,19 +90,7 @@ fn stream_in_single_bytes(rt: HostRuntime) {
     );
 }
 
-#[test]
-fn checksummed_answer_in_pieces(rt: HostRuntime) {
-    let events: [&[u8]; 5] = [
-        &DESCRIPTION,
-        &SUMMED_BEGIN,
-        &SUMMED_MAP,
-        &SUMMED_ROWS,
-        &SUMMED_XID,
-    ];
-    assert!(rt; is_answer_followed(rt.alloc(), &events, true, 269, SUMMED_TEXT, Verdict::End));
-}
-
-// A packet past the limit is a fault as soon as its header came.
+// A packet past the limit is a fault as soon as its header has arrived.
 #[test]
 fn packet_faults(rt: HostRuntime) {
     let alloc = rt.alloc();
@@ -121,65 +106,7 @@ fn packet_faults(rt: HostRuntime) {
     );
 }
 
-/// Two packets of events, the second with this number.
-fn two_packets(
-    alloc: Global,
-    first: &[u8],
-    number: u8,
-    second: &[u8],
-) -> Result<Vec<u8>, AllocError> {
-    let mut stream = Vec::new(alloc);
-    put_packet(&mut stream, 1, first)?;
-    put_packet(&mut stream, number, second)?;
-    Ok(stream)
-}
-
-/// Whether such a stream shows nothing and has this verdict, and `Closed` without its last byte.
-fn is_refused(alloc: Global, first: &[u8], number: u8, second: &[u8], verdict: Verdict) -> bool {
-    match two_packets(alloc, first, number, second) {
-        Ok(stream) => {
-            let (prefix, _) = stream.split_at(stream.len().saturating_sub(1));
-            is_followed(alloc, &stream, LIMIT, "", verdict)
-                && is_followed(alloc, prefix, LIMIT, "", Verdict::Closed)
-        }
-        Err(_) => false,
-    }
-}
-
-// Packets out of number, an event shorter than its size, and one shorter than a header.
-#[test]
-fn faults_in_pieces(rt: HostRuntime) {
-    let alloc = rt.alloc();
-    let (short, _) = XID.split_at(26);
-    let (header, _) = XID.split_at(18);
-    assert!(rt;
-        is_refused(alloc, &BEGIN, 3, &MAP, Verdict::OutOfNumber)
-            && is_refused(alloc, &BEGIN, 2, short, Verdict::NotAnEvent)
-            && is_refused(alloc, &BEGIN, 2, header, Verdict::NotAnEvent)
-    );
-}
-
-// No bytes, a closing payload that is too long, a server's error, and bytes after the closing packet.
-#[test]
-fn ends_in_pieces(rt: HostRuntime) {
-    let alloc = rt.alloc();
-    let longer = [9, 0, 0, 1, 0xfe, 0, 0, 0, 0, 0, 0, 0, 0];
-    let closed = [5, 0, 0, 1, 0xfe, 0, 0, 2, 0, 0xff, 0xff, 0xff, 0xff];
-    assert!(rt;
-        is_followed(alloc, &[0, 0, 0, 1], LIMIT, "", Verdict::NotAnEvent)
-            && is_followed(alloc, &longer, LIMIT, "", Verdict::NotAnEvent)
-            && is_followed(
-                alloc,
-                &[3, 0, 0, 1, 0xff, 1, 0],
-                LIMIT,
-                "",
-                Verdict::ServerError
-            )
-            && is_followed(alloc, &closed, LIMIT, "", Verdict::End)
-    );
-}
-
-/// Whether a follower that was finished takes nothing of an answer.
+/// Whether a follower that was finished ignores an answer.
 fn takes_nothing(alloc: Global, answer: &[u8]) -> Result<bool, RequestError> {
     let (mut follower, _request) = Follower::start(alloc, 4, 1, b"", LIMIT, crc32)?;
     let mut writer = Watched::new(Vec::new(alloc));
@@ -196,7 +123,7 @@ fn nothing_taken_after_closed(rt: HostRuntime) -> Result<(), Fail> {
 }
 
 /// Whether the answer for the small log, byte by byte, shows its transaction with the byte that completes the commit, and ends
-/// with the last.
+/// with the last byte.
 fn shows_at_once(alloc: Global, answer: &[u8]) -> Result<bool, RequestError> {
     let (mut follower, _request) = Follower::start(alloc, 4, 1, b"", LIMIT, crc32)?;
     let mut written = Vec::new(alloc);

@@ -1,4 +1,4 @@
-//! What is kept of a text that was cut off.
+//! The complete transactions of a truncated text.
 
 use feed_kept::{Keeper, kept};
 use std::alloc::{AllocError, Global};
@@ -39,13 +39,13 @@ fn commit_lines(rt: HostRuntime) {
         (b" commit 7\n", 0, None),
         (b"commit 7\xff\n", 0, None),
     ];
-    for (text, len, place) in rows {
-        assert!(rt; kept(text) == (len, place));
+    for (text, len, position) in rows {
+        assert!(rt; kept(text) == (len, position));
     }
 }
 
 #[test]
-fn lines_behind_a_commit_line(rt: HostRuntime) {
+fn lines_after_a_commit_line(rt: HostRuntime) {
     assert!(rt;
         kept(b"\n") == (0, None)
             && kept(b"commit 7\n\n") == (9, Some(7))
@@ -55,7 +55,7 @@ fn lines_behind_a_commit_line(rt: HostRuntime) {
     );
 }
 
-/// What is kept of a text that comes in pieces of at most so many bytes.
+/// The result for a text that arrives in pieces of at most this length.
 fn kept_of_pieces(
     alloc: Global,
     text: &[u8],
@@ -73,8 +73,8 @@ fn kept_of_each_front_in_pieces(rt: HostRuntime) -> Result<(), Fail> {
     for at_once in [1, 5, 37, 38, 39, 76] {
         for len in 0..=TWO_INSERTS.len() {
             let text = &TWO_INSERTS[..len];
-            let (whole, place) = kept(text);
-            assert!(rt; kept_of_pieces(rt.alloc(), text, at_once)? == (whole as u64, place));
+            let (whole, position) = kept(text);
+            assert!(rt; kept_of_pieces(rt.alloc(), text, at_once)? == (whole as u64, position));
         }
     }
     Ok(())

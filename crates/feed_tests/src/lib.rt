@@ -1,6 +1,6 @@
-//! Tests of the change feed through its public calls, of what no table of cases can say (`checks/feed_cases` has the cases): bytes that
-//! come in pieces of any length, readers and writers that fail, limits, connections that drop after each byte, logs that grow,
-//! acknowledgements, requests that go on, texts that were truncated, a log damaged at each of its bytes, and checksums.
+//! Tests of the change feed through its public interface, for what the table of cases (`checks/feed_cases`) can't express: what a
+//! follower returns after each piece, readers and writers that fail, limits, two connections that drop, logs that grow,
+//! acknowledgements, requests that resume, truncated texts, and checksums.
 #![tactic(auto)]
 
 #[cfg(test)]
@@ -12,9 +12,9 @@ mod failing;
 #[cfg(test)]
 mod following;
 #[cfg(test)]
-mod hostile;
-#[cfg(test)]
 mod keeping;
+#[cfg(test)]
+mod memory;
 #[cfg(test)]
 mod rehearsing;
 #[cfg(test)]

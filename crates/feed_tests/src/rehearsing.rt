@@ -1,4 +1,4 @@
-//! Runs of a follower through connections that drop after each number of bytes, and over a log that grows.
+//! Runs of a follower through two connections that drop, and over a log that grows.
 
 use crate::failing::Full;
 use crate::samples::{TEXT, two_inserts};
@@ -15,20 +15,20 @@ const ALL: usize = 1_000_000;
 /// The text of the second transaction.
 const SECOND: &str = "begin -\ninsert 'd' 't' 0=5\ncommit 280\n";
 
-/// What is printed of a log where of each answer so many bytes come, and the verdict.
+/// What is printed of a log if these numbers of bytes of the answers arrive, and the verdict.
 fn printed(alloc: Global, log: &[u8], counts: &[usize]) -> (Vec<u8>, Verdict) {
     let mut writer = Watched::new(Vec::new(alloc));
     let verdict = rehearse(alloc, log, counts, &crc32, &mut writer);
     (writer.into_inner(), verdict)
 }
 
-/// Whether that is the text of so many of the two transactions, and this verdict.
+/// Whether that is the text of the first few of the two transactions, and this verdict.
 fn prints(alloc: Global, log: &[u8], counts: &[usize], texts: usize, verdict: Verdict) -> bool {
     let (text, found) = printed(alloc, log, counts);
     found == verdict && is_text_of(&text, texts)
 }
 
-/// Whether a text is that of the first so many of the two transactions.
+/// Whether a text is that of the first few of the two transactions.
 fn is_text_of(text: &[u8], texts: usize) -> bool {
     let (first, second) = text.split_at(TEXT.len().min(text.len()));
     match texts {
@@ -38,7 +38,7 @@ fn is_text_of(text: &[u8], texts: usize) -> bool {
     }
 }
 
-/// The same of a log that grows.
+/// The same for a log that grows.
 fn prints_growing(
     alloc: Global,
     log: &[u8],
@@ -51,7 +51,7 @@ fn prints_growing(
     found == verdict && is_text_of(&writer.into_inner(), texts)
 }
 
-/// A step in which so much of the log is there, and so many bytes of the answer come.
+/// A step in which the log has this size, and this number of bytes of the answer arrives.
 fn step(size: usize, count: usize) -> Step {
     Step { size, count }
 }
@@ -70,40 +70,7 @@ fn rehearse_growing_file(rt: HostRuntime) -> Result<(), Fail> {
     Ok(())
 }
 
-/// How many transactions have come whole by so many bytes of the answer for both.
-fn come_by(count: usize) -> usize {
-    match count {
-        0..158 => 0,
-        158..316 => 1,
-        _ => 2,
-    }
-}
-
-// The whole answer has 325 bytes.
-#[test]
-fn every_break(rt: HostRuntime) -> Result<(), Fail> {
-    let log = two_inserts(rt.alloc())?;
-    for count in 0..326 {
-        let verdict = if count < 325 {
-            Verdict::Closed
-        } else {
-            Verdict::End
-        };
-        assert!(rt; prints(rt.alloc(), &log, &[count], come_by(count), verdict));
-    }
-    Ok(())
-}
-
-#[test]
-fn every_break_then_whole(rt: HostRuntime) -> Result<(), Fail> {
-    let log = two_inserts(rt.alloc())?;
-    for count in 0..326 {
-        assert!(rt; prints(rt.alloc(), &log, &[count, ALL], 2, Verdict::End));
-    }
-    Ok(())
-}
-
-/// Whether after two breaks whole transactions are printed, and in the end both, each once.
+/// Whether after two dropped connections complete transactions are printed, and in the end both, each once.
 fn survives(alloc: Global, log: &[u8], first: usize, second: usize) -> bool {
     let (text, _) = printed(alloc, log, &[first, second]);
     (0..3).any(|texts| is_text_of(&text, texts))
@@ -121,7 +88,7 @@ fn two_breaks(rt: HostRuntime) -> Result<(), Fail> {
     Ok(())
 }
 
-// The answer for a log of each size comes whole, and the next for all of it breaks off.
+// The answer for a log of each size is complete, and the connection drops during the next answer, for all of the log.
 #[test]
 fn every_size_of_a_growing_file(rt: HostRuntime) -> Result<(), Fail> {
     let alloc = rt.alloc();
@@ -142,15 +109,15 @@ fn every_size_of_a_growing_file(rt: HostRuntime) -> Result<(), Fail> {
     Ok(())
 }
 
-/// Whether a writer with room for so many bytes gets so much of this text, and fails then.
+/// Whether a writer with this room gets that much of this text, and then fails.
 fn prints_until_full(alloc: Global, log: &[u8], text: &[u8], room: usize) -> bool {
     let mut writer = Watched::new(Full {
         taken: Vec::new(alloc),
         room,
     });
     let verdict = rehearse(alloc, log, &[200, ALL], &crc32, &mut writer);
-    let (front, _) = text.split_at(room.min(text.len()));
-    verdict == Verdict::Write && writer.failed() && writer.into_inner().taken.as_slice() == front
+    let (prefix, _) = text.split_at(room.min(text.len()));
+    verdict == Verdict::Write && writer.failed() && writer.into_inner().taken.as_slice() == prefix
 }
 
 #[test]

@@ -16,7 +16,7 @@ use wire_buf::Watched;
 /// The name of the binary log.
 const NAME: &[u8] = b"m";
 
-/// The acknowledgement of the small binary log's first event, and of its last.
+/// The acknowledgements of the small binary log's first and last event.
 const FIRST_ACK: [u8; 14] = [
     0x0a, 0x00, 0x00, 0x00, 0xef, 0x2a, 0x00, 0x00, 0x00, 0x00, 0x00, 0x00, 0x00, 0x6d,
 ];
@@ -28,14 +28,14 @@ const LAST_ACK: [u8; 14] = [
 /// More bytes than any answer of these tests has.
 const ALL: usize = 1_000_000;
 
-/// The length of the small binary log's answer, and of its front up to and with the first event and the last.
+/// The length of the small binary log's answer, and of its prefixes up to the end of the first and of the last event.
 const WHOLE: usize = 175;
 
 const FIRST_END: usize = 45;
 
 const LAST_END: usize = 166;
 
-/// The answer for the small binary log with these flag bytes, and this number of the last event's packet.
+/// The answer for the small binary log with these flag bytes, and this sequence number for the last event's packet.
 fn answer_with(alloc: Global, flags: [u8; 2], number: u8) -> Result<Vec<u8>, AllocError> {
     let mut answer = Vec::from_slice(alloc, &[0x29, 0, 0, 1, 0, 0xef, flags[0]])?;
     answer.extend_from_slice(&BEGIN)?;
@@ -49,7 +49,7 @@ fn answer_with(alloc: Global, flags: [u8; 2], number: u8) -> Result<Vec<u8>, All
     Ok(answer)
 }
 
-/// What a follower made of a stream: its text, its verdict, and the acknowledgements that waited.
+/// The result of following a stream: its text, its verdict, and the acknowledgements that were due.
 #[derive(Drop)]
 struct Outcome {
     text: Vec<u8>,
@@ -66,7 +66,7 @@ impl Outcome {
     }
 }
 
-/// Whether bytes are these packets, one behind the other.
+/// Whether bytes are these packets in sequence.
 fn are_joined(bytes: &[u8], packets: &[&[u8]]) -> bool {
     let mut rest = bytes;
     for packet in packets {
@@ -94,7 +94,7 @@ fn followed(alloc: Global, stream: &[u8]) -> Result<Outcome, RequestError> {
     })
 }
 
-/// What `serve_semi` answers of a log, within a limit.
+/// The answer of `serve_semi` for a log, within a limit.
 fn served(alloc: Global, log: &[u8], limit: usize) -> Result<(Vec<u8>, Served), RequestError> {
     let question = request(alloc, 4, 1, NAME)?;
     let mut reader = Watched::new(log);
@@ -111,7 +111,7 @@ fn served(alloc: Global, log: &[u8], limit: usize) -> Result<(Vec<u8>, Served), 
     Ok((writer.into_inner(), outcome))
 }
 
-/// Whether a log is answered so within a limit.
+/// Whether a log has this answer within a limit.
 fn gives(alloc: Global, log: &[u8], limit: usize, answer: &[u8], outcome: Served) -> bool {
     match served(alloc, log, limit) {
         Ok((written, found)) => found == outcome && written.as_slice() == answer,
@@ -133,7 +133,7 @@ fn semi_serve_limit(rt: HostRuntime) -> Result<(), Fail> {
     Ok(())
 }
 
-/// Whether that is what comes of a stream.
+/// Whether that is the result of following a stream.
 fn is_followed(alloc: Global, stream: &[u8], text: &str, verdict: Verdict, acks: &[&[u8]]) -> bool {
     match followed(alloc, stream) {
         Ok(outcome) => outcome.is(text, verdict, acks),
@@ -172,7 +172,7 @@ fn plain_answer_to_semi_follower(rt: HostRuntime) -> Result<(), Fail> {
     Ok(())
 }
 
-/// Whether a plain follower ends so with an answer, shows this, and acknowledges nothing.
+/// Whether a plain follower ends an answer with this verdict, shows this text, and acknowledges nothing.
 fn has_no_acks(alloc: Global, answer: &[u8], text: &str, verdict: Verdict) -> bool {
     let Ok((mut follower, _request)) = Follower::start(alloc, 4, 1, NAME, LIMIT, crc32) else {
         return false;
@@ -183,7 +183,7 @@ fn has_no_acks(alloc: Global, answer: &[u8], text: &str, verdict: Verdict) -> bo
         && writer.into_inner().as_slice() == text.as_bytes()
 }
 
-// Of a plain answer, and of a semi-synchronous one.
+// For a plain answer, and for a semi-synchronous one.
 #[test]
 fn plain_follower_acknowledges_nothing(rt: HostRuntime) -> Result<(), Fail> {
     let alloc = rt.alloc();
@@ -196,8 +196,8 @@ fn plain_follower_acknowledges_nothing(rt: HostRuntime) -> Result<(), Fail> {
     Ok(())
 }
 
-/// Whether a follower gives its acknowledgements once: the first after the first event, the last after the last, where `again` was
-/// called before it was asked for them.
+/// Whether a follower returns its acknowledgements once: the first after the first event, the last after the last, if `again` was
+/// called before they were taken.
 fn acknowledges_once(alloc: Global, first: &[u8], rest: &[u8]) -> Result<bool, RequestError> {
     let (mut follower, _request) = Follower::start_semi(alloc, 4, 1, NAME, LIMIT, crc32)?;
     let mut writer = Watched::new(Vec::new(alloc));
@@ -212,14 +212,14 @@ fn acknowledges_once(alloc: Global, first: &[u8], rest: &[u8]) -> Result<bool, R
 }
 
 #[test]
-fn acks_are_handed_out_once(rt: HostRuntime) -> Result<(), Fail> {
+fn acks_are_returned_once(rt: HostRuntime) -> Result<(), Fail> {
     let answer = answer_with(rt.alloc(), [1, 1], 4)?;
     let (first, rest) = answer.split_at(FIRST_END.min(answer.len()));
     assert!(rt; acknowledges_once(rt.alloc(), first, rest)?);
     Ok(())
 }
 
-/// Whether a follower whose writer has room for so many bytes acknowledges the first event alone, and writes a prefix of the text.
+/// Whether a follower whose writer has this room acknowledges only the first event, and writes a prefix of the text.
 fn acknowledges_what_is_written(alloc: Global, answer: &[u8], room: usize) -> bool {
     let Ok((mut follower, _request)) = Follower::start_semi(alloc, 4, 1, NAME, LIMIT, crc32) else {
         return false;
@@ -231,7 +231,7 @@ fn acknowledges_what_is_written(alloc: Global, answer: &[u8], room: usize) -> bo
         && TEXT.as_bytes().starts_with(&writer.into_inner().taken)
 }
 
-// What an event shows is written before its acknowledgement waits.
+// What an event shows is written before its acknowledgement is due.
 #[test]
 fn semi_follow_with_a_failing_writer(rt: HostRuntime) -> Result<(), Fail> {
     let answer = answer_with(rt.alloc(), [1, 1], 4)?;
@@ -241,8 +241,8 @@ fn semi_follow_with_a_failing_writer(rt: HostRuntime) -> Result<(), Fail> {
     Ok(())
 }
 
-/// Whether a run over the small binary log in these steps prints this and ends so, with the acknowledgements of these packets
-/// behind what there was.
+/// Whether a run over the small binary log in these steps prints this text and ends with this verdict, and appends the
+/// acknowledgements of these packets.
 fn runs(
     alloc: Global,
     steps: &[Step],
@@ -254,14 +254,14 @@ fn runs(
     let mut writer = Watched::new(Vec::new(alloc));
     let mut kept = Vec::from_slice(alloc, b"ab")?;
     let found = rehearse_semi(alloc, &log, NAME, steps, &crc32, &mut writer, &mut kept);
-    let is_behind = match kept.as_slice().strip_prefix(b"ab".as_slice()) {
+    let is_after = match kept.as_slice().strip_prefix(b"ab".as_slice()) {
         Some(rest) => are_joined(rest, acks),
         None => false,
     };
-    Ok(found == verdict && is_behind && writer.into_inner().as_slice() == text.as_bytes())
+    Ok(found == verdict && is_after && writer.into_inner().as_slice() == text.as_bytes())
 }
 
-/// A step in which so much of the log is there, and so many bytes of the answer come.
+/// A step in which the log has this size, and this number of bytes of the answer arrives.
 fn step(size: usize, count: usize) -> Step {
     Step { size, count }
 }
@@ -274,7 +274,7 @@ fn semi_rehearse(rt: HostRuntime) -> Result<(), Fail> {
     Ok(())
 }
 
-// An event that comes again behind a break is acknowledged again.
+// An event that comes again after a dropped connection is acknowledged again.
 #[test]
 fn semi_rehearse_every_break(rt: HostRuntime) -> Result<(), Fail> {
     for count in 0..WHOLE + 1 {
@@ -301,7 +301,8 @@ fn semi_rehearse_a_growing_log(rt: HostRuntime) -> Result<(), Fail> {
     Ok(())
 }
 
-/// Whether a run whose acknowledgements get no more memory than this keeps the first, has written the text, and ends with `Memory`.
+/// Whether a run whose acknowledgements get no more memory than this keeps the first, has written the text, and ends with
+/// `Memory`.
 fn runs_out_of_memory(alloc: Global, log: &[u8], heap: &LocalHeap) -> bool {
     let mut kept = Vec::new(heap);
     let mut writer = Watched::new(Vec::new(alloc));
@@ -312,7 +313,7 @@ fn runs_out_of_memory(alloc: Global, log: &[u8], heap: &LocalHeap) -> bool {
         && writer.into_inner().as_slice() == TEXT.as_bytes()
 }
 
-// What the step shows is written, and whole packets are kept.
+// What the step shows is written, and the packets that are kept are complete.
 #[test]
 fn semi_rehearse_with_refused_memory(rt: HostRuntime) -> Result<(), Fail> {
     let log = one_insert(rt.alloc())?;

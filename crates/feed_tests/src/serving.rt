@@ -14,7 +14,7 @@ use wire_buf::Watched;
 /// The name of the binary log that is served.
 pub const NAME: &[u8] = b"master-bin.000002";
 
-/// What is written in answer to a request for the whole of a log, and what becomes of it.
+/// What is written in answer to a request for the whole of a log, and the result.
 fn served(alloc: Global, log: &[u8], limit: usize) -> Result<(Vec<u8>, Served), RequestError> {
     let asked = request(alloc, 4, 1, NAME)?;
     let mut reader = Watched::new(log);
@@ -23,7 +23,7 @@ fn served(alloc: Global, log: &[u8], limit: usize) -> Result<(Vec<u8>, Served), 
     Ok((writer.into_inner(), served))
 }
 
-/// Whether a log is answered so within a limit.
+/// Whether a log has this answer within a limit.
 fn gives(alloc: Global, log: &[u8], limit: usize, answer: &[u8], outcome: Served) -> bool {
     match served(alloc, log, limit) {
         Ok((written, found)) => found == outcome && written.as_slice() == answer,
@@ -49,8 +49,8 @@ fn serve_limit(rt: HostRuntime) -> Result<(), Fail> {
     Ok(())
 }
 
-/// What is written of a log whose reader gives all of it or fails after it, into a writer with room for so many bytes, and what
-/// becomes of the request.
+/// What is written of a log whose reader gives all of it or fails after it, into a writer with this room, and the result of the
+/// request.
 fn served_by(
     alloc: Global,
     log: &[u8],
@@ -71,7 +71,7 @@ fn served_by(
     Ok((writer.into_inner().taken, served))
 }
 
-/// Whether so much of the packets is written then, and this is the fault.
+/// Whether this prefix of the packets is written then, and this is the fault.
 fn writes(
     alloc: Global,
     log: &[u8],
@@ -98,7 +98,7 @@ fn serve_with_a_failing_writer(rt: HostRuntime) -> Result<(), Fail> {
     Ok(())
 }
 
-/// How many bytes the packets of the events have that are whole in so many bytes of the small log.
+/// The length of the packets of those events that are complete in a prefix of the small log.
 fn whole_packets(len: usize) -> usize {
     match len {
         0..42 => 0,
@@ -122,8 +122,8 @@ fn serve_with_a_failing_reader(rt: HostRuntime) -> Result<(), Fail> {
     Ok(())
 }
 
-/// Whether of a reader that fails after a prefix of the log, and a writer that fails after any number of bytes, the one that
-/// fails first is named.
+/// Whether the result names the one that fails first: the reader, which fails after a prefix of the log, or the writer, which
+/// fails after any number of bytes.
 fn names_the_first(alloc: Global, prefix: &[u8], packets: &[u8]) -> bool {
     let len = whole_packets(prefix.len());
     for room in 0..160 {

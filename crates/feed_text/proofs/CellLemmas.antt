@@ -29,18 +29,18 @@ use Rattle.rows_jsonb.specs.declared.dom.JsonDom.{JsonDom}
 use Rattle.rows_jsonb.specs.JsonTreeViews.{view}
 use Rattle.rows_jsonb.proofs.SoundLemmas.{document_fault}
 use Rattle.rows_cells.specs.CellValues.{CellValue, null, bytes, int, uint, float, double, date, time, json, json_diffs}
-use Rattle.rows_cells.specs.CellViews.{cell_value, text_or_none, value_view, Holds}
+use Rattle.rows_cells.specs.CellViews.{cell_value, text_or_none, cell_value_of, Holds}
 use Rattle.rows_cells.specs.declared.cell.CellRef.{CellRef}
 use Rattle.rows_cells.specs.declared.cell.CellRef.TheVariants as ref
 use Rattle.feed_writers.specs.Quoting.{quoted}
-use Rattle.feed_text.specs.DecimalText.{quoted_decimal, IsDecimalRefused}
+use Rattle.feed_text.specs.DecimalText.{quoted_decimal, IsDecimalError}
 use Rattle.feed_text.specs.JsonText.{document_text}
 use Rattle.feed_text.specs.ValueText.{value_text}
-use Rattle.feed_text.specs.CellText.{label, text_of, tree_text, cell_text, kept_text, kept_cell_text, Appends, AppendsLabeled, AppendsBehind, IsTextRefused, PacksNone, IsCellRefused}
+use Rattle.feed_text.specs.CellText.{label, text_of, tree_text, cell_text, kept_text, kept_cell_text, Appends, AppendsLabeled, AppendsLabeledReading, IsTextError, PacksNone, IsCellError}
 
--- the text that there is was appended
-pub appends : (place : ℕ) (found : Reading (List ℕ)) (text old new : List ℕ) → found ≡ Ok text → new ≡ old ++ (label place ++ text) → Appends (found >>= λ t. Ok (label place ++ t)) old new
-appends place found text old new h is = rw h is
+-- the text was appended
+pub appends : (column : ℕ) (found : Reading (List ℕ)) (text old new : List ℕ) → found ≡ Ok text → new ≡ old ++ (label column ++ text) → Appends (found >>= λ t. Ok (label column ++ t)) old new
+appends column found text old new h is = rw h is
 
 pub bytes_text : (v : CellValue) (b : List ℕ) → v ≡ bytes b → text_of v ≡ Ok (quoted b)
 unfolding text_of
@@ -53,28 +53,28 @@ json_text v b h = rw h refl
 pub tree_written : (v : CellValue) (b : List ℕ) (t : Tree) → v ≡ json b → document_tree b ≡ Ok t → text_of v ≡ Ok (document_text t)
 tree_written v b t h e = json_text v b h ∙ ap tree_text e
 
-packed_appended : (place : ℕ) (o : Option (List ℕ)) (old new : List ℕ) → AppendsLabeled place (option_map quoted o) old new → Appends (cell_text place (bytes (text_or_none o))) old new
+packed_appended : (column : ℕ) (o : Option (List ℕ)) (old new : List ℕ) → AppendsLabeled column (option_map quoted o) old new → Appends (cell_text column (bytes (text_or_none o))) old new
 unfolding text_of
-packed_appended place None old new h = absurd h
-packed_appended place (Some t) old new h = h
+packed_appended column None old new h = absurd h
+packed_appended column (Some t) old new h = h
 
-pub decimal_appended : (place : ℕ) (cell : CellRef) (precision scale : ℕ) (b : Bor (List ℕ)) (old new : List ℕ) → cell ≡ ref.Decimal precision scale b
-    → AppendsLabeled place (quoted_decimal precision scale b.now) old new → Appends (cell_text place (cell_value cell)) old new
-decimal_appended place cell precision scale b old new h is = rw h (packed_appended place (packed_text precision scale b.now) old new is)
+pub decimal_appended : (column : ℕ) (cell : CellRef) (precision scale : ℕ) (b : Bor (List ℕ)) (old new : List ℕ) → cell ≡ ref.Decimal precision scale b
+    → AppendsLabeled column (quoted_decimal precision scale b.now) old new → Appends (cell_text column (cell_value cell)) old new
+decimal_appended column cell precision scale b old new h is = rw h (packed_appended column (packed_text precision scale b.now) old new is)
 
 unquoted_none : (o : Option (List ℕ)) → (let none : Option (List ℕ) = None in option_map quoted o ≡ none → o ≡ none)
 unquoted_none None h = refl
 unquoted_none (Some t) h = cc
 
-pub decimal_refused : (place : ℕ) (cell : CellRef) (precision scale : ℕ) (b : Bor (List ℕ)) (e : RowsError) (old new : List ℕ) → cell ≡ ref.Decimal precision scale b
-    → IsDecimalRefused e (quoted_decimal precision scale b.now) old new → IsCellRefused e cell (cell_text place (cell_value cell)) old new
-decimal_refused place cell precision scale b e old new h r = (why r.cause, r.unchanged)
+pub decimal_failed : (column : ℕ) (cell : CellRef) (precision scale : ℕ) (b : Bor (List ℕ)) (e : RowsError) (old new : List ℕ) → cell ≡ ref.Decimal precision scale b
+    → IsDecimalError e (quoted_decimal precision scale b.now) old new → IsCellError e cell (cell_text column (cell_value cell)) old new
+decimal_failed column cell precision scale b e old new h r = (why r.cause, r.unchanged)
   where
-    why : (e ≡ Memory) ⊎ ((e ≡ Decimal) × (let none : Option (List ℕ) = None in quoted_decimal precision scale b.now ≡ none)) → ((e ≡ Decimal) × PacksNone cell) ⊎ Parses (λ (t : List ℕ). t) (Err e) (cell_text place (cell_value cell))
+    why : (e ≡ Memory) ⊎ ((e ≡ Decimal) × (let none : Option (List ℕ) = None in quoted_decimal precision scale b.now ≡ none)) → ((e ≡ Decimal) × PacksNone cell) ⊎ Parses (λ (t : List ℕ). t) (Err e) (cell_text column (cell_value cell))
     why (inl m) = inr (rw m tt)
     why (inr d) = inl (d.0, rw h (unquoted_none (packed_text precision scale b.now) d.1))
 
-pub value_text_is : (v : Value) → text_of (value_view v) ≡ Ok (value_text v)
+pub value_text_is : (v : Value) → text_of (cell_value_of v) ≡ Ok (value_text v)
 unfolding text_of value_text
 value_text_is NULL = refl
 value_text_is (Bytes b) = refl
@@ -85,7 +85,7 @@ value_text_is (Double bits) = refl
 value_text_is (Date year month day hour minute second micros) = refl
 value_text_is (Time negative days hours minutes seconds micros) = refl
 
--- a fault goes through each step
+-- an error passes through each step
 pub no_more : {A B C : Type 0} (f : A → B) (e : RowsError) (found : Reading B) (next : B → Reading C) → Parses f (Err e) found → Parses (λ (c : C). c) (Err e) (found >>= next)
 no_more f Memory found next h = tt
 no_more f (Jsonb None) (Ok x) next h = absurd h
@@ -100,12 +100,12 @@ no_more f Decimal found next h = absurd h
 no_more f EmptyPair found next h = absurd h
 no_more f Read found next h = absurd h
 
--- the text of a document that has no tree
-pub no_text : (place : ℕ) (e : RowsError) (found : Reading Tree) → Parses view (Err e) found → Parses (λ (t : List ℕ). t) (Err e) (tree_text found >>= λ t. Ok (label place ++ t))
-no_text place e found h =
-    no_more (λ (t : List ℕ). t) e (tree_text found) (λ t. Ok (label place ++ t)) (no_more view e found (λ t. Ok (document_text t)) h)
+-- a JSON document that can't be parsed has no text
+pub no_text : (column : ℕ) (e : RowsError) (found : Reading Tree) → Parses view (Err e) found → Parses (λ (t : List ℕ). t) (Err e) (tree_text found >>= λ t. Ok (label column ++ t))
+no_text column e found h =
+    no_more (λ (t : List ℕ). t) e (tree_text found) (λ t. Ok (label column ++ t)) (no_more view e found (λ t. Ok (document_text t)) h)
 
--- a document that can't be read has no tree
+-- a JSON document that can't be read can't be parsed
 pub no_document : (s : List ℕ) (e : RowsError) → (let fault : Reading JsonDom = Err e in document s ≡ Err e → Parses view fault (document_tree s))
 no_document s e h = rw h (own e (document_fault s e h))
   where
@@ -122,10 +122,10 @@ no_document s e h = rw h (own e (document_fault s e h))
     own EmptyPair j = absurd j
     own Read j = absurd j
 
-pub document_refused : (place : ℕ) (v : CellValue) (b : List ℕ) (e : RowsError) → (let fault : Reading JsonDom = Err e in let refused : Reading (List ℕ) = Err e in v ≡ json b → Parses view fault (document_tree b) → Parses (λ (t : List ℕ). t) refused (cell_text place v))
-document_refused place v b e h p = rw (json_text v b h) (no_text place e (document_tree b) p)
+pub document_failed : (column : ℕ) (v : CellValue) (b : List ℕ) (e : RowsError) → (let fault : Reading JsonDom = Err e in let failed : Reading (List ℕ) = Err e in v ≡ json b → Parses view fault (document_tree b) → Parses (λ (t : List ℕ). t) failed (cell_text column v))
+document_failed column v b e h p = rw (json_text v b h) (no_text column e (document_tree b) p)
 
--- ---- values that callers keep
+-- ---- owned values
 
 pub kept_value : (b : BinlogValue) (v : Value) → b ≡ made.Value v → kept_text b ≡ Ok (value_text v)
 unfolding kept_text
@@ -138,10 +138,10 @@ kept_document b d h = rw h refl
 pub kept_tree : (b : BinlogValue) (d : JsonbValue) (t : Tree) → b ≡ made.Jsonb d → tree_in (jsonb_value d) ≡ Ok t → kept_text b ≡ Ok (document_text t)
 kept_tree b d t h e = kept_document b d h ∙ ap tree_text e
 
-pub kept_refused : (place : ℕ) (b : BinlogValue) (d : JsonbValue) (e : RowsError) → (let fault : Reading JsonDom = Err e in let refused : Reading (List ℕ) = Err e in b ≡ made.Jsonb d → Parses view fault (tree_in (jsonb_value d)) → Parses (λ (t : List ℕ). t) refused (kept_cell_text place b))
-kept_refused place b d e h p = rw (kept_document b d h) (no_text place e (tree_in (jsonb_value d)) p)
+pub kept_failed : (column : ℕ) (b : BinlogValue) (d : JsonbValue) (e : RowsError) → (let fault : Reading JsonDom = Err e in let failed : Reading (List ℕ) = Err e in b ≡ made.Jsonb d → Parses view fault (tree_in (jsonb_value d)) → Parses (λ (t : List ℕ). t) failed (kept_cell_text column b))
+kept_failed column b d e h p = rw (kept_document b d h) (no_text column e (tree_in (jsonb_value d)) p)
 
--- the value that was made of a cell has the cell's text
+-- the value that was made from a cell has the cell's text
 pub same_text : (v : CellValue) (b : BinlogValue) → Holds v b → kept_text b ≡ text_of v
 unfolding kept_text text_of
 same_text v (made.Value w) h = ap text_of (sym h)
@@ -166,33 +166,33 @@ same_text (time negative days hours minutes seconds micros) (made.JsonDiff ds) h
 same_text (json b) (made.JsonDiff ds) h = absurd h
 same_text (json_diffs b) (made.Jsonb d) h = absurd h
 
--- ---- changes of documents
+-- ---- partial updates of JSON documents
 
 pub kept_diffs : (b : BinlogValue) (ds : Vec JsonDiff Global) → b ≡ made.JsonDiff ds → kept_text b ≡ diffs_text (map diff_view ds.items)
 unfolding kept_text
 kept_diffs b ds h = rw h refl
 
-pub kept_diffs_refused : (place : ℕ) (b : BinlogValue) (ds : Vec JsonDiff Global) (old new : List ℕ) (e : RowsError) → b ≡ made.JsonDiff ds → IsTextRefused e (diffs_text (map diff_view ds.items)) old new
-    → IsTextRefused e (kept_cell_text place b) old new
-kept_diffs_refused place b ds old new e h p = (rw (kept_diffs b ds h) (no_more (λ (t : List ℕ). t) e (diffs_text (map diff_view ds.items)) (λ t. Ok (label place ++ t)) p.0), p.1)
+pub kept_diffs_failed : (column : ℕ) (b : BinlogValue) (ds : Vec JsonDiff Global) (old new : List ℕ) (e : RowsError) → b ≡ made.JsonDiff ds → IsTextError e (diffs_text (map diff_view ds.items)) old new
+    → IsTextError e (kept_cell_text column b) old new
+kept_diffs_failed column b ds old new e h p = (rw (kept_diffs b ds h) (no_more (λ (t : List ℕ). t) e (diffs_text (map diff_view ds.items)) (λ t. Ok (label column ++ t)) p.0), p.1)
 
 pub diffs_written : (v : CellValue) (b : List ℕ) (ds : List Diff) → v ≡ json_diffs b → items_at diff_at b ≡ all_found ds → text_of v ≡ diffs_text ds
 unfolding text_of
 diffs_written v b ds h e = rw (h, e) refl
 
-pub diffs_appended : (place : ℕ) (v : CellValue) (b : List ℕ) (ds : List Diff) (old new : List ℕ) → v ≡ json_diffs b → items_at diff_at b ≡ all_found ds → AppendsBehind place (diffs_text ds) old new → Appends (cell_text place v) old new
-diffs_appended place v b ds old new h e p = rw (diffs_written v b ds h e) p
+pub diffs_appended : (column : ℕ) (v : CellValue) (b : List ℕ) (ds : List Diff) (old new : List ℕ) → v ≡ json_diffs b → items_at diff_at b ≡ all_found ds → AppendsLabeledReading column (diffs_text ds) old new → Appends (cell_text column v) old new
+diffs_appended column v b ds old new h e p = rw (diffs_written v b ds h e) p
 
--- changes of which one has no text
-pub diffs_unwritten : (place : ℕ) (cell : CellRef) (b : List ℕ) (ds : List Diff) (old new : List ℕ) (e : RowsError) → cell_value cell ≡ json_diffs b → items_at diff_at b ≡ all_found ds → IsTextRefused e (diffs_text ds) old new
-    → IsCellRefused e cell (cell_text place (cell_value cell)) old new
-diffs_unwritten place cell b ds old new e h f p = (inr (rw (diffs_written (cell_value cell) b ds h f) (no_more (λ (t : List ℕ). t) e (diffs_text ds) (λ t. Ok (label place ++ t)) p.0)), p.1)
+-- partial updates of which one has no text
+pub diffs_unwritten : (column : ℕ) (cell : CellRef) (b : List ℕ) (ds : List Diff) (old new : List ℕ) (e : RowsError) → cell_value cell ≡ json_diffs b → items_at diff_at b ≡ all_found ds → IsTextError e (diffs_text ds) old new
+    → IsCellError e cell (cell_text column (cell_value cell)) old new
+diffs_unwritten column cell b ds old new e h f p = (inr (rw (diffs_written (cell_value cell) b ds h f) (no_more (λ (t : List ℕ). t) e (diffs_text ds) (λ t. Ok (label column ++ t)) p.0)), p.1)
 
--- bytes that aren't changes
-pub diffs_refused : (place : ℕ) (v : CellValue) (b : List ℕ) (e : RowsError) → v ≡ json_diffs b → (e ≡ Memory) ⊎ ((items_at diff_at b).fault ≡ Some e) → (let refused : Reading (List ℕ) = Err e in Parses (λ (t : List ℕ). t) refused (cell_text place v))
+-- bytes that aren't partial updates
+pub diffs_failed : (column : ℕ) (v : CellValue) (b : List ℕ) (e : RowsError) → v ≡ json_diffs b → (e ≡ Memory) ⊎ ((items_at diff_at b).fault ≡ Some e) → (let failed : Reading (List ℕ) = Err e in Parses (λ (t : List ℕ). t) failed (cell_text column v))
 unfolding text_of
-diffs_refused place v b e h (inl m) = rw m tt
-diffs_refused place v b e h (inr f) = rw (h, f) (own e (diffs_fault b e f))
+diffs_failed column v b e h (inl m) = rw m tt
+diffs_failed column v b e h (inr f) = rw (h, f) (own e (diffs_fault b e f))
   where
     own : (k : RowsError) → IsJsonbFault k → (let fault : Reading (List ℕ) = Err k in Parses (λ (t : List ℕ). t) fault fault)
     own (Jsonb None) j = tt

@@ -1,13 +1,13 @@
--- The items and the members of a container, as they are written one after the other.
+-- The elements and the members of a container, as they are written in sequence.
 use Rattle.std.proofs.Common.{◌≡◌, ◌<◌, ◌≤◌, ◌+◌, ◌-◌, ℕ, suc, Bool, true, false, List, [], ◌∷◌, ◌++◌, Ok, Err, refl, sym, ap, ap₂, subst, ◌∙◌, append_assoc, arith}
 use Rattle.std.proofs.lemmas.List.{append-nil}
 use Rattle.std.specs.List.{join_with_byte}
 use Rattle.std.specs.Str.{is_utf8}
 use Rattle.rows_jsonb.specs.JsonTrees.{Tree, array, object, Items, no_items, item, Members, no_members}
-use Rattle.rows_jsonb.specs.JsonbValues.{JsonbValue, elem_in, key_of, count_in, is_array_in, is_object_in}
+use Rattle.rows_jsonb.specs.JsonbValues.{JsonbValue, elem_in, object_key, count_in, is_array_in, is_object_in}
 use Rattle.rows_times.specs.Readings.{Reading, ◌>>=◌}
-use Rattle.rows_jsonb.specs.DocumentTrees.{Counted, items, members, tree_of, utf8}
-use Rattle.rows_jsonb.proofs.Building.{array_tree, object_tree, behind_members, none_behind_members, members_turn, members_end}
+use Rattle.rows_jsonb.specs.DocumentTrees.{Counted, items, member_trees, tree_of, utf8}
+use Rattle.rows_jsonb.proofs.Building.{array_tree, object_tree, after_members, none_after_members, members_turn, members_end}
 use Rattle.feed_writers.specs.Quoting.{quoted}
 use Rattle.feed_text.specs.JsonText.{document_text, item_texts}
 use Rattle.feed_text.specs.KeyOrder.{AreInOrder, read_key}
@@ -17,7 +17,7 @@ use Rattle.feed_text.proofs.OrderLemmas.{AllOf, all_push, all_numbers, along, co
 
 -- ---- texts with commas between them
 
--- whether there is none yet
+-- whether there is no text yet
 abbrev pub TellsNone : Bool → List (List ℕ) → Type 0
 TellsNone true texts = texts ≡ []
 TellsNone false [] = ⊥
@@ -36,7 +36,7 @@ pub some_told : (xs : List (List ℕ)) (x : List ℕ) → TellsNone false (xs ++
 some_told [] x = tt
 some_told (y ∷ xs) x = tt
 
--- one text more, behind a separator
+-- one more text, after a separator
 pub text_more : (b : Bool) (xs : List (List ℕ)) (x base out separated new : List ℕ) → TellsNone b xs → out ≡ base ++ join_with_byte 44 xs → separated ≡ out ++ separator b → new ≡ separated ++ x
     → new ≡ base ++ join_with_byte 44 (xs ++ x ∷ [])
 text_more b xs x base out separated new none is first last =
@@ -51,11 +51,11 @@ abbrev pub items_before : List Tree → Items → Items
 items_before [] rest = rest
 items_before (t ∷ ts) rest = item t (items_before ts rest)
 
-abbrev items_behind : List Tree → ℕ → Counted Items → Reading (Counted Items)
-items_behind ts used x = Ok (items_before ts x.0, used + x.1)
+abbrev items_after : List Tree → ℕ → Counted Items → Reading (Counted Items)
+items_after ts used x = Ok (items_before ts x.0, used + x.1)
 
-abbrev pub behind_items : List Tree → ℕ → Reading (Counted Items) → Reading (Counted Items)
-behind_items ts used found = found >>= items_behind ts used
+abbrev pub after_items : List Tree → ℕ → Reading (Counted Items) → Reading (Counted Items)
+after_items ts used found = found >>= items_after ts used
 
 abbrev pub texts_of : List Tree → List (List ℕ)
 texts_of [] = []
@@ -74,22 +74,22 @@ before_push : (ts : List Tree) (t : Tree) (rest : Items) → items_before ts (it
 before_push [] t rest = refl
 before_push (s ∷ ts) t rest = ap (item s) (before_push ts t rest)
 
-none_behind : (found : Reading (Counted Items)) → found ≡ behind_items [] 0 found
-none_behind (Ok x) = ap (λ n. Ok (x.0, n)) (omega arith)
-none_behind (Err e) = refl
+none_after : (found : Reading (Counted Items)) → found ≡ after_items [] 0 found
+none_after (Ok x) = ap (λ n. Ok (x.0, n)) (omega arith)
+none_after (Err e) = refl
 
 abbrev with_item : Reading (Counted Items) → Counted Tree → Reading (Counted Items)
 with_item rest t = rest >>= (λ more. Ok (item t.0 more.0, t.1 + more.1))
 
-behind_push : (ts : List Tree) (t : Tree) (used n : ℕ) (rest : Reading (Counted Items)) → behind_items ts used (with_item rest (t, n)) ≡ behind_items (ts ++ t ∷ []) (used + n) rest
-behind_push ts t used n (Ok x) = ap₂ (λ a b. Ok (a, b)) (before_push ts t x.0) (omega arith)
-behind_push ts t used n (Err e) = refl
+after_push : (ts : List Tree) (t : Tree) (used n : ℕ) (rest : Reading (Counted Items)) → after_items ts used (with_item rest (t, n)) ≡ after_items (ts ++ t ∷ []) (used + n) rest
+after_push ts t used n (Ok x) = ap₂ (λ a b. Ok (a, b)) (before_push ts t x.0) (omega arith)
+after_push ts t used n (Err e) = refl
 
--- some items of an array are written
+-- some elements of an array are written
 pub record ItemsSoFar (depth : ℕ) (value : JsonbValue) (pos budget left : ℕ) (base out : List ℕ) (is_first : Bool) : Type 0 where
   pub done : List Tree
   pub used : ℕ
-  pub is : items (tree_of depth) (elem_in value) 0 (count_in value) ≡ behind_items done used (items (tree_of depth) (elem_in value) pos (count_in value - pos))
+  pub is : items (tree_of depth) (elem_in value) 0 (count_in value) ≡ after_items done used (items (tree_of depth) (elem_in value) pos (count_in value - pos))
   pub taken : used + left ≡ budget
   pub text : out ≡ base ++ join_with_byte 44 (texts_of done)
   pub none : TellsNone is_first (texts_of done)
@@ -100,7 +100,7 @@ no_items_yet depth value budget base out is =
     let whole : count_in value ≡ count_in value - 0 = omega arith in record {
       done = [];
       used = 0;
-      is = none_behind all ∙ ap (λ (k : ℕ). behind_items [] 0 (items (tree_of depth) (elem_in value) 0 k)) whole;
+      is = none_after all ∙ ap (λ (k : ℕ). after_items [] 0 (items (tree_of depth) (elem_in value) 0 k)) whole;
       taken = omega arith;
       text = is ∙ sym (append-nil base);
       none = refl;
@@ -115,7 +115,7 @@ one_item_more depth value seen pos budget mid left base out separated new is_fir
     let rest = items below_it at (pos + 1) (count_in value - (pos + 1)) in
     let pushed = texts_of-push so.done one.tree in
     let tree = one.is in
-    let step : behind_items so.done so.used (items below_it at pos (count_in value - pos)) ≡ behind_items (so.done ++ one.tree ∷ []) (so.used + one.count) rest = rw (more, here, tree) (behind_push so.done one.tree so.used one.count rest) in record {
+    let step : after_items so.done so.used (items below_it at pos (count_in value - pos)) ≡ after_items (so.done ++ one.tree ∷ []) (so.used + one.count) rest = rw (more, here, tree) (after_push so.done one.tree so.used one.count rest) in record {
       done = so.done ++ one.tree ∷ [];
       used = so.used + one.count;
       is = so.is ∙ step;
@@ -131,7 +131,7 @@ all_items depth value pos budget left old begun out new is_first end begins so e
     let texts = item_texts-before so.done in record {
       found = items_before so.done no_items;
       count = so.used;
-      is = so.is ∙ ap (λ (k : ℕ). behind_items so.done so.used (items (tree_of depth) (elem_in value) pos k)) none ∙ ap (λ (n : ℕ). Ok (items_before so.done no_items, n)) (omega arith);
+      is = so.is ∙ ap (λ (k : ℕ). after_items so.done so.used (items (tree_of depth) (elem_in value) pos k)) none ∙ ap (λ (n : ℕ). Ok (items_before so.done no_items, n)) (omega arith);
       taken = so.taken;
       text =
           ends ∙ ap (λ (t : List ℕ). t ++ 93 ∷ []) (so.text ∙ ap (λ (t : List ℕ). t ++ join_with_byte 44 (texts_of so.done)) begins)
@@ -162,7 +162,7 @@ read_count (Ok t) = t.1
 read_count (Err e) = 0
 
 abbrev pub keys_of : JsonbValue → ℕ → List ℕ
-keys_of value p = read_key (key_of value p)
+keys_of value p = read_key (object_key value p)
 
 abbrev pub trees_of : ℕ → JsonbValue → ℕ → Tree
 trees_of depth value p = read_tree (elem_in value p >>= tree_of depth)
@@ -170,11 +170,11 @@ trees_of depth value p = read_tree (elem_in value p >>= tree_of depth)
 abbrev pub counts_of : ℕ → JsonbValue → ℕ → ℕ
 counts_of depth value p = read_count (elem_in value p >>= tree_of depth)
 
--- a member is there
+-- the member exists
 abbrev pub IsThere : ℕ → JsonbValue → ℕ → Type 0
 IsThere depth value p = IsMember depth value p (keys_of value p) (trees_of depth value p) (counts_of depth value p)
 
-same_key : (value : JsonbValue) (p : ℕ) (k : List ℕ) → key_of value p ≡ Ok k → k ≡ keys_of value p
+same_key : (value : JsonbValue) (p : ℕ) (k : List ℕ) → object_key value p ≡ Ok k → k ≡ keys_of value p
 same_key value p k h = sym (ap read_key h)
 
 same_found : (depth : ℕ) (value seen : JsonbValue) (p : ℕ) (t : Counted Tree) → elem_in value p ≡ Ok seen → tree_of depth seen ≡ Ok t → (elem_in value p >>= tree_of depth) ≡ Ok t
@@ -198,35 +198,35 @@ utf8_found : (s : List ℕ) → is_utf8 s ≡ true → utf8 s ≡ Ok s
 utf8_found s h = rw h refl
 
 module _ (depth : ℕ) (value : JsonbValue) where
-  -- the members that are in order are those that the definition finds, up to the same place
+  -- the sorted members are those that the definition finds, up to the same index
   members_so_far : (n : ℕ) (order : List ℕ) → AreInOrder (keys_of value) n order → ((p : ℕ) → p < n → IsThere depth value p) → (k : ℕ)
-      → members (tree_of depth) (key_of value) (elem_in value) 0 (n + k) no_members
-      ≡ behind_members (count_all (keys_of value) (trees_of depth value) (counts_of depth value) order) (members (tree_of depth) (key_of value) (elem_in value) n k (along (keys_of value) (trees_of depth value) (counts_of depth value) order))
+      → member_trees (tree_of depth) (object_key value) (elem_in value) 0 (n + k) no_members
+      ≡ after_members (count_all (keys_of value) (trees_of depth value) (counts_of depth value) order) (member_trees (tree_of depth) (object_key value) (elem_in value) n k (along (keys_of value) (trees_of depth value) (counts_of depth value) order))
   members_so_far _ _ AreInOrder.none all k =
       let e : 0 + k ≡ k = omega arith in
-      ap (λ (j : ℕ). members (tree_of depth) (key_of value) (elem_in value) 0 j no_members) e ∙ none_behind_members (members (tree_of depth) (key_of value) (elem_in value) 0 k no_members)
+      ap (λ (j : ℕ). member_trees (tree_of depth) (object_key value) (elem_in value) 0 j no_members) e ∙ none_after_members (member_trees (tree_of depth) (object_key value) (elem_in value) 0 k no_members)
   members_so_far _ _ (AreInOrder.more n before after order first last) all k =
       let below = tree_of depth in
       let keys = keys_of value in
       let trees = trees_of depth value in
       let counts = counts_of depth value in
-      let found = members below (key_of value) (elem_in value) in
+      let found = member_trees below (object_key value) (elem_in value) in
       let m = all n (omega arith) in
       let fewer : (p : ℕ) → p < n → IsThere depth value p = λ p h. all p (omega (arith, h)) in
       let e : (n + 1) + k ≡ n + suc k = omega arith in
       ap (λ (j : ℕ). found 0 j no_members) e
       ∙ members_so_far n (before ++ after) order fewer (suc k)
-      ∙ members_turn below (key_of value) (elem_in value) (along keys trees counts (before ++ after)) (trees n) (keys n) (keys n) (count_all keys trees counts (before ++ after)) (counts n) n (suc k) k m.seen refl m.key_is m.seen_is (utf8_found (keys n) m.is_text) m.is
-      ∙ ap₂ (λ (c : ℕ) (ms : Members). behind_members c (found (n + 1) k ms)) (count_insert keys trees counts before after n) (put_along keys trees counts before after n first last)
+      ∙ members_turn below (object_key value) (elem_in value) (along keys trees counts (before ++ after)) (trees n) (keys n) (keys n) (count_all keys trees counts (before ++ after)) (counts n) n (suc k) k m.seen refl m.key_is m.seen_is (utf8_found (keys n) m.is_text) m.is
+      ∙ ap₂ (λ (c : ℕ) (ms : Members). after_members c (found (n + 1) k ms)) (count_insert keys trees counts before after n) (put_along keys trees counts before after n first last)
 
   pub members_are : (n : ℕ) (order : List ℕ) → AreInOrder (keys_of value) n order → AllOf (IsThere depth value) order
-      → members (tree_of depth) (key_of value) (elem_in value) 0 n no_members
+      → member_trees (tree_of depth) (object_key value) (elem_in value) 0 n no_members
       ≡ Ok (along (keys_of value) (trees_of depth value) (counts_of depth value) order, count_all (keys_of value) (trees_of depth value) (counts_of depth value) order)
   members_are n order are all =
       let e : n ≡ n + 0 = omega arith in
-      ap (λ (j : ℕ). members (tree_of depth) (key_of value) (elem_in value) 0 j no_members) e
+      ap (λ (j : ℕ). member_trees (tree_of depth) (object_key value) (elem_in value) 0 j no_members) e
       ∙ members_so_far n order are (all_numbers (keys_of value) (IsThere depth value) n order are all) 0
-      ∙ members_end (tree_of depth) (key_of value) (elem_in value) (along (keys_of value) (trees_of depth value) (counts_of depth value) order) (count_all (keys_of value) (trees_of depth value) (counts_of depth value) order) n 0 refl
+      ∙ members_end (tree_of depth) (object_key value) (elem_in value) (along (keys_of value) (trees_of depth value) (counts_of depth value) order) (count_all (keys_of value) (trees_of depth value) (counts_of depth value) order) n 0 refl
 
 -- some members of an object are written
 pub record MembersSoFar (depth : ℕ) (value : JsonbValue) (done : List ℕ) (budget left : ℕ) (base out : List ℕ) (is_first : Bool) : Type 0 where
@@ -288,7 +288,7 @@ object_written depth d value budget mid left old new deep is_object one w =
     }
 
 -- a key, a colon and a value were appended
-pub member_is : (depth : ℕ) (value seen : JsonbValue) (pos budget left : ℕ) (old keyed pointed new bytes key : List ℕ) → key_of value pos ≡ Ok key → bytes ≡ key → is_utf8 bytes ≡ true → keyed ≡ old ++ quoted bytes → pointed ≡ keyed ++ 58 ∷ []
+pub member_is : (depth : ℕ) (value seen : JsonbValue) (pos budget left : ℕ) (old keyed pointed new bytes key : List ℕ) → object_key value pos ≡ Ok key → bytes ≡ key → is_utf8 bytes ≡ true → keyed ≡ old ++ quoted bytes → pointed ≡ keyed ++ 58 ∷ []
     → elem_in value pos ≡ Ok seen → WritesTree depth seen budget left pointed new → WritesMember depth value pos budget left old new
 member_is depth value seen pos budget left old keyed pointed new bytes key found same valid first second here w = record {
   key = bytes;

@@ -6,20 +6,20 @@ use Rattle.std.proofs.lemmas.Grind.{flat_map-append}
 use Rattle.std.proofs.lemmas.List.{length-take-le, take_more_set, take-append-le, take-take}
 use Rattle.std.specs.List.{flat_map}
 use Rattle.std.specs.Option.{option_map}
-use Rattle.wire_buf.specs.Spelling.{AreBytes}
+use Rattle.wire_buf.specs.Encoding.{AreBytes}
 use Rattle.rows_decimal.specs.Digits.{AreDigits}
-use Rattle.rows_decimal.specs.Decimals.{DecimalParts, kept, zero_value, without_zero_groups}
+use Rattle.rows_decimal.specs.Decimals.{DecimalParts, normalized, zero_value, without_zero_groups}
 use Rattle.rows_decimal.specs.Texts.{glyphs, significant, whole_text, fraction_text, sign_text, decimal_text}
-use Rattle.rows_decimal.specs.Unpacked.{unpacked, text_of, packed_text}
+use Rattle.rows_decimal.specs.Unpacked.{unpacked, optional_text, packed_text}
 use Rattle.rows_decimal.proofs.GroupLemmas.{drop_digits}
 use Rattle.rows_decimal.proofs.UnpackLemmas.{kept_are}
 use Rattle.rows_decimal.proofs.UnpackedLemmas.{unpacked-sound}
 use Rattle.feed_writers.specs.Quoting.{is_plain_byte, quoted_byte, quoted}
 use Rattle.feed_text.specs.DecimalText.{quoted_decimal}
 
--- ---- what stands for itself
+-- ---- bytes that need no escape
 
--- bytes that stand for themselves between quotes
+-- bytes that need no escape between quotes
 pub record AreLeft (text : List ℕ) : Type 0 where
   pub left : flat_map quoted_byte text ≡ text
 
@@ -71,7 +71,7 @@ parts_left v h g =
     left_append (sign_text v.negative) (whole_text v.before ++ fraction_text v.after) (sign_left v.negative)
     (left_append (whole_text v.before) (fraction_text v.after) (whole_left v.before h) (fraction_left v.after g))
 
-kept_left : (v : DecimalParts) → AreDigits v.before → AreDigits v.after → AreLeft (decimal_text (kept false v))
+kept_left : (v : DecimalParts) → AreDigits v.before → AreDigits v.after → AreLeft (decimal_text (normalized false v))
 kept_left v h g = elim (eqb_tells (length (without_zero_groups v.before) + length v.after) 0) [
   | inl t ↦ let zero_left : AreLeft (decimal_text zero_value) = record { left = refl } in rw t.0 zero_left
   | inr t ↦ rw t.0 (parts_left (record { negative = v.negative; before = without_zero_groups v.before; after = v.after }) (kept_are false v.before h) g)
@@ -84,10 +84,10 @@ pub packed_left : (precision scale : ℕ) (bytes text : List ℕ) → AreBytes b
 packed_left precision scale bytes text are e = go (unpacked precision scale bytes) refl
   where
     go : (o : Option DecimalParts) → unpacked precision scale bytes ≡ o → AreLeft text
-    go None u = absurd (none-some text (sym (ap text_of u) ∙ e))
+    go None u = absurd (none-some text (sym (ap optional_text u) ∙ e))
     go (Some v) u =
         let p = (unpacked-sound precision scale v bytes are u).1 in
-        let same : decimal_text (kept false v) ≡ text = let f = sym (ap text_of u) ∙ e in cc in
+        let same : decimal_text (normalized false v) ≡ text = let f = sym (ap optional_text u) ∙ e in cc in
         subst AreLeft same (kept_left v p.before_are p.after_are)
 
 -- ---- between quotes
@@ -99,16 +99,16 @@ plain_quoted text h = ap (λ l. 39 ∷ l ++ 39 ∷ []) h.left
 pub quoted_none : (precision scale : ℕ) (bytes : List ℕ) → packed_text precision scale bytes ≡ None → quoted_decimal precision scale bytes ≡ None
 quoted_none precision scale bytes e = ap (option_map quoted) e
 
--- the quotes were written in front of the text and behind it
+-- the quotes were written before the text and after it
 pub written_quoted : (old new text : List ℕ) (at end : ℕ) → at < length old → end < length new → take end new ≡ take (at + 1) (set old at 39) ++ text → AreLeft text
     → take (end + 1) (set new end 39) ≡ take at old ++ quoted text
-written_quoted old new text at end room behind is left =
-    take_more_set new end 39 behind ∙ ap (λ (l : List ℕ). l ++ 39 ∷ []) is ∙ ap (λ (l : List ℕ). (l ++ text) ++ 39 ∷ []) (take_more_set old at 39 room)
+written_quoted old new text at end room following is left =
+    take_more_set new end 39 following ∙ ap (λ (l : List ℕ). l ++ 39 ∷ []) is ∙ ap (λ (l : List ℕ). (l ++ text) ++ 39 ∷ []) (take_more_set old at 39 room)
     ∙ ap (λ (l : List ℕ). l ++ 39 ∷ []) (append_assoc (take at old) (39 ∷ []) text) ∙ append_assoc (take at old) (39 ∷ text) (39 ∷ [])
     ∙ ap (λ (l : List ℕ). take at old ++ l) (sym (plain_quoted text left))
 
--- a refused text leaves what stands in front
-pub front_left : (old new : List ℕ) (at : ℕ) → at < length old → at < length new → take (at + 1) new ≡ take (at + 1) (set old at 39) → take at new ≡ take at old
-front_left old new at room more is =
+-- on an error the text before is unchanged
+pub prefix_left : (old new : List ℕ) (at : ℕ) → at < length old → at < length new → take (at + 1) new ≡ take (at + 1) (set old at 39) → take at new ≡ take at old
+prefix_left old new at room more is =
     let long : at ≤ length (take at old) = omega (arith, length-take-le at old (omega (arith, room))) in
     sym (take-take at (at + 1) new (omega arith)) ∙ ap (take at) (is ∙ take_more_set old at 39 room) ∙ take-append-le at (take at old) (39 ∷ []) long ∙ take-take at at old (omega arith)

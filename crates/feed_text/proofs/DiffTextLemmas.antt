@@ -1,4 +1,4 @@
--- The texts of changes, one after the other.
+-- The texts of partial updates, in sequence.
 use Rattle.std.proofs.Common.{◌≡◌, ℕ, List, [], ◌∷◌, ◌++◌, map, Ok, Err, refl, sym, ap, ◌∙◌, append_assoc, codes}
 use Rattle.std.proofs.lemmas.List.{append-nil}
 use Rattle.std.specs.List.{join_with_byte}
@@ -17,11 +17,11 @@ led_nothing : (ts : List (List ℕ)) → led [] ts ≡ join_with_byte 44 ts
 led_nothing [] = refl
 led_nothing (t ∷ ts) = refl
 
--- nothing is written yet but the bracket
+-- only the bracket is written so far
 pub begun : (old out separator : List ℕ) (ts : List (List ℕ)) → out ≡ old ++ codes "diff[" → separator ≡ [] → out ++ led separator ts ≡ (old ++ codes "diff[") ++ join_with_byte 44 ts
 begun old out separator ts h e = rw (h, e, led_nothing ts) refl
 
--- the text that there is was appended
+-- the text was appended
 pub text_appended : (found : Reading (List ℕ)) (old new : List ℕ) → Appends found old new → (t : List ℕ) × (found ≡ Ok t) × (new ≡ old ++ t)
 text_appended (Ok t) old new h = (t, refl, h)
 text_appended (Err e) old new h = absurd h
@@ -30,7 +30,7 @@ pub first_text : (d : Diff) (ds : List Diff) (t : List ℕ) (ts : List (List ℕ
 unfolding diff_texts
 first_text d ds t ts h e = rw (h, e) refl
 
--- there is no list of texts where one of them isn't there
+-- there is no list of texts if one of them is missing
 pub no_first_text : (d : Diff) (ds : List Diff) (e : RowsError) → Parses (λ (t : List ℕ). t) (Err e) (diff_text d) → Parses (λ (ts : List (List ℕ)). ts) (Err e) (diff_texts (d ∷ ds))
 unfolding diff_texts
 no_first_text d ds e h = no_list (diff_text d) h

@@ -1,4 +1,4 @@
--- The texts of items and members, one after the other with commas between them.
+-- The texts of elements and members, in sequence with commas between them.
 use Rattle.std.proofs.Common.{◌≡◌, ℕ, List, [], ◌∷◌, ◌++◌, refl, ap, sym, ◌∙◌, append_assoc}
 use Rattle.std.proofs.lemmas.List.{append-nil}
 use Rattle.std.specs.List.{join_with_byte}
@@ -6,17 +6,17 @@ use Rattle.rows_jsonb.specs.JsonTrees.{Tree, Items, item, Members, member}
 use Rattle.feed_writers.specs.Quoting.{quoted}
 use Rattle.feed_text.specs.JsonText.{document_text, item_texts, member_texts}
 
--- what is left to write, where a separator stands before it
+-- the texts yet to write, with a separator before them
 abbrev pub led : List ℕ → List (List ℕ) → List ℕ
 led separator [] = []
 led separator (x ∷ xs) = separator ++ join_with_byte 44 (x ∷ xs)
 
--- one text more, and then a comma leads
+-- one more text, and then a comma precedes
 led_more : (separator x : List ℕ) (xs : List (List ℕ)) → led separator (x ∷ xs) ≡ separator ++ (x ++ led (44 ∷ []) xs)
 led_more separator x [] = ap (λ t. separator ++ t) (sym (append-nil x))
 led_more separator x (y ∷ ys) = refl
 
--- the separator and one text more are written
+-- the separator and one more text are written
 pub one_more : (out separated new separator next x base : List ℕ) (xs left : List (List ℕ)) → separated ≡ out ++ separator → new ≡ separated ++ x → next ≡ 44 ∷ [] → left ≡ x ∷ xs → out ++ led separator left ≡ base
     → new ++ led next xs ≡ base
 one_more out separated new separator next x base xs left first second comma here is =
@@ -28,7 +28,7 @@ one_more out separated new separator next x base xs left first second comma here
     ∙ ap (λ (l : List (List ℕ)). out ++ led separator l) (sym here)
     ∙ is
 
--- nothing is left, and the bracket was written
+-- no text remains, and the bracket was written
 pub closed : (old out new separator : List ℕ) (texts left : List (List ℕ)) (first last : ℕ) → left ≡ [] → out ++ led separator left ≡ (old ++ first ∷ []) ++ join_with_byte 44 texts → new ≡ out ++ last ∷ []
     → new ≡ old ++ (first ∷ (join_with_byte 44 texts ++ last ∷ []))
 closed old out new separator texts left first last none is written =

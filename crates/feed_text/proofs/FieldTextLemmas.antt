@@ -1,10 +1,10 @@
--- The text of the cell at the front of bytes.
+-- The text of the cell at the start of the bytes.
 use Rattle.std.proofs.Common.{◌≡◌, ℕ, List, Option, Some, None, Ok, refl, ap}
 use Rattle.std.specs.Option.{option_map}
 use Rattle.rows_times.specs.Readings.{Reading, ◌>>=◌}
 use Rattle.rows_decimal.specs.Unpacked.{packed_text}
-use Rattle.rows_cells.specs.declared.form.CellForm.TheVariants.{Decimal}
-use Rattle.rows_cells.specs.CellForms.{decimal_size}
+use Rattle.rows_cells.specs.declared.format.CellFormat.TheVariants.{Decimal}
+use Rattle.rows_cells.specs.CellSizes.{decimal_size}
 use Rattle.rows_cells.specs.CellValues.{CellValue, bytes, decimal_value}
 use Rattle.rows_cells.specs.Cells.{content_at, cell_at}
 use Rattle.feed_writers.specs.Quoting.{quoted}
@@ -13,7 +13,7 @@ use Rattle.feed_text.specs.CellText.{text_of}
 abbrev with_rest : List ℕ → CellValue → Reading (CellValue × List ℕ)
 with_rest rest v = Ok (v, rest)
 
--- the bytes that pack a decimal are a cell of it, and its text is quoted
+-- the bytes of a packed decimal are a cell of it, and its text is quoted
 pub decimal_at : (precision scale : ℕ) (b content rest text : List ℕ) → content_at (decimal_size precision scale) b ≡ Ok (content, rest) → option_map quoted (packed_text precision scale content) ≡ Some text
     → (v : CellValue) × (cell_at (Decimal precision scale) b ≡ Ok (v, rest)) × (text_of v ≡ Ok text)
 unfolding cell_at text_of

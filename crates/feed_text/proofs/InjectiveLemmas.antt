@@ -1,8 +1,8 @@
--- Equal quoted texts are of equal bytes.
+-- Equal quoted texts have equal bytes.
 use Rattle.std.proofs.Common.{◌≡◌, ◌<◌, ◌/◌, ◌%◌, ℕ, suc, Bool, true, false, List, [], ◌∷◌, ◌++◌, refl, sym, ap, subst, ◌∙◌, append_assoc, arith}
 use Rattle.std.specs.Fmt.{digit_glyph}
 use Rattle.std.specs.List.{flat_map}
-use Rattle.wire_buf.specs.Spelling.{AreBytes}
+use Rattle.wire_buf.specs.Encoding.{AreBytes}
 use Rattle.feed_writers.specs.Quoting.{is_plain_byte, quoted_byte, quoted}
 
 cons_same : (x y : ℕ) (r s : List ℕ) → x ∷ r ≡ y ∷ s → (x ≡ y) × (r ≡ s)
@@ -11,14 +11,14 @@ cons_same x y r s h = (cc, cc)
 glyph_same : (a b : ℕ) → a < 16 → b < 16 → digit_glyph false a ≡ digit_glyph false b → a ≡ b
 glyph_same a b ha hb h = grind arith
 
--- what begins with a backslash isn't plain
+-- a byte whose text begins with a backslash isn't plain
 no_backslash : (x : ℕ) → x ≡ 92 → is_plain_byte x ≡ true → ⊥
 no_backslash x e p = let f : is_plain_byte 92 ≡ true = subst (λ v. is_plain_byte v ≡ true) e p in cc
 
 no_quote : (x : ℕ) → x ≡ 39 → is_plain_byte x ≡ true → ⊥
 no_quote x e p = let f : is_plain_byte 39 ≡ true = subst (λ v. is_plain_byte v ≡ true) e p in cc
 
--- the same text begins with the same byte
+-- equal texts begin with equal bytes
 first_same : (x y : ℕ) (b c : Bool) → is_plain_byte x ≡ b → is_plain_byte y ≡ c → (r s : List ℕ) → x < 256 → y < 256
     → quoted_byte x ++ r ≡ quoted_byte y ++ s → (x ≡ y) × (r ≡ s)
 first_same x y true true p q r s hx hy h = cons_same x y r s (rw (p, q) at h)

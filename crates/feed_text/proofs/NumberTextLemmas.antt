@@ -6,20 +6,20 @@ use Rattle.std.proofs.Math.Nat.{pow-suc, pow-le-pow_right}
 use Rattle.std.proofs.lemmas.Bool.Decides.{leb_tells, eqb_tells}
 use Rattle.std.proofs.lemmas.Fmt.{decimal_digit, decimal_step, length-decimal-le}
 use Rattle.std.proofs.lemmas.List.{map-append, append-nil, length-map}
-use Rattle.rows_times.specs.TimeTexts.{padded}
+use Rattle.rows_times.specs.TimeTexts.{padded_decimal}
 use Rattle.rows_decimal.specs.Digits.{digits_in}
 use Rattle.rows_decimal.specs.Texts.{glyphs, significant, fraction_text, sign_text}
-use Rattle.rows_decimal.specs.Unpacked.{packed_text, text_of}
+use Rattle.rows_decimal.specs.Unpacked.{packed_text, optional_text}
 use Rattle.rows_decimal.specs.PackedTexts.{is_shown, lead, zero_piece}
 use Rattle.rows_decimal.specs.PackedNumbers.{PackNumbers}
 use Rattle.rows_decimal.specs.declared.numbers.DecimalNumbers.{DecimalNumbers}
-use Rattle.rows_decimal.proofs.TakingLemmas.{length-digits_in}
-use Rattle.rows_decimal.proofs.PlaceLemmas.{lead_zeros, lead_none, lead_some, sig_suc, sig_append_none, sig_append_some}
+use Rattle.rows_decimal.proofs.UnpackDigitsLemmas.{length-digits_in}
+use Rattle.rows_decimal.proofs.DigitTextLemmas.{lead_zeros, lead_none, lead_some, sig_suc, sig_append_none, sig_append_some}
 use Rattle.rows_decimal.proofs.WriteLemmas.{kept_text}
 use Rattle.feed_writers.proofs.DigitLemmas.{padded_more, padded_one}
-use Rattle.feed_text.specs.DecimalText.{numbers_sign, places_text, numbers_text}
+use Rattle.feed_text.specs.DecimalText.{numbers_sign, micros_places_text, numbers_text}
 
--- ---- digits of a number, as their characters
+-- ---- a number's digits as characters
 
 last_apart : (k n : ℕ) → digits_in (suc k) n ≡ digits_in k (n / 10) ++ (n % 10 ∷ [])
 unfolding digits_in
@@ -35,7 +35,7 @@ one_glyph : (n : ℕ) → glyphs (digits_in 1 n) ≡ (48 + n % 10) ∷ []
 unfolding digits_in
 one_glyph n = refl
 
-glyphs_padded : (k n : ℕ) → n < 10 ^ suc k → n < 2 ^ 64 → glyphs (digits_in (suc k) n) ≡ padded (suc k) n
+glyphs_padded : (k n : ℕ) → n < 10 ^ suc k → n < 2 ^ 64 → glyphs (digits_in (suc k) n) ≡ padded_decimal (suc k) n
 glyphs_padded zero n small most =
     let few : n < 10 = omega (arith, small) in
     let same : n % 10 ≡ n = omega (arith, few) in
@@ -43,7 +43,7 @@ glyphs_padded zero n small most =
 glyphs_padded (suc k) n small most =
     glyphs_apart (suc k) n ∙ ap (λ (l : List ℕ). l ++ (48 + n % 10) ∷ []) (glyphs_padded k (n / 10) (tenth (suc k) n small) (omega (arith, most))) ∙ sym (padded_more k n most)
 
--- the digits without the zeros in front are those of the number, and there is one at least
+-- the digits without leading zeros are those of the number, at least one
 record AreOwn (ds : List ℕ) (n : ℕ) : Type 0 where
   pub some : 0 < length (significant ds)
   pub text : glyphs (significant ds) ≡ decimal n
@@ -52,11 +52,11 @@ own : (k n : ℕ) → 0 < n → n < 10 ^ k → n < 2 ^ 64 → AreOwn (digits_in 
 own zero n some small most = absurd (omega (arith, some, small))
 own (suc k) n some small most = elim (leb_tells 10 n) [
   | inl t ↦
-      let front = own k (n / 10) (omega (arith, t.1)) (tenth k n small) (omega (arith, most)) in
-      let sig : significant (digits_in (suc k) n) ≡ significant (digits_in k (n / 10)) ++ (n % 10 ∷ []) = ap significant (last_apart k n) ∙ sig_append_some (digits_in k (n / 10)) (n % 10 ∷ []) front.some in
+      let prefix = own k (n / 10) (omega (arith, t.1)) (tenth k n small) (omega (arith, most)) in
+      let sig : significant (digits_in (suc k) n) ≡ significant (digits_in k (n / 10)) ++ (n % 10 ∷ []) = ap significant (last_apart k n) ∙ sig_append_some (digits_in k (n / 10)) (n % 10 ∷ []) prefix.some in
       record {
         some = omega (arith, ap length sig, length-append (significant (digits_in k (n / 10))) (n % 10 ∷ []));
-        text = ap glyphs sig ∙ map-append (λ d. 48 + d) (significant (digits_in k (n / 10))) (n % 10 ∷ []) ∙ ap (λ (l : List ℕ). l ++ (48 + n % 10) ∷ []) front.text ∙ sym (decimal_step n t.1 most);
+        text = ap glyphs sig ∙ map-append (λ d. 48 + d) (significant (digits_in k (n / 10))) (n % 10 ∷ []) ∙ ap (λ (l : List ℕ). l ++ (48 + n % 10) ∷ []) prefix.text ∙ sym (decimal_step n t.1 most);
       }
   | inr t ↦
       let few : n < 10 = omega (arith, t.1) in
@@ -88,14 +88,14 @@ and_yes false = refl
 some_lt : (n : ℕ) → 0 < n → nat_lt 0 n ≡ true
 some_lt n h = elim (leb_tells 1 n) [ inl t ↦ t.0 | inr t ↦ absurd (omega (arith, t.1, h)) ]
 
-front_text : (negative : Bool) (k n scale : ℕ) → n < 10 ^ k → n < 2 ^ 64
+prefix_text : (negative : Bool) (k n scale : ℕ) → n < 10 ^ k → n < 2 ^ 64
     → lead negative (digits_in k n) ++ zero_piece (is_shown (digits_in k n)) (negative && nat_lt 0 scale) ≡ sign_text (negative && (nat_lt 0 scale || nat_lt 0 n)) ++ decimal n
-front_text negative k zero scale small most =
+prefix_text negative k zero scale small most =
     let p = lead_none negative (digits_in k 0) (lead_zeros k) in
     ap₂ (λ (l : List ℕ) (b : Bool). l ++ zero_piece b (negative && nat_lt 0 scale)) p.0 p.1
     ∙ ap (λ (b : Bool). sign_text (negative && b) ++ 48 ∷ []) (sym (or_no (nat_lt 0 scale)))
     ∙ ap (λ (l : List ℕ). sign_text (negative && (nat_lt 0 scale || false)) ++ l) (sym (decimal_digit 0 (omega arith)))
-front_text negative k (suc m) scale small most =
+prefix_text negative k (suc m) scale small most =
     let n = suc m in
     let some : 0 < suc m = omega arith in
     let o = own k (suc m) some small most in
@@ -107,24 +107,24 @@ front_text negative k (suc m) scale small most =
 some_eqb : (n : ℕ) → eqb (suc n) 0 ≡ false
 some_eqb n = elim (eqb_tells (suc n) 0) [ inl t ↦ absurd (omega (arith, t.1)) | inr t ↦ t.0 ]
 
-fraction_places : (scale n : ℕ) → n < 10 ^ scale → n < 2 ^ 64 → fraction_text (digits_in scale n) ≡ places_text scale n
-fraction_places zero n small most = let none = length-digits_in 0 n in rw none refl
-fraction_places (suc k) n small most = rw (length-digits_in (suc k) n, some_eqb k) (ap (λ (l : List ℕ). 46 ∷ l) (glyphs_padded k n small most))
+fraction_columns : (scale n : ℕ) → n < 10 ^ scale → n < 2 ^ 64 → fraction_text (digits_in scale n) ≡ micros_places_text scale n
+fraction_columns zero n small most = let none = length-digits_in 0 n in rw none refl
+fraction_columns (suc k) n small most = rw (length-digits_in (suc k) n, some_eqb k) (ap (λ (l : List ℕ). 46 ∷ l) (glyphs_padded k n small most))
 
 below_word : (k n : ℕ) → k ≤ 16 → n < 10 ^ k → n < 2 ^ 64
 below_word k n few small = let ten : 0 < 10 = omega arith in omega (arith, small, pow-le-pow_right {n = 10} ten few)
 
--- the text of the decimal that bytes pack, from its numbers
+-- the text of a packed decimal, from its numbers
 pub numbers_text_is : (precision scale : ℕ) (bytes : List ℕ) (n : DecimalNumbers) → PackNumbers precision scale bytes n → packed_text precision scale bytes ≡ Some (numbers_text scale n)
 numbers_text_is precision scale bytes n p =
     let k = precision - scale in
-    let front = front_text n.negative k n.before scale p.before_fits (below_word k n.before p.few_before p.before_fits) in
-    let back = fraction_places scale n.after p.after_fits (below_word scale n.after (omega (arith, p.few_after)) p.after_fits) in
-    ap text_of p.is
+    let prefix = prefix_text n.negative k n.before scale p.before_fits (below_word k n.before p.few_before p.before_fits) in
+    let back = fraction_columns scale n.after p.after_fits (below_word scale n.after (omega (arith, p.few_after)) p.after_fits) in
+    ap optional_text p.is
     ∙ ap (λ (t : List ℕ). Some t) (sym (kept_text n.negative (digits_in k n.before) (digits_in scale n.after) scale (length-digits_in scale n.after))
-    ∙ ap₂ (λ (a b : List ℕ). a ++ b) front back ∙ append_assoc (numbers_sign scale n) (decimal n.before) (places_text scale n.after))
+    ∙ ap₂ (λ (a b : List ℕ). a ++ b) prefix back ∙ append_assoc (numbers_sign scale n) (decimal n.before) (micros_places_text scale n.after))
 
--- ---- how long it is
+-- ---- the length of the text
 
 sign_short : (b : Bool) → length (sign_text b) ≤ 1
 sign_short true = omega arith
@@ -137,10 +137,10 @@ decimal_short k n small most =
     let more : n < 10 ^ suc k = omega (arith, small, pow-le-pow_right {n = 10} ten up) in
     omega (arith, length-decimal-le (suc k) n (omega arith) more most)
 
-places_short : (scale n : ℕ) → n < 10 ^ scale → n < 2 ^ 64 → length (places_text scale n) ≤ scale + 1
-places_short zero n small most = omega arith
-places_short (suc k) n small most =
-    let size : length (padded (suc k) n) ≡ suc k = sym (ap length (glyphs_padded k n small most)) ∙ length-map (digits_in (suc k) n) (λ (d : ℕ). 48 + d) ∙ length-digits_in (suc k) n in
+columns_short : (scale n : ℕ) → n < 10 ^ scale → n < 2 ^ 64 → length (micros_places_text scale n) ≤ scale + 1
+columns_short zero n small most = omega arith
+columns_short (suc k) n small most =
+    let size : length (padded_decimal (suc k) n) ≡ suc k = sym (ap length (glyphs_padded k n small most)) ∙ length-map (digits_in (suc k) n) (λ (d : ℕ). 48 + d) ∙ length-digits_in (suc k) n in
     rw (some_eqb k) (omega (arith, size))
 
 pub numbers_short : (precision scale : ℕ) (bytes : List ℕ) (n : DecimalNumbers) → PackNumbers precision scale bytes n → length (numbers_text scale n) ≤ precision + 3
@@ -149,9 +149,9 @@ numbers_short precision scale bytes n p =
     omega (
       arith,
       le,
-      length-append (numbers_sign scale n) (decimal n.before ++ places_text scale n.after),
-      length-append (decimal n.before) (places_text scale n.after),
+      length-append (numbers_sign scale n) (decimal n.before ++ micros_places_text scale n.after),
+      length-append (decimal n.before) (micros_places_text scale n.after),
       sign_short (n.negative && (nat_lt 0 scale || nat_lt 0 n.before)),
       decimal_short (precision - scale) n.before p.before_fits (below_word (precision - scale) n.before p.few_before p.before_fits),
-      places_short scale n.after p.after_fits (below_word scale n.after (omega (arith, p.few_after)) p.after_fits),
+      columns_short scale n.after p.after_fits (below_word scale n.after (omega (arith, p.few_after)) p.after_fits),
     )

@@ -5,10 +5,10 @@ use Rattle.std.proofs.lemmas.List.{append-nil, take-append-le, take-take}
 use Rattle.std.specs.Prelude.{take_while, not}
 use Rattle.std.specs.List.{flat_map, prefix_len}
 use Rattle.rows_times.specs.declared.fault.RowsError.{RowsError}
-use Rattle.feed_text.specs.Pieces.{IsRefused}
+use Rattle.feed_text.specs.Pieces.{IsAppendError}
 use Rattle.feed_writers.specs.Quoting.{is_plain_byte, escape, quoted_byte, quoted}
 
--- the plain bytes at the front stand for themselves
+-- the plain bytes at the start are written unchanged
 pub plain_run : (xs : List ℕ) → flat_map quoted_byte xs ≡ take (length (take_while is_plain_byte xs)) xs ++ flat_map quoted_byte (drop (length (take_while is_plain_byte xs)) xs)
 plain_run [] = refl
 plain_run (x ∷ xs) = either (is_plain_byte x) refl (plain_run xs)
@@ -20,26 +20,26 @@ plain_run (x ∷ xs) = either (is_plain_byte x) refl (plain_run xs)
         rw h (simp e (ap (λ (t : List ℕ). x ∷ t) more))
     either false h more = rw (h, h) refl
 
--- a run of plain bytes was appended, and what is left begins behind it
+-- a run of plain bytes was appended, and the remaining bytes begin after it
 pub run_more : (out new plain after rest : List ℕ) (n : ℕ) → new ≡ out ++ plain → plain ≡ take n rest → after ≡ drop n rest → n ≡ length (take_while is_plain_byte rest)
     → new ++ flat_map quoted_byte after ≡ out ++ flat_map quoted_byte rest
-run_more out new plain after rest n is front back len =
+run_more out new plain after rest n is prefix back len =
     let m : ℕ = length (take_while is_plain_byte rest) in
-    rw (is, front, back, len, append_assoc out (take m rest) (flat_map quoted_byte (drop m rest))) (ap (λ (t : List ℕ). out ++ t) (sym (plain_run rest)))
+    rw (is, prefix, back, len, append_assoc out (take m rest) (flat_map quoted_byte (drop m rest))) (ap (λ (t : List ℕ). out ++ t) (sym (plain_run rest)))
 
--- nothing is left, and the second quote was written
+-- no bytes remain, and the second quote was written
 pub quote_done : (old out rest bytes new : List ℕ) → out ++ flat_map quoted_byte rest ≡ (old ++ 39 ∷ []) ++ flat_map quoted_byte bytes → length rest ≡ 0 → new ≡ out ++ 39 ∷ [] → new ≡ old ++ quoted bytes
 unfolding quoted
 quote_done old out [] bytes new h none is = is ∙ ap (λ (t : List ℕ). t ++ 39 ∷ []) (sym (append-nil out) ∙ h) ∙ simp append_assoc
 quote_done old out (x ∷ rest) bytes new h none is = absurd (omega arith)
 
--- what is appended leaves the front as it was
+-- appending leaves the text before unchanged
 pub kept_more : (old out new more : List ℕ) → take (length old) out ≡ old → new ≡ out ++ more → take (length old) new ≡ old
 kept_more old out new more kept is =
     let long : length old ≤ length out = let e = ap length kept in let l = length-take (length old) out in omega (arith, e, l) in
     ap (take (length old)) is ∙ take-append-le (length old) out more long ∙ kept
 
--- the first bytes that don't stand for themselves are escaped
+-- the bytes at the start that need an escape are escaped
 pub escaped_run : (m : ℕ) (xs : List ℕ) → (let n = length (take_while (λ b. not (is_plain_byte b)) (take m xs)) in flat_map quoted_byte xs ≡ flat_map escape (take n xs) ++ flat_map quoted_byte (drop n xs))
 escaped_run zero xs = refl
 escaped_run (suc m) [] = refl
@@ -53,19 +53,19 @@ escaped_run (suc m) (x ∷ xs) = either (is_plain_byte x) refl (escaped_run m xs
         let e : 1 + prefix_len (λ b. not (is_plain_byte b)) (take m xs) ≡ suc (prefix_len (λ b. not (is_plain_byte b)) (take m xs)) = omega arith in
         rw h (simp e (ap (λ (t : List ℕ). escape x ++ t) more))
 
--- a run of bytes was escaped, and what is left begins behind it
+-- a run of bytes was escaped, and the remaining bytes begin after it
 pub escapes_more : (out new others after rest : List ℕ) (n : ℕ) → new ≡ out ++ flat_map escape others → others ≡ take n rest → after ≡ drop n rest
     → n ≡ length (take_while (λ b. not (is_plain_byte b)) (take 16 rest)) → new ++ flat_map quoted_byte after ≡ out ++ flat_map quoted_byte rest
-escapes_more out new others after rest n is front back len =
+escapes_more out new others after rest n is prefix back len =
     let m : ℕ = length (take_while (λ b. not (is_plain_byte b)) (take 16 rest)) in
-    rw (is, front, back, len, append_assoc out (flat_map escape (take m rest)) (flat_map quoted_byte (drop m rest))) (ap (λ (t : List ℕ). out ++ t) (sym (escaped_run 16 rest)))
+    rw (is, prefix, back, len, append_assoc out (flat_map escape (take m rest)) (flat_map quoted_byte (drop m rest))) (ap (λ (t : List ℕ). out ++ t) (sym (escaped_run 16 rest)))
 
--- a text was appended whole or not at all, so what stood in front stands there
-pub kept_either : (old new text : List ℕ) (r : Result Unit RowsError) → OnOk r (new ≡ old ++ text) → IfErr r (λ e. IsRefused e old new) → take (length old) new ≡ old
+-- a text was appended completely or not at all, so the text before is unchanged
+pub kept_either : (old new text : List ℕ) (r : Result Unit RowsError) → OnOk r (new ≡ old ++ text) → IfErr r (λ e. IsAppendError e old new) → take (length old) new ≡ old
 kept_either old new text (Ok u) whole none = kept_more old old new text (take-length old) whole
 kept_either old new text (Err e) whole none = ap (take (length old)) none.1 ∙ take-length old
 
--- what was kept once, and then again
+-- the text before is unchanged by two steps
 pub kept_twice : (old out new : List ℕ) → take (length old) out ≡ old → take (length out) new ≡ out → take (length old) new ≡ old
 kept_twice old out new first second =
     let long : length old ≤ length out = let e = ap length first in let l = length-take (length old) out in omega (arith, e, l) in

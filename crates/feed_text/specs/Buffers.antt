@@ -1,4 +1,4 @@
--- The text of a buffer that has room behind it.
+-- The text of a buffer that has room after it.
 use Rattle.std.specs.Prelude.{ℕ, List, take}
 use Rattle.feed_text.specs.declared.buffer.TextBuffer.{TextBuffer}
 

@@ -14,7 +14,7 @@ use Rattle.rows_jsonb.specs.Items.{items_at}
 use Rattle.rows_jsonb.specs.JsonDiffs.{diff_at}
 use Rattle.rows_jsonb.specs.JsonDiffViews.{diff_view}
 use Rattle.rows_cells.specs.CellValues.{CellValue, null, bytes, int, uint, float, double, date, time, json, json_diffs, unless}
-use Rattle.rows_cells.specs.CellViews.{value_view}
+use Rattle.rows_cells.specs.CellViews.{cell_value_of}
 use Rattle.rows_cells.specs.declared.cell.CellRef.{CellRef}
 use Rattle.rows_cells.specs.declared.cell.CellRef.TheVariants as ref
 use Rattle.rows_cells.specs.declared.binlog_value.BinlogValue.{BinlogValue}
@@ -25,11 +25,11 @@ use Rattle.feed_text.specs.ValueText.{float_text, double_text}
 use Rattle.feed_text.specs.JsonText.{document_text}
 use Rattle.feed_text.specs.DiffText.{diffs_text}
 
--- the text of a tree, where there is one
+-- the text of a parsed JSON document
 abbrev pub tree_text : Reading Tree → Reading (List ℕ)
 tree_text found = found >>= λ t. Ok (document_text t)
 
--- the text of a value; a document that has no tree has none, and neither have changes of which one has such a document
+-- the text of a value; a JSON document that can't be parsed has none, and neither have partial updates with such a document
 unfoldable pub text_of : CellValue → Reading (List ℕ)
 text_of null = Ok (codes "NULL")
 text_of (bytes b) = Ok (quoted b)
@@ -44,22 +44,22 @@ text_of (time negative days hours minutes seconds micros) =
 text_of (json b) = tree_text (document_tree b)
 text_of (json_diffs b) = unless (items_at diff_at b).fault (items_at diff_at b).items >>= diffs_text
 
--- a space, the column's place in the table, and `=`
+-- a space, the column's index in the table, and `=`
 abbrev pub label : ℕ → List ℕ
-label place = 32 ∷ decimal place ++ 61 ∷ []
+label column = 32 ∷ decimal column ++ 61 ∷ []
 
--- a cell of the column at a place
+-- the text of a cell, given its column's index
 abbrev pub cell_text : ℕ → CellValue → Reading (List ℕ)
-cell_text place v = text_of v >>= λ t. Ok (label place ++ t)
+cell_text column v = text_of v >>= λ t. Ok (label column ++ t)
 
--- the same of a value that callers keep
+-- the text of an owned value
 unfoldable pub kept_text : BinlogValue → Reading (List ℕ)
-kept_text (made.Value v) = text_of (value_view v)
+kept_text (made.Value v) = text_of (cell_value_of v)
 kept_text (made.Jsonb d) = tree_text (tree_in (jsonb_value d))
 kept_text (made.JsonDiff ds) = diffs_text (map diff_view ds.items)
 
 abbrev pub kept_cell_text : ℕ → BinlogValue → Reading (List ℕ)
-kept_cell_text place v = kept_text v >>= λ t. Ok (label place ++ t)
+kept_cell_text column v = kept_text v >>= λ t. Ok (label column ++ t)
 
 -- the text was appended
 abbrev pub Appends : Reading (List ℕ) → List ℕ → List ℕ → Type 0
@@ -67,22 +67,22 @@ Appends (Ok text) old new = new ≡ old ++ text
 Appends (Err e) old new = ⊥
 
 -- a label and the text were appended
-abbrev pub AppendsBehind : ℕ → Reading (List ℕ) → List ℕ → List ℕ → Type 0
-AppendsBehind place text old new = Appends (text >>= λ t. Ok (label place ++ t)) old new
+abbrev pub AppendsLabeledReading : ℕ → Reading (List ℕ) → List ℕ → List ℕ → Type 0
+AppendsLabeledReading column text old new = Appends (text >>= λ t. Ok (label column ++ t)) old new
 
--- a label and the text were appended, where there is one
+-- there is a text, and a label and the text were appended
 abbrev pub AppendsLabeled : ℕ → Option (List ℕ) → List ℕ → List ℕ → Type 0
-AppendsLabeled place None old new = ⊥
-AppendsLabeled place (Some text) old new = new ≡ old ++ (label place ++ text)
+AppendsLabeled column None old new = ⊥
+AppendsLabeled column (Some text) old new = new ≡ old ++ (label column ++ text)
 
--- nothing was: memory was refused, or there is no text, for this fault of its document
-abbrev pub IsTextRefused : RowsError → Reading (List ℕ) → List ℕ → List ℕ → Type 0
-IsTextRefused e text old new = Parses (λ t. t) (Err e) text × (new ≡ old)
+-- nothing was appended: out of memory, or the JSON document can't be parsed, for this error
+abbrev pub IsTextError : RowsError → Reading (List ℕ) → List ℕ → List ℕ → Type 0
+IsTextError e text old new = Parses (λ t. t) (Err e) text × (new ≡ old)
 
--- a decimal whose bytes pack none, which no cell that was read is
+-- a decimal whose bytes aren't a packed decimal; no cell that was read is one
 abbrev pub PacksNone : CellRef → Type 0
 PacksNone (ref.Decimal precision scale b) = packed_text precision scale b.now ≡ None
 PacksNone cell = ⊥
 
-abbrev pub IsCellRefused : RowsError → CellRef → Reading (List ℕ) → List ℕ → List ℕ → Type 0
-IsCellRefused e cell text old new = (((e ≡ Decimal) × PacksNone cell) ⊎ Parses (λ t. t) (Err e) text) × (new ≡ old)
+abbrev pub IsCellError : RowsError → CellRef → Reading (List ℕ) → List ℕ → List ℕ → Type 0
+IsCellError e cell text old new = (((e ≡ Decimal) × PacksNone cell) ⊎ Parses (λ t. t) (Err e) text) × (new ≡ old)

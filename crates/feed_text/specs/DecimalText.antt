@@ -1,4 +1,4 @@
--- The text of the feed: decimals, as their packed bytes say them.
+-- The text of the feed: decimals in MySQL's packed format (decimal2bin).
 use Rattle.std.specs.Prelude.{◌≡◌, ◌⊎◌, ℕ, List, [], ◌∷◌, ◌++◌, ◌||◌, ◌&&◌, nat_lt, nat_eq, if◌then◌else◌, Option, Some, None}
 use Rattle.std.specs.Fmt.{decimal}
 use Rattle.std.specs.Option.{option_map}
@@ -7,10 +7,10 @@ use Rattle.rows_times.specs.declared.fault.RowsError.TheVariants.{Memory, Decima
 use Rattle.rows_decimal.specs.Texts.{sign_text}
 use Rattle.rows_decimal.specs.Unpacked.{packed_text}
 use Rattle.rows_decimal.specs.declared.numbers.DecimalNumbers.{DecimalNumbers}
-use Rattle.rows_times.specs.TimeTexts.{padded}
+use Rattle.rows_times.specs.TimeTexts.{padded_decimal}
 use Rattle.feed_writers.specs.Quoting.{quoted}
 
--- the quoted text of the decimal that bytes pack, where they pack one
+-- the quoted text of a packed decimal, if the bytes are one
 abbrev pub quoted_decimal : ℕ → ℕ → List ℕ → Option (List ℕ)
 quoted_decimal precision scale bytes = option_map quoted (packed_text precision scale bytes)
 
@@ -19,8 +19,8 @@ abbrev pub AppendsSome : Option (List ℕ) → List ℕ → List ℕ → Type 0
 AppendsSome None old new = ⊥
 AppendsSome (Some text) old new = new ≡ old ++ text
 
--- memory was refused, or there is no such text; and nothing is written
-pub record IsDecimalRefused (e : RowsError) (text : Option (List ℕ)) (old new : List ℕ) : Type 0 where
+-- out of memory, or there is no such text; nothing was appended
+pub record IsDecimalError (e : RowsError) (text : Option (List ℕ)) (old new : List ℕ) : Type 0 where
   pub cause : (e ≡ Memory) ⊎ ((e ≡ Decimal) × (text ≡ None))
   pub unchanged : new ≡ old
 
@@ -28,10 +28,10 @@ pub record IsDecimalRefused (e : RowsError) (text : Option (List ℕ)) (old new 
 abbrev pub numbers_sign : ℕ → DecimalNumbers → List ℕ
 numbers_sign scale n = sign_text (n.negative && (nat_lt 0 scale || nat_lt 0 n.before))
 
--- a point and so many digits, if there are any
-abbrev pub places_text : ℕ → ℕ → List ℕ
-places_text scale n = if nat_eq scale 0 then [] else 46 ∷ padded scale n
+-- a point and n digits, if n isn't 0
+abbrev pub micros_places_text : ℕ → ℕ → List ℕ
+micros_places_text scale n = if nat_eq scale 0 then [] else 46 ∷ padded_decimal scale n
 
--- the sign, the number before the point, and the one after it in so many digits
+-- the sign, the number before the point, and the one after it with `scale` digits
 abbrev pub numbers_text : ℕ → DecimalNumbers → List ℕ
-numbers_text scale n = numbers_sign scale n ++ (decimal n.before ++ places_text scale n.after)
+numbers_text scale n = numbers_sign scale n ++ (decimal n.before ++ micros_places_text scale n.after)

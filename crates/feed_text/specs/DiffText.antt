@@ -1,4 +1,4 @@
--- The text of the feed: changes of JSON documents.
+-- The text of the feed: partial updates of JSON documents, as PARTIAL_UPDATE_ROWS_EVENT has them.
 use Rattle.std.specs.Prelude.{ℕ, List, [], ◌∷◌, ◌++◌, codes, Option, Some, None}
 use Rattle.std.specs.declared.result.Result.TheVariants.{Ok}
 use Rattle.std.specs.List.{join_with_byte}
@@ -16,7 +16,7 @@ operation_text REPLACE = codes "replace "
 operation_text INSERT = codes "insert "
 operation_text REMOVE = codes "remove "
 
--- a blank and the text of a document
+-- a space and the text of a JSON document
 abbrev pub document_part : JsonbValue → Reading (List ℕ)
 document_part v = tree_in v >>= λ t. Ok (32 ∷ document_text t)
 
@@ -24,7 +24,7 @@ abbrev pub value_part : Option JsonbValue → Reading (List ℕ)
 value_part None = Ok []
 value_part (Some v) = document_part v
 
--- what a change does, its path between quotes, and the value that is put there
+-- an operation, its quoted path, and the new value, if it has one
 abbrev pub diff_text : Diff → Reading (List ℕ)
 diff_text d = value_part d.1.1 >>= λ v. Ok (operation_text d.0 ++ (quoted d.1.0 ++ v))
 
@@ -32,7 +32,7 @@ unfoldable pub diff_texts : List Diff → Reading (List (List ℕ))
 diff_texts [] = Ok []
 diff_texts (d ∷ ds) = diff_text d >>= λ t. diff_texts ds >>= λ ts. Ok (t ∷ ts)
 
--- all changes, with a comma between each two; none where one of them has no text
+-- all updates, with a comma between each two; no text if one of them has none
 abbrev pub bracketed : List (List ℕ) → List ℕ
 bracketed texts = codes "diff[" ++ (join_with_byte 44 texts ++ codes "]")
 

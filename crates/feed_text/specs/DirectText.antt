@@ -1,16 +1,16 @@
--- What the writers of documents append that go by the bytes: a text of the tree that stands there.
+-- What the functions that write JSON directly from the bytes append: the text of the tree that the bytes have.
 use Rattle.std.specs.Prelude.{◌≡◌, ◌+◌, ℕ, Bool, true, false, List, [], ◌∷◌, ◌++◌}
 use Rattle.std.specs.declared.result.Result.TheVariants.{Ok}
 use Rattle.std.specs.Str.{is_utf8}
 use Rattle.std.specs.List.{join_with_byte}
 use Rattle.rows_jsonb.specs.JsonTrees.{Tree, Items, Members, no_members, Scalar, scalar}
-use Rattle.rows_jsonb.specs.JsonbValues.{JsonbValue, elem_in, key_of, count_in}
+use Rattle.rows_jsonb.specs.JsonbValues.{JsonbValue, elem_in, object_key, count_in}
 use Rattle.rows_times.specs.Readings.{Reading}
-use Rattle.rows_jsonb.specs.DocumentTrees.{tree_of, bare_tree, items, members}
+use Rattle.rows_jsonb.specs.DocumentTrees.{tree_of, bare_tree, items, member_trees}
 use Rattle.feed_writers.specs.Quoting.{quoted}
 use Rattle.feed_text.specs.JsonText.{document_text, scalar_text, item_texts, member_texts}
 
--- a comma, but where there is nothing before it
+-- a comma, except before the first element
 abbrev pub separator : Bool → List ℕ
 separator true = []
 separator false = 44 ∷ []
@@ -21,7 +21,7 @@ pub record WritesScalar (value : JsonbValue) (old new : List ℕ) : Type 0 where
   pub is : bare_tree value ≡ Ok (scalar part, 1)
   pub text : new ≡ old ++ scalar_text part
 
--- the value has a tree, whose text was appended, and what it counts was taken from the budget
+-- the value has a tree, whose text was appended, and the number of its values was subtracted from the budget
 pub record WritesTree (depth : ℕ) (value : JsonbValue) (budget left : ℕ) (old new : List ℕ) : Type 0 where
   pub tree : Tree
   pub count : ℕ
@@ -29,7 +29,7 @@ pub record WritesTree (depth : ℕ) (value : JsonbValue) (budget left : ℕ) (ol
   pub taken : count + left ≡ budget
   pub text : new ≡ old ++ document_text tree
 
--- the same of the items of an array
+-- the same for the elements of an array
 pub record WritesItems (depth : ℕ) (value : JsonbValue) (budget left : ℕ) (old new : List ℕ) : Type 0 where
   pub found : Items
   pub count : ℕ
@@ -37,23 +37,23 @@ pub record WritesItems (depth : ℕ) (value : JsonbValue) (budget left : ℕ) (o
   pub taken : count + left ≡ budget
   pub text : new ≡ old ++ 91 ∷ (join_with_byte 44 (item_texts found) ++ 93 ∷ [])
 
--- of the members of an object
+-- the same for the members of an object
 pub record WritesMembers (depth : ℕ) (value : JsonbValue) (budget left : ℕ) (old new : List ℕ) : Type 0 where
   pub found : Members
   pub count : ℕ
-  pub is : members (tree_of depth) (key_of value) (elem_in value) 0 (count_in value) no_members ≡ Ok (found, count)
+  pub is : member_trees (tree_of depth) (object_key value) (elem_in value) 0 (count_in value) no_members ≡ Ok (found, count)
   pub taken : count + left ≡ budget
   pub text : new ≡ old ++ 123 ∷ (join_with_byte 44 (member_texts found) ++ 125 ∷ [])
 
--- the member number pos of an object
+-- the member of an object with index pos
 pub record IsMember (depth : ℕ) (value : JsonbValue) (pos : ℕ) (key : List ℕ) (tree : Tree) (count : ℕ) : Type 0 where
   pub seen : JsonbValue
-  pub key_is : key_of value pos ≡ Ok key
+  pub key_is : object_key value pos ≡ Ok key
   pub is_text : is_utf8 key ≡ true
   pub seen_is : elem_in value pos ≡ Ok seen
   pub is : tree_of depth seen ≡ Ok (tree, count)
 
--- and of one member
+-- the same for one member
 pub record WritesMember (depth : ℕ) (value : JsonbValue) (pos budget left : ℕ) (old new : List ℕ) : Type 0 where
   pub key : List ℕ
   pub tree : Tree
@@ -62,7 +62,7 @@ pub record WritesMember (depth : ℕ) (value : JsonbValue) (pos budget left : �
   pub taken : count + left ≡ budget
   pub text : new ≡ old ++ (quoted key ++ (58 ∷ document_text tree))
 
--- the document has a tree, whose text was appended
+-- the JSON document has a tree, whose text was appended
 pub record WritesDocument (found : Reading Tree) (old new : List ℕ) : Type 0 where
   pub tree : Tree
   pub is : found ≡ Ok tree

@@ -1,22 +1,22 @@
--- The text of the cell at the front of bytes, where it is short.
+-- The text of the cell at the start of the bytes, if it is short.
 use Rattle.std.specs.Prelude.{◌≡◌, ◌≤◌, ◌+◌, ℕ, Bool, List, ◌++◌, take, Option, Some, None}
 use Rattle.std.specs.Borrow.{Bor}
 use Rattle.std.specs.declared.result.Result.TheVariants.{Ok}
-use Rattle.rows_cells.specs.declared.form.CellForm.{CellForm}
+use Rattle.rows_cells.specs.declared.format.CellFormat.{CellFormat}
 use Rattle.rows_cells.specs.CellValues.{CellValue}
 use Rattle.rows_cells.specs.Images.{field_at}
 use Rattle.feed_text.specs.CellText.{text_of}
 
--- the text of the value was written, up to `end`, and `rest` follows the cell
-pub record WritesField (is_null : Bool) (form : CellForm) (bytes : List ℕ) (at : ℕ) (old new : List ℕ) (end : ℕ) (rest : List ℕ) : Type 0 where
+-- the text of the value was written, up to the offset `end`, and `rest` are the bytes after the cell
+pub record WritesField (is_null : Bool) (format : CellFormat) (bytes : List ℕ) (at : ℕ) (old new : List ℕ) (end : ℕ) (rest : List ℕ) : Type 0 where
   pub value : CellValue
   pub text : List ℕ
-  pub read : field_at is_null form bytes ≡ Ok (value, rest)
+  pub read : field_at is_null format bytes ≡ Ok (value, rest)
   pub is : text_of value ≡ Ok text
   pub most : end ≤ at + 76
   pub written : take end new ≡ take at old ++ text
 
--- it was; or the text in front is as it was, and no more is said
-abbrev pub WritesOrNone : Bool → CellForm → List ℕ → ℕ → List ℕ → List ℕ → Option (ℕ × Bor (List ℕ)) → Type 0
-WritesOrNone is_null form bytes at old new (Some r) = WritesField is_null form bytes at old new r.0 r.1.now
-WritesOrNone is_null form bytes at old new None = take at new ≡ take at old
+-- the same; or the text before `at` is unchanged, and nothing more is stated
+abbrev pub WritesOrNone : Bool → CellFormat → List ℕ → ℕ → List ℕ → List ℕ → Option (ℕ × Bor (List ℕ)) → Type 0
+WritesOrNone is_null format bytes at old new (Some r) = WritesField is_null format bytes at old new r.0 r.1.now
+WritesOrNone is_null format bytes at old new None = take at new ≡ take at old

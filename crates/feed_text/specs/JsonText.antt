@@ -21,16 +21,16 @@ day_of t = record { year = t.year; month = t.month; day = t.day }
 abbrev pub clock_of : MysqlTime → Clock
 clock_of t = record { hour = t.hour; minute = t.minute; second = t.second; micros = t.second_part }
 
--- a date, a span of time, or a date and a time of day
-unfoldable pub moment_text : MysqlTime → List ℕ
-moment_text t = text t.time_type
+-- a date, a time, or a date and a time of day
+unfoldable pub temporal_text : MysqlTime → List ℕ
+temporal_text t = text t.time_type
   where
     text : MysqlTimestampType → List ℕ
     text MYSQL_TIMESTAMP_DATE = day_text (day_of t)
     text MYSQL_TIMESTAMP_TIME = sign_text t.neg ++ clock_text (clock_of t)
     text _ = day_text (day_of t) ++ 32 ∷ clock_text (clock_of t)
 
--- numbers as in cells; a decimal, and a string between quotes
+-- numbers as in cells; a decimal; a string quoted
 unfoldable pub scalar_text : tree.Scalar → List ℕ
 scalar_text tree.null = codes "null"
 scalar_text (tree.boolean b) = if b then codes "true" else codes "false"
@@ -39,11 +39,11 @@ scalar_text (tree.uint n) = codes "u" ++ decimal n
 scalar_text (tree.double bits) = codes "d" ++ encode_lower (to_be_bytes w64 bits)
 scalar_text (tree.decimal d) = decimal_text d
 scalar_text (tree.string s) = quoted s
-scalar_text (tree.time t) = codes "t'" ++ (moment_text t ++ codes "'")
+scalar_text (tree.time t) = codes "t'" ++ (temporal_text t ++ codes "'")
 scalar_text (tree.opaque number bytes) = codes "o" ++ (decimal number ++ (codes ":" ++ quoted bytes))
 
 unfoldable mutual
-  -- items and members stand between brackets, with a comma between each two
+  -- elements and members in brackets, with a comma between each two
   pub document_text : Tree → List ℕ
   document_text (tree.scalar s) = scalar_text s
   document_text (tree.array is) = codes "[" ++ (join_with_byte 44 (item_texts is) ++ codes "]")
@@ -53,7 +53,7 @@ unfoldable mutual
   item_texts no_items = []
   item_texts (item t ts) = document_text t ∷ item_texts ts
 
-  -- a key between quotes, a colon, and its value
+  -- a quoted key, a colon, and its value
   pub member_texts : Members → List (List ℕ)
   member_texts no_members = []
   member_texts (member k t ms) = (quoted k ++ (codes ":" ++ document_text t)) ∷ member_texts ms

@@ -8,7 +8,7 @@ pub mod JsonText
 pub mod ShortTexts
 pub mod DiffText
 pub mod CellText
-pub mod CellParts
+pub mod CellContent
 pub mod Buffers
 pub mod KeyOrder
 pub mod DirectText

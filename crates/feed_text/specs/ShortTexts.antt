@@ -1,4 +1,4 @@
--- The text of values whose text is short.
+-- The text of values with a short text.
 use Rattle.std.specs.Prelude.{ℕ, List, ◌∷◌, ◌+◌, codes}
 use Rattle.std.specs.Fmt.{decimal, signed_decimal}
 use Rattle.rows_cells.specs.CellValues.{timestamp_text}

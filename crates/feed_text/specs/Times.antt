@@ -1,4 +1,4 @@
--- The text of the feed: dates with their time of day, and spans of time.
+-- The text of the feed: dates with their time of day, and times.
 use Rattle.std.specs.Prelude.{ℕ, Bool, List, ◌∷◌, ◌++◌}
 use Rattle.std.specs.Fmt.{decimal}
 use Rattle.rows_decimal.specs.Texts.{sign_text}
@@ -6,10 +6,10 @@ use Rattle.feed_writers.specs.declared.times.Clock.{Clock}
 use Rattle.feed_writers.specs.declared.times.Day.{Day}
 use Rattle.feed_writers.specs.TimesOfDay.{clock_text, day_text}
 
--- a day, `T` and a time of day
+-- a date, `T` and a time of day
 unfoldable pub date_text : Day → Clock → List ℕ
 date_text day clock = day_text day ++ 84 ∷ clock_text clock
 
--- a minus where it is below zero, days, `d` and what is left of them
+-- a `-` if it is negative, days, `d` and the rest of the time
 unfoldable pub span_text : Bool → ℕ → Clock → List ℕ
 span_text negative days clock = sign_text negative ++ (decimal days ++ 100 ∷ clock_text clock)

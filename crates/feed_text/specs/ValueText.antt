@@ -8,7 +8,7 @@ use Rattle.rows_values.specs.declared.rows.value.Value.TheVariants.{NULL, Bytes,
 use Rattle.feed_writers.specs.Quoting.{quoted}
 use Rattle.feed_text.specs.Times.{date_text, span_text}
 
--- floats by the hexadecimal digits of their bits
+-- a float as the hexadecimal digits of its bits
 abbrev pub float_text : ℕ → List ℕ
 float_text bits = 102 ∷ encode_lower (to_be_bytes w32 bits)
 

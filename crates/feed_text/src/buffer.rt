@@ -1,15 +1,15 @@
-//! Text that grows at its end, in a buffer with room behind it, so that a cell's text is written at known places
-//! and room is asked for once.
+//! A text that grows at its end, in a buffer with room after it: a cell's text is written at known offsets, and room is reserved
+//! once.
 
 ghost use Rattle.std.specs.Prelude.{◌≤◌, length};
 
 use feed_writers::{put_byte, put_bytes};
 use std::alloc::{AllocError, Allocator};
 
-/// How much room is made at least.
+/// The minimum room that is reserved, in bytes.
 const LEAST_ROOM: usize = 4096;
 
-/// Text, and room behind it.
+/// A text, and room after it.
 #[derive(Drop)]
 pub struct TextBuffer<A: Allocator> {
     pub(crate) bytes: Vec<u8, A>,
@@ -21,7 +21,7 @@ impl<A: Allocator> TextBuffer<A> {
     ghost use Rattle.std.specs.Prelude.{◌≡◌, ◌≤◌, ◌+◌, ◌++◌, ◌∷◌, [], OnOk, OnErr, length, take};
     ghost use Rattle.feed_text.specs.Buffers.{text_in};
 
-    /// No text.
+    /// An empty text.
     pub fn new(alloc: A) -> TextBuffer<A>
         ensures { text_in result ≡ [] }
     {
@@ -38,21 +38,21 @@ impl<A: Allocator> TextBuffer<A> {
         &self.bytes[..self.len]
     }
 
-    /// How many bytes the text has.
+    /// The length of the text in bytes.
     pub fn len(&self) -> usize
         ensures { result ≡ length (text_in self.now) }
     {
         self.len
     }
 
-    /// Forgets the text, and keeps the memory.
+    /// Empties the text, and keeps the memory.
     pub fn clear(&mut self)
         ensures { text_in self.new ≡ [] }
     {
         self.len = 0;
     }
 
-    /// Keeps so many bytes of the text, at most, and forgets those behind them.
+    /// Shortens the text to its first `len` bytes, if it is longer.
     pub fn truncate(&mut self, len: usize)
         ensures { text_in self.new ≡ take len (text_in self.old) }
     {
@@ -61,7 +61,7 @@ impl<A: Allocator> TextBuffer<A> {
         }
     }
 
-    /// Appends bytes as they are. Want of memory leaves the text as it was.
+    /// Appends bytes. Out of memory: the text is unchanged.
     #[inline(always)]
     pub fn put_text(&mut self, more: &[u8]) -> Result<(), AllocError>
         ensures ok { OnOk result (text_in self.new ≡ text_in self.old ++ more.now) }
@@ -72,7 +72,7 @@ impl<A: Allocator> TextBuffer<A> {
         Ok(())
     }
 
-    /// Appends a byte. Want of memory leaves the text as it was.
+    /// Appends a byte. Out of memory: the text is unchanged.
     #[inline(always)]
     pub fn put(&mut self, byte: u8) -> Result<(), AllocError>
         ensures ok { OnOk result (text_in self.new ≡ text_in self.old ++ byte ∷ []) }
@@ -83,7 +83,7 @@ impl<A: Allocator> TextBuffer<A> {
         Ok(())
     }
 
-    /// Makes room for so many bytes behind the text.
+    /// Makes sure that there are `room` bytes after the text.
     #[inline(always)]
     pub(crate) fn reserve(&mut self, room: usize) -> Result<(), AllocError>
         ensures room { OnOk result (self.new.len + room ≤ length self.new.bytes.items) }
@@ -95,7 +95,7 @@ impl<A: Allocator> TextBuffer<A> {
         self.grow(room)
     }
 
-    /// Makes the buffer longer, so that it has this room.
+    /// Lengthens the buffer so that it has this room.
     #[cold]
     #[inline(never)]
     fn grow(&mut self, room: usize) -> Result<(), AllocError>

@@ -1,4 +1,4 @@
-//! Bytes between quotes, numbers and hexadecimal digits in a buffer with room.
+//! Quoted bytes, numbers and hexadecimal digits, in a buffer with room.
 
 ghost use Rattle.std.specs.Prelude.{◌≡◌, ◌++◌, OnOk, OnErr};
 ghost use Rattle.std.specs.Fmt.{decimal};
@@ -10,14 +10,14 @@ use feed_writers::{put_number, put_quoted};
 use hex::encode_to_slice;
 use std::alloc::{AllocError, Allocator};
 
-/// The most digits of a number of 64 bits.
-const MOST_DIGITS: usize = 20;
+/// The maximum number of digits of a 64-bit number.
+const MAX_DIGITS: usize = 20;
 
 impl<A: Allocator> TextBuffer<A> {
     ghost use Rattle.feed_text.specs.Buffers.{text_in};
 
-    /// Appends bytes between single quotes, as [`quote`](crate::quote) does. Room for three times the bytes is asked for
-    /// once. Want of memory leaves the text as it was.
+    /// Appends quoted bytes, as [`quote`](crate::quote) does. It reserves three times their length at once. Out of memory: the
+    /// text is unchanged.
     pub fn put_quoted(&mut self, bytes: &[u8]) -> Result<(), AllocError>
         ensures ok { OnOk result (text_in self.new ≡ text_in self.old ++ quoted bytes.now) }
         ensures err { OnErr result (text_in self.new ≡ text_in self.old) }
@@ -33,17 +33,17 @@ impl<A: Allocator> TextBuffer<A> {
         Ok(())
     }
 
-    /// Appends a number in decimal. Want of memory leaves the text as it was.
+    /// Appends a number in decimal. Out of memory: the text is unchanged.
     pub fn put_number(&mut self, number: u64) -> Result<(), AllocError>
         ensures ok { OnOk result (text_in self.new ≡ text_in self.old ++ decimal number) }
         ensures err { OnErr result (text_in self.new ≡ text_in self.old) }
     {
-        self.reserve(MOST_DIGITS)?;
+        self.reserve(MAX_DIGITS)?;
         self.len = put_number(self.bytes.as_mut_slice(), self.len, number);
         Ok(())
     }
 
-    /// Appends the two lower case hexadecimal digits of each byte. Want of memory leaves the text as it was.
+    /// Appends the two lower case hexadecimal digits of each byte. Out of memory: the text is unchanged.
     pub fn put_hexadecimal(&mut self, bytes: &[u8]) -> Result<(), AllocError>
         ensures ok { OnOk result (text_in self.new ≡ text_in self.old ++ encode_lower bytes.now) }
         ensures err { OnErr result (text_in self.new ≡ text_in self.old) }

@@ -1,19 +1,19 @@
-//! The quoted text of decimals, straight from the bytes that pack them.
+//! The quoted text of decimals, directly from MySQL's packed bytes.
 
 ghost use Rattle.std.specs.Prelude.{◌≡◌, ◌≤◌, ◌+◌, OnOk, IfErr, length};
 ghost use Rattle.rows_decimal.specs.PackedTexts.{PutsOrNone};
-ghost use Rattle.feed_text.specs.DecimalText.{quoted_decimal, AppendsSome, IsDecimalRefused};
+ghost use Rattle.feed_text.specs.DecimalText.{quoted_decimal, AppendsSome, IsDecimalError};
 
 use rows_decimal::put_decimal_text;
 use rows_times::RowsError;
 use std::alloc::Allocator;
 
-/// Appends the quoted text of the decimal that the bytes pack, of `precision` digits with `scale` of them
-/// after the point: the text that [`put_decimal_text`] writes, between single quotes.
+/// Appends the quoted text of a packed decimal with `precision` digits, `scale` of them after the point. Between the quotes is
+/// the text that [`put_decimal_text`] writes. An error appends nothing:
 ///
-/// `Decimal` where the bytes pack none: where `scale` is past `precision`, where they are not as many
-/// as the digits take, or where a group of k digits is 10^k or more. Want of memory is `Memory`. Where
-/// it is refused, nothing is appended.
+/// - `Decimal`: the bytes aren't a packed decimal: `scale` is past `precision`, the length isn't that of the digits, or a group
+///   of k digits is 10^k or more.
+/// - `Memory`: out of memory.
 pub fn put_decimal<A: Allocator>(
     bytes: &[u8],
     precision: u8,
@@ -21,7 +21,7 @@ pub fn put_decimal<A: Allocator>(
     out: &mut Vec<u8, A>,
 ) -> Result<(), RowsError>
     ensures ok { OnOk result (AppendsSome (quoted_decimal precision scale bytes.now) out.old.items out.new.items) }
-    ensures err { IfErr result (λ e. IsDecimalRefused e (quoted_decimal precision scale bytes.now) out.old.items out.new.items) }
+    ensures err { IfErr result (λ e. IsDecimalError e (quoted_decimal precision scale bytes.now) out.old.items out.new.items) }
 {
     let (precision, scale) = (usize::from(precision), usize::from(scale));
     let start = out.len();
@@ -34,8 +34,8 @@ pub fn put_decimal<A: Allocator>(
     Ok(())
 }
 
-/// Writes the quoted text over bytes from `at` on, and answers where it ends; None where the bytes pack
-/// no decimal, and what stands before `at` is left.
+/// Writes the quoted text at the offset `at`, and returns the offset of its end; `None` if the bytes aren't a packed decimal. The
+/// bytes before `at` are unchanged.
 #[inline(always)]
 pub(crate) fn write_quoted(
     text: &mut [u8],

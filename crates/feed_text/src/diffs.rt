@@ -1,4 +1,4 @@
-//! The text of changes of JSON documents.
+//! The text of partial updates of JSON documents.
 
 ghost use Rattle.std.specs.Prelude.{◌≡◌, OnOk, IfErr, Err, length, take, map};
 ghost use Rattle.rows_jsonb.specs.JsonDiffViews.{diff_view};
@@ -13,7 +13,7 @@ use rows_jsonb::{JsonDiff, JsonDiffOperation, Value};
 use rows_times::RowsError;
 use std::alloc::{Allocator, Global};
 
-/// What a change does, and a blank.
+/// The word for an operation, and a space.
 fn operation_word(operation: JsonDiffOperation) -> &'static [u8]
     ensures { result.now ≡ operation_text operation }
 {
@@ -24,9 +24,10 @@ fn operation_word(operation: JsonDiffOperation) -> &'static [u8]
     }
 }
 
-/// Appends the text of changes, or a part of it: `diff[`, the changes with commas between them, and `]`.
+/// Appends the text of partial updates: `diff[`, the updates with commas between them, and `]`. An error may leave a part of it:
 ///
-/// Want of memory is `Memory`; the document of a change that has no tree is `Jsonb`.
+/// - `Memory`: out of memory.
+/// - `Jsonb`: the JSON document of an update can't be parsed.
 pub(crate) fn append_diffs<A: Allocator>(
     alloc: Global,
     diffs: &[JsonDiff<'_>],
@@ -50,7 +51,8 @@ pub(crate) fn append_diffs<A: Allocator>(
     Ok(())
 }
 
-/// Appends the text of a change, or a part of it: what it does, the quoted path, and a value that is put there.
+/// Appends the text of an update: its operation, the quoted path, and the new value, if it has one. An error may leave a part of
+/// it.
 fn append_diff<A: Allocator>(
     alloc: Global,
     diff: &JsonDiff<'_>,
@@ -71,7 +73,7 @@ fn append_diff<A: Allocator>(
     }
 }
 
-/// Appends a blank and the text of a document, or a part of this.
+/// Appends a space and the text of a JSON document. An error may leave a part of it.
 fn append_value<A: Allocator>(
     alloc: Global,
     value: &Value<'_>,

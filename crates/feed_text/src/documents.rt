@@ -3,7 +3,7 @@
 ghost use Rattle.std.specs.Prelude.{◌≡◌, ◌++◌, OnOk, IfErr, length, take};
 ghost use Rattle.rows_jsonb.specs.JsonTrees.{array, object};
 ghost use Rattle.rows_jsonb.specs.JsonTreeViews.{view, items_view, members_view};
-ghost use Rattle.feed_text.specs.Pieces.{IsRefused};
+ghost use Rattle.feed_text.specs.Pieces.{IsAppendError};
 ghost use Rattle.feed_text.specs.JsonText.{document_text};
 
 use crate::json_scalars::append_scalar;
@@ -13,19 +13,23 @@ use rows_times::RowsError;
 use std::alloc::Allocator;
 use std::collections::BTreeMap;
 
-/// Appends the text of a JSON document.
+/// Appends the text of a JSON document. `Memory`: out of memory; nothing is appended. The text is:
 ///
-/// `null`, `true`, `false`; an integer in decimal, an unsigned one after `u`; `d` and the hexadecimal
-/// digits of a double's bits; a decimal's digits; a string quoted, as [`quote`] does; `t` and a quoted
-/// date `YYYY-MM-DD`, time `hh:mm:ss.uuuuuu` with a `-` before it where it is below zero, or both with a
-/// blank between them; `o`, the number of a column's type, `:` and quoted bytes; `[a,b]`, and `{'k':v}`
-/// with the keys in the order of their bytes. Want of memory is `Memory`, and then nothing is appended.
+/// - `null`, `true`, `false`;
+/// - an integer in decimal; an unsigned one after `u`;
+/// - `d` and the hexadecimal digits of a double's bits;
+/// - a decimal's digits;
+/// - a string quoted as [`quote`] does;
+/// - `t` and a quoted date `YYYY-MM-DD`, a quoted time `hh:mm:ss.uuuuuu` after a `-` if it is negative, or both with a space
+///   between them;
+/// - `o`, the number of a column type, `:` and quoted bytes for an opaque value;
+/// - `[a,b]`, and `{'k':v}` with the keys in byte order.
 ///
-/// The call takes stack for each container that the document nests: less than 300 KB for a tree that
-/// `jsonb::Value::parse` built, which nests at most 100.
+/// The call takes stack for each nested container: less than 300 KB for a tree from `jsonb::Value::parse`, which nests at most
+/// 100.
 pub fn put_json<A: Allocator>(document: &JsonDom, out: &mut Vec<u8, A>) -> Result<(), RowsError>
     ensures ok { OnOk result (out.new.items ≡ out.old.items ++ document_text (view document.now)) }
-    ensures err { IfErr result (λ e. IsRefused e out.old.items out.new.items) }
+    ensures err { IfErr result (λ e. IsAppendError e out.old.items out.new.items) }
 {
     let start = out.len();
     let Ok(()) = append_document(document, out) else {
@@ -35,7 +39,7 @@ pub fn put_json<A: Allocator>(document: &JsonDom, out: &mut Vec<u8, A>) -> Resul
     Ok(())
 }
 
-/// Appends the text of a document, or a part of it.
+/// Appends the text of a JSON document. An error may leave a part of it.
 #[cycle(document)]
 fn append_document<A: Allocator>(document: &JsonDom, out: &mut Vec<u8, A>) -> Result<(), RowsError>
     ensures ok { OnOk result (out.new.items ≡ out.old.items ++ document_text (view document.now)) }
@@ -48,7 +52,7 @@ fn append_document<A: Allocator>(document: &JsonDom, out: &mut Vec<u8, A>) -> Re
     }
 }
 
-/// Appends the text of an array, or a part of it.
+/// Appends the text of an array. An error may leave a part of it.
 #[cycle(document)]
 fn append_items<A: Allocator>(items: &Vec<JsonDom>, out: &mut Vec<u8, A>) -> Result<(), RowsError>
     ensures ok { OnOk result (out.new.items ≡ out.old.items ++ document_text (array (items_view items.now.items))) }
@@ -65,7 +69,7 @@ fn append_items<A: Allocator>(items: &Vec<JsonDom>, out: &mut Vec<u8, A>) -> Res
     Ok(())
 }
 
-/// Appends the text of an object, or a part of it.
+/// Appends the text of an object. An error may leave a part of it.
 #[cycle(document)]
 fn append_members<A: Allocator>(
     members: &BTreeMap<String, JsonDom>,

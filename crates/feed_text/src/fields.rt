@@ -1,19 +1,19 @@
-//! The text of the cell at the front of bytes, straight into a buffer that has room for it.
+//! The text of the cell at the start of the bytes, written directly into a buffer with room for it.
 //!
-//! A cell that can't be read, and one whose text may be long, is left to others: these writers answer None then.
+//! These functions return `None` for a cell that can't be read, and for one whose text may be long; others write those.
 
 ghost use Rattle.std.specs.Prelude.{◌≡◌, ◌≤◌, ◌+◌, ◌++◌, length, take, false};
-ghost use Rattle.rows_cells.specs.declared.form.Width.TheVariants.{One};
-ghost use Rattle.rows_cells.specs.declared.form.CellForm.TheVariants.{Signed, Unsigned, Counted, Datetime2, Time2, Decimal};
+ghost use Rattle.rows_cells.specs.declared.format.Width.TheVariants.{One};
+ghost use Rattle.rows_cells.specs.declared.format.CellFormat.TheVariants.{Signed, Unsigned, Counted, Datetime2, Time2, Decimal};
 ghost use Rattle.feed_text.specs.FieldText.{WritesOrNone};
 
 use crate::parts::{datetime_parts, time_parts};
-use crate::short::{FEW, FEW_DIGITS, put_date, put_span};
+use crate::short::{FEW_DIGITS, SHORT_BYTES_MAX, put_date, put_span};
 use crate::short_decimals::write_few_quoted;
 use feed_writers::{put_byte, put_bytes, put_number, put_plain_quoted, put_quoted, put_signed};
 use rows_cells::{
-    CellForm, CellRef, ImageField, Width, bytes_front, datetime_front, decimal_front,
-    few_bytes_front, signed_front, time_front, unsigned_front,
+    CellFormat, CellRef, ImageField, Width, read_bytes, read_datetime, read_few_bytes, read_signed,
+    read_time, read_unsigned, split_decimal,
 };
 
 /// Writes the text of a field.
@@ -24,21 +24,21 @@ pub(crate) fn put_field<'a>(
     field: ImageField<'a>,
 ) -> Option<(usize, &'a [u8])>
     requires { at + 76 ≤ length text.old }
-    ensures { WritesOrNone field.entry.is_null field.entry.form field.entry.bytes.now at text.old text.new result }
+    ensures { WritesOrNone field.entry.is_null field.entry.format field.entry.bytes.now at text.old text.new result }
 {
     if field.is_null {
         return Some((put_bytes(text, at, b"NULL"), field.bytes));
     }
-    match field.form {
-        CellForm::Signed(width) => put_signed_field(text, at, field.bytes, width),
-        CellForm::Unsigned(width) => put_unsigned_field(text, at, field.bytes, width),
-        CellForm::Counted(Width::One) => put_few_field(text, at, field.bytes),
-        CellForm::Counted(Width::Two) => put_bytes_field(text, at, field.bytes, Width::Two),
-        CellForm::Datetime2(decimals) => put_datetime_field(text, at, field.bytes, decimals),
-        CellForm::Decimal(precision, scale) => {
+    match field.format {
+        CellFormat::Signed(width) => put_signed_field(text, at, field.bytes, width),
+        CellFormat::Unsigned(width) => put_unsigned_field(text, at, field.bytes, width),
+        CellFormat::Counted(Width::One) => put_few_field(text, at, field.bytes),
+        CellFormat::Counted(Width::Two) => put_bytes_field(text, at, field.bytes, Width::Two),
+        CellFormat::Datetime2(decimals) => put_datetime_field(text, at, field.bytes, decimals),
+        CellFormat::Decimal(precision, scale) => {
             put_decimal_field(text, at, field.bytes, precision, scale)
         }
-        CellForm::Time2(decimals) => put_time_field(text, at, field.bytes, decimals),
+        CellFormat::Time2(decimals) => put_time_field(text, at, field.bytes, decimals),
         _ => None,
     }
 }
@@ -63,7 +63,7 @@ fn put_signed_field<'a>(
     }
 }
 
-/// The same, for one width.
+/// The same for one width.
 #[inline(always)]
 #[tactic(auto, unfolding(crate::specs::CellText::text_of))]
 fn put_signed_of<'a>(
@@ -75,7 +75,7 @@ fn put_signed_of<'a>(
     requires { at + 76 ≤ length text.old }
     ensures { WritesOrNone false (Signed width) bytes.now at text.old text.new result }
 {
-    match signed_front(bytes, width) {
+    match read_signed(bytes, width) {
         Ok((number, rest)) => Some((put_signed(text, at, number), rest)),
         Err(_) => None,
     }
@@ -101,7 +101,7 @@ fn put_unsigned_field<'a>(
     }
 }
 
-/// The same, for one width.
+/// The same for one width.
 #[inline(always)]
 #[tactic(auto, unfolding(crate::specs::CellText::text_of))]
 fn put_unsigned_of<'a>(
@@ -113,7 +113,7 @@ fn put_unsigned_of<'a>(
     requires { at + 76 ≤ length text.old }
     ensures { WritesOrNone false (Unsigned width) bytes.now at text.old text.new result }
 {
-    match unsigned_front(bytes, width) {
+    match read_unsigned(bytes, width) {
         Ok((CellRef::Int(number), rest)) => Some((put_signed(text, at, number), rest)),
         Ok((CellRef::UInt(number), rest)) => {
             let start = put_byte(text, at, b'u');
@@ -123,14 +123,14 @@ fn put_unsigned_of<'a>(
     }
 }
 
-/// Writes the text of bytes behind a length of one byte, where they are few.
+/// Writes the text of a few bytes after a length of one byte.
 #[inline(always)]
 #[tactic(auto, unfolding(crate::specs::CellText::text_of))]
 fn put_few_field<'a>(text: &mut [u8], at: usize, bytes: &'a [u8]) -> Option<(usize, &'a [u8])>
     requires { at + 76 ≤ length text.old }
     ensures { WritesOrNone false (Counted One) bytes.now at text.old text.new result }
 {
-    if let Some((window, len, rest)) = few_bytes_front(bytes) {
+    if let Some((window, len, rest)) = read_few_bytes(bytes) {
         if let Some(end) = put_plain_quoted(text, at, window, len) {
             return Some((end, rest));
         }
@@ -138,7 +138,7 @@ fn put_few_field<'a>(text: &mut [u8], at: usize, bytes: &'a [u8]) -> Option<(usi
     put_bytes_field(text, at, bytes, Width::One)
 }
 
-/// Writes the text of bytes, where they are few.
+/// Writes the text of a few bytes.
 #[inline(always)]
 #[tactic(auto, unfolding(crate::specs::CellText::text_of))]
 fn put_bytes_field<'a>(
@@ -150,9 +150,9 @@ fn put_bytes_field<'a>(
     requires { at + 76 ≤ length text.old }
     ensures { WritesOrNone false (Counted width) bytes.now at text.old text.new result }
 {
-    match bytes_front(bytes, width) {
+    match read_bytes(bytes, width) {
         Ok((content, rest)) => {
-            if content.len() > FEW {
+            if content.len() > SHORT_BYTES_MAX {
                 return None;
             }
             Some((put_quoted(text, at, content), rest))
@@ -161,7 +161,7 @@ fn put_bytes_field<'a>(
     }
 }
 
-/// Writes the text of a date and time.
+/// Writes the text of a DATETIME.
 #[inline(always)]
 #[tactic(auto, unfolding(crate::specs::CellText::text_of, crate::specs::ShortTexts::short_text))]
 fn put_datetime_field<'a>(
@@ -173,7 +173,7 @@ fn put_datetime_field<'a>(
     requires { at + 76 ≤ length text.old }
     ensures { WritesOrNone false (Datetime2 decimals) bytes.now at text.old text.new result }
 {
-    match datetime_front(bytes, decimals) {
+    match read_datetime(bytes, decimals) {
         Ok((packed, rest)) => {
             let (day, clock) = datetime_parts(packed);
             Some((put_date(text, at, day, clock), rest))
@@ -182,7 +182,7 @@ fn put_datetime_field<'a>(
     }
 }
 
-/// Writes the text of a span of time.
+/// Writes the text of a TIME.
 #[inline(always)]
 #[tactic(auto, unfolding(crate::specs::CellText::text_of, crate::specs::ShortTexts::short_text))]
 fn put_time_field<'a>(
@@ -194,7 +194,7 @@ fn put_time_field<'a>(
     requires { at + 76 ≤ length text.old }
     ensures { WritesOrNone false (Time2 decimals) bytes.now at text.old text.new result }
 {
-    match time_front(bytes, decimals) {
+    match read_time(bytes, decimals) {
         Ok((packed, rest)) => {
             let (is_negative, days, clock) = time_parts(packed);
             Some((put_span(text, at, is_negative, days, clock), rest))
@@ -203,7 +203,7 @@ fn put_time_field<'a>(
     }
 }
 
-/// Writes the text of a decimal, where it has few digits.
+/// Writes the text of a decimal with few digits.
 #[inline(always)]
 fn put_decimal_field<'a>(
     text: &mut [u8],
@@ -218,7 +218,7 @@ fn put_decimal_field<'a>(
     if precision > FEW_DIGITS {
         return None;
     }
-    match decimal_front(bytes, precision, scale) {
+    match split_decimal(bytes, precision, scale) {
         Ok((content, rest)) => {
             let (precision, scale) = (usize::from(precision), usize::from(scale));
             match write_few_quoted(text, at, precision, scale, content) {

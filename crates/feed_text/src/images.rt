@@ -1,22 +1,22 @@
-//! The text of the cells of an image.
+//! The text of an image's cells.
 
 ghost use Rattle.std.specs.Prelude.{◌≡◌, ◌≤◌, OnOk, IfOk, IfErr, length};
 ghost use Rattle.feed_text.specs.Buffers.{text_in};
-ghost use Rattle.feed_text.specs.ImageText.{WritesFields, AppendsFields, PutsCells, StopsWithin, IsCellsRefused};
+ghost use Rattle.feed_text.specs.ImageText.{WritesFields, AppendsFields, PutsCells, StopsWithin, IsCellsError};
 
 use crate::buffer::TextBuffer;
-use crate::cells::{LABEL, put_label};
+use crate::cells::{LABEL_LEN_MAX, put_label};
 use crate::fields::put_field;
-use crate::short::SHORT;
+use crate::short::SHORT_LEN_MAX;
 use rows_cells::ImageCells;
 use rows_times::RowsError;
 use std::alloc::{Allocator, Global};
 
-/// The most bytes of a label and a short text.
-const FIELD: usize = LABEL + SHORT;
+/// The maximum length of a label and a short text, in bytes.
+const FIELD_LEN_MAX: usize = LABEL_LEN_MAX + SHORT_LEN_MAX;
 
-/// Writes the text of cells, as long as each is short; answers where it ends, and the cells that are left. Where there
-/// isn't room for so many short texts, none is written.
+/// Writes the texts of cells as long as each is short; returns the offset of the end, and the remaining cells. If there isn't
+/// room for that many short texts, none is written.
 fn put_fields<'p, 'a>(
     text: &mut [u8],
     at: usize,
@@ -25,39 +25,41 @@ fn put_fields<'p, 'a>(
     requires { at ≤ length text.old }
     ensures { WritesFields cells.entry result.1 at text.old text.new result.0 }
 {
-    if (text.len() - at) / FIELD < cells.len() {
+    if (text.len() - at) / FIELD_LEN_MAX < cells.len() {
         return (at, cells);
     }
     let mut end = at;
     let mut left = cells;
     while let Some(field) = left.next_field() {
-        let start = put_label(text, end, field.place);
+        let start = put_label(text, end, field.column);
         let Some((after, rest)) = put_field(text, start, field) else {
             break;
         };
         end = after;
-        left.pass_field(rest);
+        left.skip_field(rest);
     }
     (end, left)
 }
 
 impl<A: Allocator> TextBuffer<A> {
-    /// Appends the texts of the cells that are left of an image, as [`TextBuffer::put_cell`] does one after the
-    /// other, and passes over them.
+    /// Appends the texts of an image's remaining cells in order, as [`TextBuffer::put_cell`] does for one, and consumes them. An
+    /// error appends and consumes nothing:
     ///
-    /// Where a cell can't be read, the refusal of `ImageCells::next_cell`; want of memory is `Memory`, and a
-    /// document that has no tree is `Jsonb`. Then nothing is appended, and nothing is passed over. No memory is taken
-    /// but to make the buffer longer, and for the trees of documents.
+    /// - Those of `ImageCells::next_cell`: a cell can't be read.
+    /// - `Memory`: out of memory.
+    /// - `Jsonb`: a cell is a JSON document that can't be parsed.
+    ///
+    /// It allocates only to lengthen the buffer and for the trees of JSON documents.
     pub fn put_cells(
         &mut self,
         alloc: Global,
         cells: &mut ImageCells<'_, '_>,
     ) -> Result<(), RowsError>
         ensures ok { OnOk result (PutsCells cells.old cells.new (text_in self.old) (text_in self.new)) }
-        ensures err { IfErr result (λ e. IsCellsRefused e cells.old cells.new (text_in self.old) (text_in self.new)) }
+        ensures err { IfErr result (λ e. IsCellsError e cells.old cells.new (text_in self.old) (text_in self.new)) }
     {
         let start = self.len();
-        match self.put_left(alloc, *cells) {
+        match self.put_remaining(alloc, *cells) {
             Ok(left) => {
                 *cells = left;
                 Ok(())
@@ -69,9 +71,9 @@ impl<A: Allocator> TextBuffer<A> {
         }
     }
 
-    /// Appends the texts of cells, or of some of them; answers what is left behind the last.
+    /// Appends the texts of all the cells, and returns what follows the last. An error may leave the texts of the first few.
     #[inline(always)]
-    fn put_left<'p, 'a>(
+    fn put_remaining<'p, 'a>(
         &mut self,
         alloc: Global,
         cells: ImageCells<'p, 'a>,
@@ -83,7 +85,7 @@ impl<A: Allocator> TextBuffer<A> {
         loop {
             left = self.put_short_cells(left);
             match left.next_cell() {
-                Ok(Some((place, cell))) => match self.put_cell(alloc, place, cell) {
+                Ok(Some((column, cell))) => match self.put_cell(alloc, column, cell) {
                     Ok(()) => {}
                     Err(fault) => return Err(fault),
                 },
@@ -93,13 +95,13 @@ impl<A: Allocator> TextBuffer<A> {
         }
     }
 
-    /// Appends the texts of cells, as long as each is short; answers the cells that are left. Room for all of them is
-    /// asked for once; where it is refused, none is appended, and the caller asks for each cell's room.
+    /// Appends the texts of cells as long as each is short, and returns the remaining cells. It reserves room for all of them at
+    /// once; if there is no memory for that, it appends none, and the caller reserves room for each cell.
     #[inline(always)]
     fn put_short_cells<'p, 'a>(&mut self, cells: ImageCells<'p, 'a>) -> ImageCells<'p, 'a>
         ensures { AppendsFields cells.entry result (text_in self.old) (text_in self.new) }
     {
-        let _asked = self.reserve(cells.len().saturating_mul(FIELD));
+        let _asked = self.reserve(cells.len().saturating_mul(FIELD_LEN_MAX));
         let (end, left) = put_fields(self.bytes.as_mut_slice(), self.len, cells);
         self.len = end;
         left

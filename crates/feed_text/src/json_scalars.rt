@@ -5,9 +5,9 @@ ghost use Rattle.rows_jsonb.specs.JsonTrees.{time as time_scalar, opaque};
 ghost use Rattle.rows_jsonb.specs.JsonTreeViews.{scalar_view, number_view};
 ghost use Rattle.wire_consts.specs.ColumnTypes.{column_type_number};
 ghost use Rattle.std.specs.Fmt.{decimal, signed_decimal};
-ghost use Rattle.feed_text.specs.Pieces.{IsRefused};
+ghost use Rattle.feed_text.specs.Pieces.{IsAppendError};
 ghost use Rattle.feed_text.specs.ValueText.{double_text};
-ghost use Rattle.feed_text.specs.JsonText.{scalar_text, moment_text};
+ghost use Rattle.feed_text.specs.JsonText.{scalar_text, temporal_text};
 
 use crate::pieces::append_all;
 use crate::quoting::quote;
@@ -19,7 +19,7 @@ use rows_jsonb::{JsonNumber, JsonOpaque, JsonScalar};
 use rows_times::{MysqlTime, MysqlTimestampType, RowsError};
 use std::alloc::Allocator;
 
-/// Appends the text of a scalar, or a part of it.
+/// Appends the text of a scalar. An error may leave a part of it.
 #[tactic(auto, using(crate::proofs::QuoteLemmas::kept_either), unfolding(crate::specs::JsonText::scalar_text))]
 pub(crate) fn append_scalar<A: Allocator>(
     scalar: &JsonScalar,
@@ -34,7 +34,7 @@ pub(crate) fn append_scalar<A: Allocator>(
         JsonScalar::Boolean(false) => append_all(&[b"false".as_slice()], out),
         JsonScalar::Number(number) => append_number(number, out),
         JsonScalar::String(string) => quote(string.as_bytes(), out),
-        JsonScalar::DateTime(time) => append_moment(time, out),
+        JsonScalar::DateTime(time) => append_temporal(time, out),
         JsonScalar::Opaque(opaque) => append_opaque(opaque, out),
     }
 }
@@ -43,7 +43,7 @@ pub(crate) fn append_scalar<A: Allocator>(
 #[tactic(auto, unfolding(crate::specs::JsonText::scalar_text))]
 fn append_number<A: Allocator>(number: &JsonNumber, out: &mut Vec<u8, A>) -> Result<(), RowsError>
     ensures ok { OnOk result (out.new.items ≡ out.old.items ++ scalar_text (number_view number.now)) }
-    ensures err { IfErr result (λ e. IsRefused e out.old.items out.new.items) }
+    ensures err { IfErr result (λ e. IsAppendError e out.old.items out.new.items) }
 {
     match number {
         JsonNumber::Int(number) => append_int(*number, out),
@@ -56,16 +56,16 @@ fn append_number<A: Allocator>(number: &JsonNumber, out: &mut Vec<u8, A>) -> Res
     }
 }
 
-/// The most bytes of a number.
-const NUMBER: usize = 24;
+/// The maximum length of a number's text in bytes.
+const NUMBER_LEN_MAX: usize = 24;
 
 /// Appends an integer, or nothing.
 fn append_int<A: Allocator>(number: i64, out: &mut Vec<u8, A>) -> Result<(), RowsError>
     ensures ok { OnOk result (out.new.items ≡ out.old.items ++ signed_decimal number) }
-    ensures err { IfErr result (λ e. IsRefused e out.old.items out.new.items) }
+    ensures err { IfErr result (λ e. IsAppendError e out.old.items out.new.items) }
 {
     let start = out.len();
-    out.resize(start + NUMBER, 0)?;
+    out.resize(start + NUMBER_LEN_MAX, 0)?;
     let end = put_signed(out.as_mut_slice(), start, number);
     out.truncate(end);
     Ok(())
@@ -74,10 +74,10 @@ fn append_int<A: Allocator>(number: i64, out: &mut Vec<u8, A>) -> Result<(), Row
 /// Appends `u` and an unsigned integer, or nothing.
 fn append_uint<A: Allocator>(number: u64, out: &mut Vec<u8, A>) -> Result<(), RowsError>
     ensures ok { OnOk result (out.new.items ≡ out.old.items ++ (117 ∷ decimal number)) }
-    ensures err { IfErr result (λ e. IsRefused e out.old.items out.new.items) }
+    ensures err { IfErr result (λ e. IsAppendError e out.old.items out.new.items) }
 {
     let start = out.len();
-    out.resize(start + NUMBER, 0)?;
+    out.resize(start + NUMBER_LEN_MAX, 0)?;
     let text = out.as_mut_slice();
     let end = put_byte(text, start, b'u');
     let end = put_number(text, end, number);
@@ -88,10 +88,10 @@ fn append_uint<A: Allocator>(number: u64, out: &mut Vec<u8, A>) -> Result<(), Ro
 /// Appends `d` and the hexadecimal digits of a double's bits, or nothing.
 fn append_double<A: Allocator>(bits: u64, out: &mut Vec<u8, A>) -> Result<(), RowsError>
     ensures ok { OnOk result (out.new.items ≡ out.old.items ++ double_text bits) }
-    ensures err { IfErr result (λ e. IsRefused e out.old.items out.new.items) }
+    ensures err { IfErr result (λ e. IsAppendError e out.old.items out.new.items) }
 {
     let start = out.len();
-    out.resize(start + NUMBER, 0)?;
+    out.resize(start + NUMBER_LEN_MAX, 0)?;
     let text = out.as_mut_slice();
     let end = put_byte(text, start, b'd');
     let end = put_hexadecimal(text, end, &bits.to_be_bytes());
@@ -99,7 +99,7 @@ fn append_double<A: Allocator>(bits: u64, out: &mut Vec<u8, A>) -> Result<(), Ro
     Ok(())
 }
 
-/// Appends the number of a column's type and quoted bytes, or a part of this.
+/// Appends `o`, the number of a column type, `:` and quoted bytes. An error may leave a part of this.
 #[tactic(auto, using(crate::proofs::QuoteLemmas::kept_either), unfolding(crate::specs::JsonText::scalar_text))]
 fn append_opaque<A: Allocator>(value: &JsonOpaque, out: &mut Vec<u8, A>) -> Result<(), RowsError>
     ensures ok { OnOk result (out.new.items ≡ out.old.items
@@ -112,32 +112,32 @@ fn append_opaque<A: Allocator>(value: &JsonOpaque, out: &mut Vec<u8, A>) -> Resu
     quote(value.value(), out)
 }
 
-/// The most bytes of a quoted date and time of day.
-const MOMENT: usize = 80;
+/// The maximum length of a quoted date and time of day, in bytes.
+const MOMENT_LEN_MAX: usize = 80;
 
-/// Appends a quoted date, a span of time, or a date and a time of day; or nothing.
+/// Appends a quoted date, a quoted time, or both quoted; or nothing.
 #[tactic(auto, unfolding(crate::specs::JsonText::scalar_text))]
-fn append_moment<A: Allocator>(time: &MysqlTime, out: &mut Vec<u8, A>) -> Result<(), RowsError>
+fn append_temporal<A: Allocator>(time: &MysqlTime, out: &mut Vec<u8, A>) -> Result<(), RowsError>
     ensures ok { OnOk result (out.new.items ≡ out.old.items ++ scalar_text (time_scalar time.now)) }
-    ensures err { IfErr result (λ e. IsRefused e out.old.items out.new.items) }
+    ensures err { IfErr result (λ e. IsAppendError e out.old.items out.new.items) }
 {
     let start = out.len();
-    out.resize(start + MOMENT, 0)?;
+    out.resize(start + MOMENT_LEN_MAX, 0)?;
     let text = out.as_mut_slice();
     let end = put_byte(text, start, b't');
     let end = put_byte(text, end, b'\'');
-    let end = put_moment(text, end, time);
+    let end = put_temporal(text, end, time);
     let end = put_byte(text, end, b'\'');
     out.truncate(end);
     Ok(())
 }
 
-/// Writes a date, a span of time, or a date and a time of day.
-#[tactic(auto, unfolding(crate::specs::JsonText::moment_text))]
-fn put_moment(text: &mut [u8], at: usize, time: &MysqlTime) -> usize
+/// Writes a date, a time, or both.
+#[tactic(auto, unfolding(crate::specs::JsonText::temporal_text))]
+fn put_temporal(text: &mut [u8], at: usize, time: &MysqlTime) -> usize
     requires { at + 77 ≤ length text.old }
     ensures most { result ≤ at + 76 }
-    ensures text { take result text.new ≡ take at text.old ++ moment_text time.now }
+    ensures text { take result text.new ≡ take at text.old ++ temporal_text time.now }
 {
     let day = Day {
         year: time.year,

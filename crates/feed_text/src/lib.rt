@@ -1,8 +1,7 @@
-//! The text of the feed: bytes between quotes, the values of cells, and decimals straight from the bytes
-//! that pack them.
+//! The text of the feed: quoted bytes, the values of cells, and decimals directly from MySQL's packed bytes.
 //!
-//! Each call appends exactly its text, or refuses and leaves what stood there as it was: for want of
-//! memory, and where bytes pack no decimal. `specs/` has the texts.
+//! Each function appends exactly its text, or returns an error and leaves the text before it unchanged: out of memory, a JSON
+//! document that can't be parsed, bytes that aren't a packed decimal. The specifications of the texts are in `specs/`.
 #![tactic(auto)]
 
 mod buffer;

@@ -1,7 +1,7 @@
-//! What the text of a borrowed cell is made of.
+//! The values that make up the text of a borrowed cell.
 
 ghost use Rattle.std.specs.Prelude.{◌≡◌, Ok};
-ghost use Rattle.rows_cells.specs.CellValues.{new_date as new_date_value, old_time as old_time_value, old_datetime as old_datetime_value, date_of, span_of};
+ghost use Rattle.rows_cells.specs.CellValues.{new_date as new_date_value, old_time as old_time_value, old_datetime as old_datetime_value, cell_date, cell_time};
 ghost use Rattle.feed_text.specs.CellText.{text_of};
 ghost use Rattle.feed_text.specs.Times.{date_text, span_text};
 ghost use Rattle.feed_text.specs.ShortTexts.{short_text};
@@ -10,54 +10,54 @@ use crate::short::Short;
 use feed_writers::{Clock, Day};
 use rows_cells::CellRef;
 
-/// What the text of a cell is made of.
+/// The values that make up the text of a cell.
 #[derive(Clone, Copy)]
-pub(crate) enum CellParts<'a> {
+pub(crate) enum CellContent<'a> {
     Short(Short),
     Bytes(&'a [u8]),
-    /// How many digits it has, how many of them stand after the point, and the bytes that pack it.
+    /// The number of digits, the number of digits after the point, and the packed bytes.
     Decimal(u8, u8, &'a [u8]),
-    /// A document.
+    /// A JSON document.
     Json(&'a [u8]),
-    /// Changes of a document.
+    /// Partial updates of a JSON document.
     JsonDiffs(&'a [u8]),
 }
 
-impl<'a> CellParts<'a> {
-    ghost use Rattle.feed_text.specs.CellParts.{ArePartsOf};
+impl<'a> CellContent<'a> {
+    ghost use Rattle.feed_text.specs.CellContent.{ArePartsOf};
 
-    /// The parts of a cell. Dates and times are taken apart.
+    /// The values of a cell. Dates and times are split into their fields.
     #[inline(always)]
     #[tactic(auto, unfolding(crate::specs::CellText::text_of, crate::specs::ShortTexts::short_text))]
-    pub(crate) fn of(cell: CellRef<'a>) -> CellParts<'a>
+    pub(crate) fn of(cell: CellRef<'a>) -> CellContent<'a>
         ensures { ArePartsOf cell.entry result }
     {
         match cell {
-            CellRef::Int(number) => CellParts::Short(Short::Int(number)),
-            CellRef::Bytes(bytes) => CellParts::Bytes(bytes),
-            CellRef::Null => CellParts::Short(Short::Null),
-            CellRef::UInt(number) => CellParts::Short(Short::UInt(number)),
-            CellRef::Float(bits) => CellParts::Short(Short::Float(bits)),
-            CellRef::Double(bits) => CellParts::Short(Short::Double(bits)),
-            CellRef::Year(years) => CellParts::Short(Short::Year(years)),
-            CellRef::NewDate(bits) => CellParts::Short(new_date(bits)),
-            CellRef::OldTime(digits) => CellParts::Short(old_time(digits)),
-            CellRef::OldDatetime(digits) => CellParts::Short(old_datetime(digits)),
-            CellRef::Timestamp(seconds, micros) => CellParts::Short(Short::Timestamp(
+            CellRef::Int(number) => CellContent::Short(Short::Int(number)),
+            CellRef::Bytes(bytes) => CellContent::Bytes(bytes),
+            CellRef::Null => CellContent::Short(Short::Null),
+            CellRef::UInt(number) => CellContent::Short(Short::UInt(number)),
+            CellRef::Float(bits) => CellContent::Short(Short::Float(bits)),
+            CellRef::Double(bits) => CellContent::Short(Short::Double(bits)),
+            CellRef::Year(years) => CellContent::Short(Short::Year(years)),
+            CellRef::NewDate(bits) => CellContent::Short(new_date(bits)),
+            CellRef::OldTime(digits) => CellContent::Short(old_time(digits)),
+            CellRef::OldDatetime(digits) => CellContent::Short(old_datetime(digits)),
+            CellRef::Timestamp(seconds, micros) => CellContent::Short(Short::Timestamp(
                 seconds, micros,
             )),
-            CellRef::Datetime(packed) => CellParts::Short(datetime(packed)),
-            CellRef::Time(packed) => CellParts::Short(time(packed)),
-            CellRef::Decimal(precision, scale, bytes) => CellParts::Decimal(
+            CellRef::Datetime(packed) => CellContent::Short(datetime(packed)),
+            CellRef::Time(packed) => CellContent::Short(time(packed)),
+            CellRef::Decimal(precision, scale, bytes) => CellContent::Decimal(
                 precision, scale, bytes,
             ),
-            CellRef::Json(bytes) => CellParts::Json(bytes),
-            CellRef::JsonDiffs(bytes) => CellParts::JsonDiffs(bytes),
+            CellRef::Json(bytes) => CellContent::Json(bytes),
+            CellRef::JsonDiffs(bytes) => CellContent::JsonDiffs(bytes),
         }
     }
 }
 
-/// A date of three bytes.
+/// The text of a DATE of three bytes.
 #[inline(always)]
 #[tactic(auto, unfolding(crate::specs::CellText::text_of, crate::specs::ShortTexts::short_text))]
 fn new_date(bits: u32) -> Short
@@ -79,7 +79,7 @@ fn new_date(bits: u32) -> Short
     )
 }
 
-/// A span of time of three bytes.
+/// The text of a TIME of three bytes, without fraction.
 #[inline(always)]
 #[tactic(auto, unfolding(crate::specs::CellText::text_of, crate::specs::ShortTexts::short_text))]
 fn old_time(digits: i32) -> Short
@@ -99,7 +99,7 @@ fn old_time(digits: i32) -> Short
     )
 }
 
-/// A date and a time of eight bytes.
+/// The text of a DATETIME of eight bytes, without fraction.
 #[inline(always)]
 #[tactic(auto, unfolding(crate::specs::CellText::text_of, crate::specs::ShortTexts::short_text))]
 fn old_datetime(digits: u64) -> Short
@@ -120,21 +120,21 @@ fn old_datetime(digits: u64) -> Short
     )
 }
 
-/// A packed date and time. A sign is dropped.
+/// The text of a packed DATETIME2. Its sign is ignored.
 #[inline(always)]
 #[tactic(auto, unfolding(crate::specs::ShortTexts::short_text))]
 fn datetime(packed: i64) -> Short
-    ensures { text_of (date_of packed) ≡ Ok (short_text result) }
+    ensures { text_of (cell_date packed) ≡ Ok (short_text result) }
 {
     let (day, clock) = datetime_parts(packed);
     Short::Date(day, clock)
 }
 
-/// The day and the time of day of a packed date and time.
+/// The date and the time of day of a packed DATETIME2.
 #[inline(always)]
 #[tactic(auto, unfolding(crate::specs::CellText::text_of))]
 pub(crate) fn datetime_parts(packed: i64) -> (Day, Clock)
-    ensures { text_of (date_of packed) ≡ Ok (date_text result.0 result.1) }
+    ensures { text_of (cell_date packed) ≡ Ok (date_text result.0 result.1) }
 {
     let size = packed.unsigned_abs();
     let whole = size / 16_777_216;
@@ -153,21 +153,21 @@ pub(crate) fn datetime_parts(packed: i64) -> (Day, Clock)
     (day, clock)
 }
 
-/// A packed span of time.
+/// The text of a packed TIME2.
 #[inline(always)]
 #[tactic(auto, unfolding(crate::specs::ShortTexts::short_text))]
 fn time(packed: i64) -> Short
-    ensures { text_of (span_of packed) ≡ Ok (short_text result) }
+    ensures { text_of (cell_time packed) ≡ Ok (short_text result) }
 {
     let (is_negative, days, clock) = time_parts(packed);
     Short::Span(is_negative, days, clock)
 }
 
-/// Whether a packed span of time is below zero, its days, and what is left of them.
+/// Whether a packed TIME2 is negative, its days, and the rest of it.
 #[inline(always)]
 #[tactic(auto, unfolding(crate::specs::CellText::text_of))]
 pub(crate) fn time_parts(packed: i64) -> (bool, u32, Clock)
-    ensures { text_of (span_of packed) ≡ Ok (span_text result.0 result.1 result.2) }
+    ensures { text_of (cell_time packed) ≡ Ok (span_text result.0 result.1 result.2) }
 {
     let size = packed.unsigned_abs();
     let whole = size / 16_777_216;

@@ -1,5 +1,5 @@
 ghost use Rattle.std.specs.Prelude.{◌≡◌, ◌++◌, OnOk, IfErr};
-ghost use Rattle.feed_text.specs.Pieces.{pieces_text, IsRefused};
+ghost use Rattle.feed_text.specs.Pieces.{pieces_text, IsAppendError};
 
 use rows_times::RowsError;
 use std::alloc::Allocator;
@@ -10,7 +10,7 @@ pub(crate) fn append_all<A: Allocator>(
     out: &mut Vec<u8, A>,
 ) -> Result<(), RowsError>
     ensures ok { OnOk result (out.new.items ≡ out.old.items ++ pieces_text pieces.now) }
-    ensures err { IfErr result (λ e. IsRefused e out.old.items out.new.items) }
+    ensures err { IfErr result (λ e. IsAppendError e out.old.items out.new.items) }
 {
     let start = out.len();
     for piece in pieces {

@@ -1,21 +1,20 @@
 ghost use Rattle.std.specs.Prelude.{◌≡◌, ◌≤◌, ◌++◌, OnOk, IfErr, not, length, take, take_while};
 ghost use Rattle.std.specs.List.{flat_map};
 ghost use Rattle.feed_writers.specs.Quoting.{is_plain_byte, escape, quoted};
-ghost use Rattle.feed_text.specs.Pieces.{IsRefused};
+ghost use Rattle.feed_text.specs.Pieces.{IsAppendError};
 
 use feed_writers::{is_plain, plain_len, put_escapes};
 use rows_times::RowsError;
 use std::alloc::Allocator;
 
-/// How many bytes are escaped and appended at once.
+/// The length of a piece that is escaped and appended at once.
 const ESCAPED_AT_ONCE: usize = 16;
 
-/// Appends bytes between single quotes: 0x20 to 0x7e save quote and backslash as they are, each
-/// other byte as a backslash and two lower case hexadecimal digits. Want of memory is `Memory`, and
-/// then nothing is appended.
+/// Appends bytes in single quotes: 0x20 to 0x7e except quote and backslash unchanged, each other byte as a backslash and two
+/// lower case hexadecimal digits. `Memory`: out of memory; nothing is appended.
 pub fn quote<A: Allocator>(bytes: &[u8], out: &mut Vec<u8, A>) -> Result<(), RowsError>
     ensures ok { OnOk result (out.new.items ≡ out.old.items ++ quoted bytes.now) }
-    ensures err { IfErr result (λ e. IsRefused e out.old.items out.new.items) }
+    ensures err { IfErr result (λ e. IsAppendError e out.old.items out.new.items) }
 {
     let start = out.len();
     let Ok(()) = append_quoted(bytes, out) else {
@@ -25,7 +24,7 @@ pub fn quote<A: Allocator>(bytes: &[u8], out: &mut Vec<u8, A>) -> Result<(), Row
     Ok(())
 }
 
-/// Appends bytes between quotes, or a part of this.
+/// Appends quoted bytes. An error may leave a part of them.
 #[tactic(auto, using(crate::proofs::QuoteLemmas::kept_more))]
 fn append_quoted<A: Allocator>(bytes: &[u8], out: &mut Vec<u8, A>) -> Result<(), RowsError>
     ensures ok { OnOk result (out.new.items ≡ out.old.items ++ quoted bytes.now) }
@@ -52,7 +51,7 @@ fn append_quoted<A: Allocator>(bytes: &[u8], out: &mut Vec<u8, A>) -> Result<(),
 fn append_escapes<A: Allocator>(bytes: &[u8], out: &mut Vec<u8, A>) -> Result<(), RowsError>
     requires { length bytes.now ≤ 16 }
     ensures ok { OnOk result (out.new.items ≡ out.old.items ++ flat_map escape bytes.now) }
-    ensures err { IfErr result (λ e. IsRefused e out.old.items out.new.items) }
+    ensures err { IfErr result (λ e. IsAppendError e out.old.items out.new.items) }
 {
     let start = out.len();
     out.resize(start + 3 * bytes.len(), 0)?;
@@ -61,7 +60,7 @@ fn append_escapes<A: Allocator>(bytes: &[u8], out: &mut Vec<u8, A>) -> Result<()
     Ok(())
 }
 
-/// How many of the first sixteen bytes do not stand for themselves, up to the first that does.
+/// Counts the bytes at the start that have to be escaped, among the first sixteen.
 fn escaped_len(bytes: &[u8]) -> usize
     ensures { result ≡ length (take_while (λ b. not (is_plain_byte b)) (take 16 bytes.now)) }
 {

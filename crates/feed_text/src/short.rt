@@ -1,8 +1,8 @@
-//! Values whose text is short, so that room for it is asked for once.
+//! Values with a short text, for which room is reserved once.
 
 ghost use Rattle.std.specs.Prelude.{◌≡◌, ◌≤◌, ◌+◌, ◌++◌, length, take};
 ghost use Rattle.std.specs.Fmt.{decimal};
-ghost use Rattle.rows_cells.specs.CellValues.{timestamp_text, micros_text};
+ghost use Rattle.rows_cells.specs.CellValues.{timestamp_text, cell_micros_text};
 ghost use Rattle.feed_writers.specs.Quoting.{quoted};
 ghost use Rattle.feed_text.specs.Times.{date_text, span_text};
 ghost use Rattle.feed_text.specs.ShortTexts.{short_text};
@@ -12,16 +12,16 @@ use feed_writers::{
     put_signed,
 };
 
-/// The most bytes of a short text.
-pub(crate) const SHORT: usize = 76;
+/// The maximum length of a short text in bytes.
+pub(crate) const SHORT_LEN_MAX: usize = 76;
 
-/// The most bytes whose quoted text is short.
-pub(crate) const FEW: usize = 24;
+/// The maximum number of bytes whose quoted text is short.
+pub(crate) const SHORT_BYTES_MAX: usize = 24;
 
-/// The most digits of a decimal whose quoted text is short.
+/// The maximum number of digits of a decimal whose quoted text is short.
 pub(crate) const FEW_DIGITS: u8 = 71;
 
-/// A value whose text is short.
+/// A value with a short text.
 #[derive(Clone, Copy)]
 pub(crate) enum Short {
     Null,
@@ -31,16 +31,16 @@ pub(crate) enum Short {
     Float(u32),
     /// The bits of a double.
     Double(u64),
-    /// Years from 1900.
+    /// Years since 1900.
     Year(u8),
     Date(Day, Clock),
-    /// Whether it is below zero, days, and what is left of them.
+    /// Whether it is negative, its days, and the rest of it.
     Span(bool, u32, Clock),
     /// Seconds since 1970, and microseconds.
     Timestamp(i32, i32),
 }
 
-/// Writes a short text, and answers where it ends.
+/// Writes a short text, and returns the offset of its end.
 #[inline(always)]
 #[tactic(auto, unfolding(crate::specs::ShortTexts::short_text))]
 pub(crate) fn put_short(text: &mut [u8], at: usize, short: Short) -> usize
@@ -70,7 +70,7 @@ pub(crate) fn put_short(text: &mut [u8], at: usize, short: Short) -> usize
     }
 }
 
-/// Writes a day, `T` and a time of day.
+/// Writes a date, `T` and a time of day.
 #[inline(always)]
 #[tactic(auto, unfolding(crate::specs::Times::date_text))]
 pub(crate) fn put_date(text: &mut [u8], at: usize, day: Day, clock: Clock) -> usize
@@ -83,7 +83,7 @@ pub(crate) fn put_date(text: &mut [u8], at: usize, day: Day, clock: Clock) -> us
     put_clock(text, end, clock)
 }
 
-/// Writes a minus where it is below zero, days, `d` and what is left of them.
+/// Writes a `-` if it is negative, days, `d` and the rest of the time.
 #[inline(always)]
 #[tactic(auto, unfolding(crate::specs::Times::span_text))]
 pub(crate) fn put_span(
@@ -107,7 +107,7 @@ pub(crate) fn put_span(
     put_clock(text, end, clock)
 }
 
-/// Writes the year that a byte counts from 1900, between quotes.
+/// Writes a quoted year, given in years since 1900.
 #[inline(always)]
 fn put_year(text: &mut [u8], at: usize, years: u8) -> usize
     requires { at + 76 ≤ length text.old }
@@ -119,7 +119,7 @@ fn put_year(text: &mut [u8], at: usize, years: u8) -> usize
     put_byte(text, end, b'\'')
 }
 
-/// Writes seconds, and a point and microseconds where there are any, between quotes.
+/// Writes quoted seconds, with a point and microseconds if there are any.
 #[inline(always)]
 fn put_timestamp(text: &mut [u8], at: usize, seconds: i32, micros: i32) -> usize
     requires { at + 76 ≤ length text.old }
@@ -131,7 +131,7 @@ fn put_timestamp(text: &mut [u8], at: usize, seconds: i32, micros: i32) -> usize
     put_byte(text, end, b'\'')
 }
 
-/// Writes seconds, and a point and microseconds where there are any.
+/// Writes seconds, with a point and microseconds if there are any.
 #[inline(always)]
 #[tactic(auto, unfolding(rows_cells::specs::CellValues::timestamp_text))]
 fn put_seconds(text: &mut [u8], at: usize, seconds: i32, micros: i32) -> usize
@@ -143,12 +143,12 @@ fn put_seconds(text: &mut [u8], at: usize, seconds: i32, micros: i32) -> usize
     put_micros(text, end, micros)
 }
 
-/// Writes a point and microseconds, where there are any: six characters, in which a sign counts.
+/// Writes a point and microseconds if there are any: six characters, including a sign.
 #[inline(always)]
 fn put_micros(text: &mut [u8], at: usize, micros: i32) -> usize
     requires { at + 12 ≤ length text.old }
     ensures most { result ≤ at + 12 }
-    ensures text { take result text.new ≡ take at text.old ++ micros_text micros }
+    ensures text { take result text.new ≡ take at text.old ++ cell_micros_text micros }
 {
     let size = micros.unsigned_abs();
     if size == 0 {

@@ -1,16 +1,16 @@
-//! The quoted text of decimals with few digits, by the numbers before and after the point.
+//! The quoted text of decimals with few digits, from the numbers before and after the point.
 
 ghost use Rattle.std.specs.Prelude.{◌≡◌, ◌≤◌, ◌<◌, ◌+◌, ◌^◌, ◌++◌, ◌∷◌, [], length, take};
 ghost use Rattle.std.specs.Fmt.{decimal};
 ghost use Rattle.rows_decimal.specs.PackedTexts.{PutsOrNone};
-ghost use Rattle.feed_text.specs.DecimalText.{quoted_decimal, numbers_sign, places_text, numbers_text};
+ghost use Rattle.feed_text.specs.DecimalText.{quoted_decimal, numbers_sign, micros_places_text, numbers_text};
 
 use crate::decimals::write_quoted;
-use feed_writers::{put_byte, put_number, put_places};
+use feed_writers::{put_byte, put_fixed_digits, put_number};
 use rows_decimal::{DecimalNumbers, decimal_numbers};
 
-/// Writes what [`write_quoted`] does where there is more room: a decimal with at most 16 digits before the point and
-/// 8 after it by its numbers.
+/// Does the same as [`write_quoted`], with more room. A decimal with at most 16 digits before the point and 8 after it is written
+/// from its numbers.
 #[inline(always)]
 pub(crate) fn write_few_quoted(
     text: &mut [u8],
@@ -29,7 +29,7 @@ pub(crate) fn write_few_quoted(
     }
 }
 
-/// Writes the text of a sign and two numbers between quotes.
+/// Writes the quoted text of a sign and two numbers.
 #[inline(always)]
 fn put_quoted_numbers(text: &mut [u8], at: usize, scale: usize, numbers: DecimalNumbers) -> usize
     requires few { scale ≤ 8 }
@@ -45,8 +45,8 @@ fn put_quoted_numbers(text: &mut [u8], at: usize, scale: usize, numbers: Decimal
     put_byte(text, end, b'\'')
 }
 
-/// Writes a minus where it is negative, and not a zero without digits after the point. The byte is stored in
-/// any case, so that nothing hangs on the sign but where the text ends.
+/// Writes a `-` if the decimal is negative, except for a zero without digits after the point. The byte is stored in any case, so
+/// that only the offset of the end depends on the sign.
 #[inline(always)]
 fn put_sign(text: &mut [u8], at: usize, scale: usize, numbers: DecimalNumbers) -> usize
     requires { at < length text.old }
@@ -61,19 +61,19 @@ fn put_sign(text: &mut [u8], at: usize, scale: usize, numbers: DecimalNumbers) -
     at + usize::from(numbers.negative)
 }
 
-/// Writes a point and so many digits of a number, if there are any.
+/// Writes a point and `scale` digits of a number, if `scale` isn't 0.
 #[inline(always)]
 fn put_fraction(text: &mut [u8], at: usize, scale: usize, number: u32) -> usize
     requires few { scale ≤ 8 }
     requires small { number < 10 ^ scale }
     requires room { at + 9 ≤ length text.old }
-    ensures end { result ≡ at + length (places_text scale number) }
+    ensures end { result ≡ at + length (micros_places_text scale number) }
     ensures most { result ≤ at + 9 }
-    ensures text { take result text.new ≡ take at text.old ++ places_text scale number }
+    ensures text { take result text.new ≡ take at text.old ++ micros_places_text scale number }
 {
     if scale == 0 {
         return at;
     }
     let end = put_byte(text, at, b'.');
-    put_places(text, end, scale, number)
+    put_fixed_digits(text, end, scale, number)
 }

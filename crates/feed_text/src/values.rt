@@ -1,23 +1,22 @@
 ghost use Rattle.std.specs.Prelude.{◌≡◌, ◌++◌, OnOk, IfErr};
-ghost use Rattle.feed_text.specs.Pieces.{IsRefused};
+ghost use Rattle.feed_text.specs.Pieces.{IsAppendError};
 ghost use Rattle.feed_text.specs.ShortTexts.{short_text};
 ghost use Rattle.feed_text.specs.ValueText.{value_text};
 
 use crate::quoting::quote;
-use crate::short::{SHORT, Short, put_short};
+use crate::short::{SHORT_LEN_MAX, Short, put_short};
 use feed_writers::{Clock, Day};
 use rows_times::RowsError;
 use rows_values::Value;
 use std::alloc::Allocator;
 
-/// Appends the text of a value: `NULL`; an integer in decimal, an unsigned one after `u`; `f` or `d`
-/// and the hexadecimal digits of a float's bits; bytes quoted; a date as
-/// `YYYY-MM-DDThh:mm:ss.uuuuuu`; a span of time as `-` where it is below zero, days, `d` and
-/// `hh:mm:ss.uuuuuu`. Want of memory is `Memory`, and then nothing is appended.
+/// Appends the text of a value: `NULL`; an integer in decimal, an unsigned one after `u`; `f` or `d` and the hexadecimal digits
+/// of a float's or double's bits; bytes quoted; a date as `YYYY-MM-DDThh:mm:ss.uuuuuu`; a time as `-` if it is negative, days,
+/// `d` and `hh:mm:ss.uuuuuu`. `Memory`: out of memory; nothing is appended.
 #[tactic(auto, unfolding(crate::specs::ValueText::value_text, crate::specs::ShortTexts::short_text))]
 pub fn put_value<A: Allocator>(value: &Value, out: &mut Vec<u8, A>) -> Result<(), RowsError>
     ensures ok { OnOk result (out.new.items ≡ out.old.items ++ value_text value.now) }
-    ensures err { IfErr result (λ e. IsRefused e out.old.items out.new.items) }
+    ensures err { IfErr result (λ e. IsAppendError e out.old.items out.new.items) }
 {
     match value {
         Value::NULL => append_short(Short::Null, out),
@@ -59,10 +58,10 @@ fn clock(hour: u8, minute: u8, second: u8, micros: u32) -> Clock
 /// Appends a short text, or nothing.
 fn append_short<A: Allocator>(short: Short, out: &mut Vec<u8, A>) -> Result<(), RowsError>
     ensures ok { OnOk result (out.new.items ≡ out.old.items ++ short_text short) }
-    ensures err { IfErr result (λ e. IsRefused e out.old.items out.new.items) }
+    ensures err { IfErr result (λ e. IsAppendError e out.old.items out.new.items) }
 {
     let start = out.len();
-    out.resize(start + SHORT, 0)?;
+    out.resize(start + SHORT_LEN_MAX, 0)?;
     let end = put_short(out.as_mut_slice(), start, short);
     out.truncate(end);
     Ok(())

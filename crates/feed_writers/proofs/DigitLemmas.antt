@@ -1,4 +1,4 @@
--- Numbers as text, by pairs of digits, and how many digits they have.
+-- Numbers as text, by pairs of digits, and the number of their digits.
 use Rattle.std.proofs.Common.{◌≡◌, ℕ, zero, suc, ◌+◌, ◌-◌, ◌*◌, ◌/◌, ◌%◌, ◌^◌, ◌<◌, ◌≤◌, Bool, true, false, ◌&&◌, T, eqb, List, [], ◌∷◌, ◌++◌, length, take, drop, get_or, min, replicate, refl, sym, ap, ap₂, ◌∙◌, inl, inr, arith, eq-zero-or-pos, eqb→eq, append_assoc, length-append}
 use Rattle.std.specs.Prelude.{◌==◌, nat_lt, take_while}
 use Rattle.std.specs.List.{prefix_len}
@@ -11,7 +11,7 @@ use Rattle.std.proofs.Math.Nat.{pow-suc, mul_comm, div-div-eq-div-mul, pow-le-po
 use Rattle.std.proofs.lemmas.Nat.{pow-add, le_bytes_8}
 use Rattle.std.specs.Int.{w64, byte_at, bytes_low_first, to_le_bytes, from_le_bytes}
 use Rattle.std.specs.Fmt.{decimal, digits}
-use Rattle.rows_times.specs.TimeTexts.{padded}
+use Rattle.rows_times.specs.TimeTexts.{padded_decimal}
 use Rattle.feed_writers.specs.declared.digits.TheConstants.{PAIRS}
 use lib.Ieee.Fits.{and_l, and_r}
 
@@ -33,7 +33,7 @@ below (suc n) p t h =
 pub PAIRS_at : (p : ℕ) → p < 100 → (get_or PAIRS (p * 2) 0 ≡ 48 + p / 10) × (get_or PAIRS (p * 2 + 1) 0 ≡ 48 + p % 10)
 PAIRS_at p h = below 100 p tt h
 
--- ---- how many digits
+-- ---- the number of digits
 
 pub count_one : (n : ℕ) → n < 10 → 1 ≡ length (decimal n)
 count_one n h = sym (ap length (decimal_digit n h))
@@ -73,11 +73,11 @@ count_16 n lo hi =
 pub count_small : (n : ℕ) → n < 10000 → length (decimal n) ≤ 4
 count_small n h = length-decimal-le 4 n (omega arith) (omega (arith, h)) (omega (arith, h))
 
--- ---- zeros in front
+-- ---- leading zeros
 
--- the last digit stands apart
-pub padded_more : (k n : ℕ) → n < 2 ^ 64 → padded (suc (suc k)) n ≡ padded (suc k) (n / 10) ++ (48 + n % 10) ∷ []
-unfolding padded
+-- the last digit, apart from the others
+pub padded_more : (k n : ℕ) → n < 2 ^ 64 → padded_decimal (suc (suc k)) n ≡ padded_decimal (suc k) (n / 10) ++ (48 + n % 10) ∷ []
+unfolding padded_decimal
 padded_more k n h = either (nat_lt n 10) refl
   where
     either : (b : Bool) → nat_lt n 10 ≡ b
@@ -96,53 +96,53 @@ padded_more k n h = either (nat_lt n 10) refl
         ∙ ap (λ (t : List ℕ). replicate (suc k - length (decimal (n / 10))) 48 ++ t) (decimal_step n m h)
         ∙ sym (append_assoc (replicate (suc k - length (decimal (n / 10))) 48) (decimal (n / 10)) ((48 + n % 10) ∷ []))
 
-pub padded_one : (n : ℕ) → n < 10 → padded 1 n ≡ (48 + n) ∷ []
-unfolding padded
+pub padded_one : (n : ℕ) → n < 10 → padded_decimal 1 n ≡ (48 + n) ∷ []
+unfolding padded_decimal
 padded_one n l = rw (decimal_digit n l) refl
 
-pub padded_pair : (n : ℕ) → n < 100 → padded 2 n ≡ pair n
+pub padded_pair : (n : ℕ) → n < 100 → padded_decimal 2 n ≡ pair n
 padded_pair n h = rw (padded_more 0 n (omega (arith, h)), padded_one (n / 10) (omega (arith, h))) refl
 
--- the last two digits stand apart
-pub padded_two_more : (k n : ℕ) → n < 2 ^ 64 → padded (suc (suc (suc k))) n ≡ padded (suc k) (n / 100) ++ padded 2 (n % 100)
+-- the last two digits, apart from the others
+pub padded_two_more : (k n : ℕ) → n < 2 ^ 64 → padded_decimal (suc (suc (suc k))) n ≡ padded_decimal (suc k) (n / 100) ++ padded_decimal 2 (n % 100)
 padded_two_more k n h =
     let a : n / 10 / 10 ≡ n / 100 = omega arith in
     let b : n / 10 % 10 ≡ n % 100 / 10 = omega arith in
     let c : n % 10 ≡ n % 100 % 10 = omega arith in
     rw (padded_pair (n % 100) (omega arith), padded_more (suc k) n h, padded_more k (n / 10) (omega (arith, h)), append_assoc, a, b, ← c) refl
 
--- the two bytes of a pair, one after the other
+-- the two bytes of a pair, in sequence
 pub put_pair_is : (base one two : List ℕ) (n tens ones : ℕ) → n < 100 → tens ≡ get_or PAIRS (n * 2) 0 → ones ≡ get_or PAIRS (n * 2 + 1) 0
-    → one ≡ base ++ tens ∷ [] → two ≡ one ++ ones ∷ [] → two ≡ base ++ padded 2 n
+    → one ≡ base ++ tens ∷ [] → two ≡ one ++ ones ∷ [] → two ≡ base ++ padded_decimal 2 n
 put_pair_is base one two n tens ones h a b first second =
     let p = PAIRS_at n h in
     second ∙ ap (λ (t : List ℕ). t ++ ones ∷ []) first ∙ append_assoc base (tens ∷ []) (ones ∷ []) ∙ rw (padded_pair n h, a, b, p.0, p.1) refl
 
--- two texts, one after the other
+-- two texts, in sequence
 pub joined_is : (base a b c mid new : List ℕ) → mid ≡ base ++ a → new ≡ mid ++ b → a ++ b ≡ c → new ≡ base ++ c
 joined_is base a b c mid new first second e = second ∙ ap (λ (t : List ℕ). t ++ b) first ∙ append_assoc base a b ∙ ap (λ (t : List ℕ). base ++ t) e
 
-pub padded_of : (width n : ℕ) → padded width n ≡ replicate (width - length (decimal n)) 48 ++ decimal n
-unfolding padded
+pub padded_of : (width n : ℕ) → padded_decimal width n ≡ replicate (width - length (decimal n)) 48 ++ decimal n
+unfolding padded_decimal
 padded_of width n = refl
 
 -- no zeros
-pub padded_long : (base new : List ℕ) (width n count : ℕ) → count ≡ length (decimal n) → width ≤ count → new ≡ base ++ decimal n → new ≡ base ++ padded width n
+pub padded_long : (base new : List ℕ) (width n count : ℕ) → count ≡ length (decimal n) → width ≤ count → new ≡ base ++ decimal n → new ≡ base ++ padded_decimal width n
 padded_long base new width n count e le h =
     let none : width - length (decimal n) ≡ 0 = omega (arith, e, le) in
     h ∙ ap (λ (t : List ℕ). base ++ t) (sym (padded_of width n ∙ rw none refl))
 
--- one zero more
+-- one more zero
 pub zeros_more : (base one two : List ℕ) (c d : ℕ) → c ≤ d → one ≡ base ++ replicate (d - c) 48 → two ≡ one ++ 48 ∷ [] → two ≡ base ++ replicate (d + 1 - c) 48
 zeros_more base one two c d h e f =
     let m : d + 1 - c ≡ d - c + 1 = omega (arith, h) in
     f ∙ rw (e, m) (append_assoc base (replicate (d - c) 48) (48 ∷ []) ∙ ap (λ (t : List ℕ). base ++ t) {y = replicate (d - c + 1) 48} (replicate_more (d - c) 48))
 
 -- all zeros
-pub zeros_done : (base one new : List ℕ) (width n c d : ℕ) → c ≡ length (decimal n) → d ≡ width → one ≡ base ++ replicate (d - c) 48 → new ≡ one ++ decimal n → new ≡ base ++ padded width n
+pub zeros_done : (base one new : List ℕ) (width n c d : ℕ) → c ≡ length (decimal n) → d ≡ width → one ≡ base ++ replicate (d - c) 48 → new ≡ one ++ decimal n → new ≡ base ++ padded_decimal width n
 zeros_done base one new width n c d e f h is =
     let m : d - c ≡ width - length (decimal n) = omega (arith, e, f) in
-    joined_is base (replicate (width - length (decimal n)) 48) (decimal n) (padded width n) one new (h ∙ ap (λ (k : ℕ). base ++ replicate k 48) m) is (sym (padded_of width n))
+    joined_is base (replicate (width - length (decimal n)) 48) (decimal n) (padded_decimal width n) one new (h ∙ ap (λ (k : ℕ). base ++ replicate k 48) m) is (sym (padded_of width n))
 
 -- one digit
 pub one_digit : (base new : List ℕ) (n b : ℕ) → n < 10 → b ≡ 48 + n → new ≡ base ++ b ∷ [] → new ≡ base ++ decimal n
@@ -150,48 +150,48 @@ one_digit base new n b h e is = is ∙ ap (λ (t : List ℕ). base ++ t) {y = de
 
 -- ---- the last digits of a number
 
--- a number of k digits, in k digits
-whole_padded : (k n : ℕ) → k ≡ length (decimal n) → padded k n ≡ decimal n
+-- a number of k digits, written with k digits
+whole_padded : (k n : ℕ) → k ≡ length (decimal n) → padded_decimal k n ≡ decimal n
 whole_padded k n e = let none : k - length (decimal n) ≡ 0 = omega (arith, e) in padded_of k n ∙ rw none refl
 
-pub decimal_two : (n : ℕ) → 10 ≤ n → n < 100 → padded 2 n ≡ decimal n
+pub decimal_two : (n : ℕ) → 10 ≤ n → n < 100 → padded_decimal 2 n ≡ decimal n
 decimal_two n lo hi = whole_padded 2 n (count_two n lo hi)
 
-pub decimal_three : (n : ℕ) → 100 ≤ n → n < 1000 → (48 + n / 100) ∷ padded 2 (n % 100) ≡ decimal n
+pub decimal_three : (n : ℕ) → 100 ≤ n → n < 1000 → (48 + n / 100) ∷ padded_decimal 2 (n % 100) ≡ decimal n
 decimal_three n lo hi =
-    sym (padded_two_more 0 n (omega (arith, hi)) ∙ ap (λ (t : List ℕ). t ++ padded 2 (n % 100)) {y = (48 + n / 100) ∷ []} (padded_one (n / 100) (omega (arith, hi)))) ∙ whole_padded 3 n (count_three n lo hi)
+    sym (padded_two_more 0 n (omega (arith, hi)) ∙ ap (λ (t : List ℕ). t ++ padded_decimal 2 (n % 100)) {y = (48 + n / 100) ∷ []} (padded_one (n / 100) (omega (arith, hi)))) ∙ whole_padded 3 n (count_three n lo hi)
 
-pub decimal_four : (n : ℕ) → 1000 ≤ n → n < 10000 → padded 4 n ≡ decimal n
+pub decimal_four : (n : ℕ) → 1000 ≤ n → n < 10000 → padded_decimal 4 n ≡ decimal n
 decimal_four n lo hi = whole_padded 4 n (count_four n lo hi)
 
-two_more : (n : ℕ) → 100 ≤ n → n < 2 ^ 64 → decimal n ≡ decimal (n / 100) ++ padded 2 (n % 100)
+two_more : (n : ℕ) → 100 ≤ n → n < 2 ^ 64 → decimal n ≡ decimal (n / 100) ++ padded_decimal 2 (n % 100)
 two_more n lo hi =
     let a : n / 10 / 10 ≡ n / 100 = omega arith in
     let b : n / 10 % 10 ≡ n % 100 / 10 = omega arith in
     let c : n % 10 ≡ n % 100 % 10 = omega arith in
     rw (padded_pair (n % 100) (omega arith), decimal_step n (omega (arith, lo)) hi, decimal_step (n / 10) (omega (arith, lo)) (omega (arith, hi)), append_assoc, a, b, ← c) refl
 
-pub four_more : (n : ℕ) → 10000 ≤ n → n < 2 ^ 64 → decimal (n / 10000) ++ padded 4 (n % 10000) ≡ decimal n
+pub four_more : (n : ℕ) → 10000 ≤ n → n < 2 ^ 64 → decimal (n / 10000) ++ padded_decimal 4 (n % 10000) ≡ decimal n
 four_more n lo hi =
     let a : n / 100 / 100 ≡ n / 10000 = omega arith in
     let b : n / 100 % 100 ≡ n % 10000 / 100 = omega arith in
     let c : n % 100 ≡ n % 10000 % 100 = omega arith in
     sym (rw (padded_two_more 1 (n % 10000) (omega arith), two_more n (omega (arith, lo)) hi, two_more (n / 100) (omega (arith, lo)) (omega (arith, hi)), append_assoc, a, b, ← c) refl)
 
-pub eight_more : (n : ℕ) → 100000000 ≤ n → n < 2 ^ 64 → decimal (n / 100000000) ++ (padded 4 (n % 100000000 / 10000) ++ padded 4 (n % 100000000 % 10000)) ≡ decimal n
+pub eight_more : (n : ℕ) → 100000000 ≤ n → n < 2 ^ 64 → decimal (n / 100000000) ++ (padded_decimal 4 (n % 100000000 / 10000) ++ padded_decimal 4 (n % 100000000 % 10000)) ≡ decimal n
 eight_more n lo hi =
     let a : n / 10000 / 10000 ≡ n / 100000000 = omega arith in
     let b : n / 10000 % 10000 ≡ n % 100000000 / 10000 = omega arith in
     let c : n % 10000 ≡ n % 100000000 % 10000 = omega arith in
-    rw (← a, ← b, ← c, ← append_assoc (decimal (n / 10000 / 10000)) (padded 4 (n / 10000 % 10000)) (padded 4 (n % 10000)), four_more (n / 10000) (omega (arith, lo)) (omega (arith, hi))) (four_more n (omega (arith, lo)) hi)
+    rw (← a, ← b, ← c, ← append_assoc (decimal (n / 10000 / 10000)) (padded_decimal 4 (n / 10000 % 10000)) (padded_decimal 4 (n % 10000)), four_more (n / 10000) (omega (arith, lo)) (omega (arith, hi))) (four_more n (omega (arith, lo)) hi)
 
--- a byte, and a text behind it
+-- a byte, and a text after it
 pub pushed_then : (base b c mid new : List ℕ) (a : ℕ) → mid ≡ base ++ a ∷ [] → new ≡ mid ++ b → a ∷ b ≡ c → new ≡ base ++ c
 pushed_then base b c mid new a first second e = joined_is base (a ∷ []) b c mid new first second e
 
 -- ---- eight digits at once
 
-eight_padded : (n : ℕ) → n < 2 ^ 64 → padded 4 (n / 10000) ++ padded 4 (n % 10000) ≡ padded 8 n
+eight_padded : (n : ℕ) → n < 2 ^ 64 → padded_decimal 4 (n / 10000) ++ padded_decimal 4 (n % 10000) ≡ padded_decimal 8 n
 eight_padded n h =
     let a : n / 100 / 100 ≡ n / 10000 = omega arith in
     let b : n / 100 % 100 ≡ n % 10000 / 100 = omega arith in
@@ -205,8 +205,8 @@ record Starts (l : List ℕ) : Type 0 where
   is : l ≡ x ∷ r
   digit : 48 < x
 
-digit_behind : (all front r : List ℕ) (x d : ℕ) → all ≡ front ++ d ∷ [] → front ≡ x ∷ r → all ≡ x ∷ (r ++ d ∷ [])
-digit_behind all front r x d last first = last ∙ ap (λ (t : List ℕ). t ++ d ∷ []) first
+digit_after : (all prefix r : List ℕ) (x d : ℕ) → all ≡ prefix ++ d ∷ [] → prefix ≡ x ∷ r → all ≡ x ∷ (r ++ d ∷ [])
+digit_after all prefix r x d last first = last ∙ ap (λ (t : List ℕ). t ++ d ∷ []) first
 
 starts : (k n : ℕ) → length (decimal n) ≤ k → 1 ≤ n → n < 2 ^ 64 → Starts (decimal n)
 starts zero n few some h =
@@ -219,7 +219,7 @@ starts (suc k) n few some h =
       | inr t ↦ record { x = 48 + n; r = []; is = decimal_digit n t.1; digit = omega arith }
       | inl s ↦
           let w = starts k (n / 10) (omega (arith, longer n s.1 h, few)) (omega (arith, s.1)) (omega (arith, h)) in
-          record { x = w.x; r = w.r ++ (48 + n % 10) ∷ []; is = digit_behind (decimal n) (decimal (n / 10)) w.r w.x (48 + n % 10) (decimal_step n s.1 h) w.is; digit = w.digit }
+          record { x = w.x; r = w.r ++ (48 + n % 10) ∷ []; is = digit_after (decimal n) (decimal (n / 10)) w.r w.x (48 + n % 10) (decimal_step n s.1 h) w.is; digit = w.digit }
     ]
 
 one_zero_more : (l : List ℕ) → length (take_while (λ d. d == 48) (48 ∷ l)) ≡ suc (length (take_while (λ d. d == 48) l))
@@ -229,8 +229,8 @@ zeros_then : (j x : ℕ) (r : List ℕ) → 48 < x → length (take_while (λ d.
 zeros_then zero x r h = let no : (x == 48) ≡ false = ne_eqb x 48 (λ e. omega (arith, h, e)) in rw no refl
 zeros_then (suc j) x r h = one_zero_more (replicate j 48 ++ x ∷ r) ∙ ap suc (zeros_then j x r h)
 
--- so many digits are left behind the zeros in front of eight, of a number that isn't 0; and one of 0
-pub middle_counted : (n z m end : ℕ) (digits : List ℕ) → n < 100000000 → length digits ≡ 8 → end ≡ 8 → take end digits ≡ padded 4 (n / 10000) ++ padded 4 (n % 10000) → z ≡ length (take_while (λ d. d == 48) digits) → m ≡ min z 7
+-- the number of digits that are left after the leading zeros of eight, for a number that isn't 0 and for 0
+pub middle_counted : (n z m end : ℕ) (digits : List ℕ) → n < 100000000 → length digits ≡ 8 → end ≡ 8 → take end digits ≡ padded_decimal 4 (n / 10000) ++ padded_decimal 4 (n % 10000) → z ≡ length (take_while (λ d. d == 48) digits) → m ≡ min z 7
     → 8 - m ≡ length (decimal n)
 middle_counted n z m end digits small size e8 are counted least =
     let is = sym (take-length digits) ∙ ap (λ (j : ℕ). take j digits) (size ∙ sym e8) ∙ are in
@@ -251,14 +251,14 @@ middle_counted n z m end digits small size e8 are counted least =
 
 -- ---- a number's lowest bytes
 
--- of k and m bytes the first k
+-- the first k of k + m bytes
 take_low : (k m i n : ℕ) → take k (bytes_low_first i (k + m) n) ≡ bytes_low_first i k n
 take_low zero m i n = refl
 take_low (suc k) m i n =
     let e : suc k + m ≡ suc (k + m) = omega arith in
     ap (λ (j : ℕ). take (suc k) (bytes_low_first i j n)) e ∙ ap (λ (l : List ℕ). byte_at i n ∷ l) (take_low k m (suc i) n)
 
--- of k and m bytes the last m
+-- the last m of k + m bytes
 drop_low : (k m i n : ℕ) → drop k (bytes_low_first i (k + m) n) ≡ bytes_low_first (i + k) m n
 drop_low zero m i n =
     let e : i ≡ i + 0 = omega arith in
@@ -285,7 +285,7 @@ low_shifted (suc m) i k n =
     let e : suc i + k ≡ suc (i + k) = omega arith in
     ap₂ (λ (b : ℕ) (l : List ℕ). b ∷ l) (byte_shifted i k n) (low_shifted m (suc i) k n ∙ ap (λ (j : ℕ). bytes_low_first j m n) e)
 
--- a number of eight bytes that is shifted by the first k of them begins with those behind
+-- eight bytes shifted right by k bytes begin with the bytes after the first k
 shifted_bytes : (k m n : ℕ) → k + m ≡ 8 → take m (to_le_bytes w64 (n / 256 ^ k)) ≡ drop k (to_le_bytes w64 n)
 shifted_bytes k m n e =
     let other : m + k ≡ 8 = omega (arith, e) in
@@ -298,24 +298,24 @@ power_eight (suc k) =
     let e : 8 * suc k ≡ 8 + 8 * k = omega arith in
     ap (λ (j : ℕ). 2 ^ j) e ∙ pow-add 2 8 (8 * k) ∙ ap (λ (j : ℕ). 256 * j) (power_eight k) ∙ mul_comm 256 (256 ^ k) ∙ sym (pow-suc 256 k)
 
--- eight bytes as one number, without its lowest ones
-pub last_in_front_is : (bytes : List ℕ) (count whole : ℕ) → count ≤ 8 → length bytes ≡ 8 → ((i : ℕ) → get_or bytes i 0 < 256) → whole ≡ from_le_bytes w64 bytes
+-- eight bytes as one number, without its lowest bytes
+pub last_in_prefix_is : (bytes : List ℕ) (count whole : ℕ) → count ≤ 8 → length bytes ≡ 8 → ((i : ℕ) → get_or bytes i 0 < 256) → whole ≡ from_le_bytes w64 bytes
     → take count (to_le_bytes w64 (whole / 2 ^ (64 - 8 * count))) ≡ drop (8 - count) bytes
-last_in_front_is bytes count whole le size are is =
+last_in_prefix_is bytes count whole le size are is =
     let k = 8 - count in
     let sum : k + count ≡ 8 = omega (arith, le) in
     let bits : 64 - 8 * count ≡ 8 * k = omega (arith, le) in
     let power : 2 ^ (64 - 8 * count) ≡ 256 ^ k = ap (λ (j : ℕ). 2 ^ j) bits ∙ power_eight k in
     ap (λ (m : ℕ). take count (to_le_bytes w64 (whole / m))) power ∙ shifted_bytes k count whole sum ∙ ap (drop k) (le_bytes_8 bytes whole size are is)
 
--- ---- eight digits without the zeros in front
+-- ---- eight digits without leading zeros
 
 drop_zeros : (k j : ℕ) (s : List ℕ) → drop k (replicate (k + j) 48 ++ s) ≡ replicate j 48 ++ s
 drop_zeros zero j s = let e : 0 + j ≡ j = omega arith in ap (λ (i : ℕ). replicate i 48 ++ s) e
 drop_zeros (suc k) j s = let e : suc k + j ≡ suc (k + j) = omega arith in ap (λ (i : ℕ). drop (suc k) (replicate i 48 ++ s)) e ∙ drop_zeros k j s
 
--- of the eight digits of a number the last ones, where those in front are zeros
-pub last_digits : (n count : ℕ) → n < 2 ^ 64 → length (decimal n) ≤ count → count ≤ 8 → drop (8 - count) (padded 4 (n / 10000) ++ padded 4 (n % 10000)) ≡ padded count n
+-- the last digits of a number's eight, if the others are zeros
+pub last_digits : (n count : ℕ) → n < 2 ^ 64 → length (decimal n) ≤ count → count ≤ 8 → drop (8 - count) (padded_decimal 4 (n / 10000) ++ padded_decimal 4 (n % 10000)) ≡ padded_decimal count n
 last_digits n count h fits le =
     let k = 8 - count in
     let j = count - length (decimal n) in
@@ -323,11 +323,11 @@ last_digits n count h fits le =
     ap (drop k) (eight_padded n h ∙ padded_of 8 n ∙ ap (λ (i : ℕ). replicate i 48 ++ decimal n) zeros) ∙ drop_zeros k j (decimal n) ∙ sym (padded_of count n)
 
 -- all its digits
-pub own_digits : (n count : ℕ) → n < 2 ^ 64 → count ≡ length (decimal n) → count ≤ 8 → drop (8 - count) (padded 4 (n / 10000) ++ padded 4 (n % 10000)) ≡ decimal n
+pub own_digits : (n count : ℕ) → n < 2 ^ 64 → count ≡ length (decimal n) → count ≤ 8 → drop (8 - count) (padded_decimal 4 (n / 10000) ++ padded_decimal 4 (n % 10000)) ≡ decimal n
 own_digits n count h e le = last_digits n count h (omega (arith, e)) le ∙ whole_padded count n e
 
--- as many as they are below a power of ten
-pub small_digits : (n count : ℕ) → 1 ≤ count → count ≤ 8 → n < 10 ^ count → drop (8 - count) (padded 4 (n / 10000) ++ padded 4 (n % 10000)) ≡ padded count n
+-- n digits if the number is below 10 ^ n
+pub small_digits : (n count : ℕ) → 1 ≤ count → count ≤ 8 → n < 10 ^ count → drop (8 - count) (padded_decimal 4 (n / 10000) ++ padded_decimal 4 (n % 10000)) ≡ padded_decimal count n
 small_digits n count some le small =
     let ten : 0 < 10 = omega arith in
     let most : n < 2 ^ 64 = omega (arith, small, pow-le-pow_right {n = 10} ten le) in
@@ -336,20 +336,20 @@ small_digits n count some le small =
 pub below_eight : (n count : ℕ) → count ≤ 8 → n < 10 ^ count → n < 100000000
 below_eight n count le small = let ten : 0 < 10 = omega arith in omega (arith, small, pow-le-pow_right {n = 10} ten le)
 
--- so many of eight bytes that were written count
-pub front_counts : (at count r end : ℕ) (old new digits all piece shown : List ℕ) → at ≤ length old → count ≤ 8 → length digits ≡ 8 → end ≡ 8 → take end digits ≡ all → drop (8 - count) all ≡ shown → take count piece ≡ drop (8 - count) digits
+-- only the first `count` of eight bytes that were written count
+pub prefix_counts : (at count r end : ℕ) (old new digits all piece shown : List ℕ) → at ≤ length old → count ≤ 8 → length digits ≡ 8 → end ≡ 8 → take end digits ≡ all → drop (8 - count) all ≡ shown → take count piece ≡ drop (8 - count) digits
     → r ≡ at + length piece → length piece ≡ 8 → take r new ≡ take at old ++ piece → take (at + count) new ≡ take at old ++ shown
-front_counts at count r end old new digits all piece shown room le size e8 are last shifted r8 p8 written =
+prefix_counts at count r end old new digits all piece shown room le size e8 are last shifted r8 p8 written =
     let eight : digits ≡ all = sym (take-length digits) ∙ ap (λ (j : ℕ). take j digits) (size ∙ sym e8) ∙ are in
-    let front = take at old in
-    let len : length front ≡ at = length-take-le at old room in
+    let prefix = take at old in
+    let len : length prefix ≡ at = length-take-le at old room in
     sym (take-take (at + count) r new (omega (arith, le, r8, p8)))
     ∙ ap (take (at + count)) written
-    ∙ ap (λ (j : ℕ). take (j + count) (front ++ piece)) (sym len)
-    ∙ take-add (length front) count (front ++ piece)
-    ∙ ap₂ (λ (a b : List ℕ). a ++ take count b) (take-append_seam front piece) (drop-append_seam front piece)
-    ∙ ap (λ (t : List ℕ). front ++ t) (shifted ∙ ap (drop (8 - count)) eight ∙ last)
+    ∙ ap (λ (j : ℕ). take (j + count) (prefix ++ piece)) (sym len)
+    ∙ take-add (length prefix) count (prefix ++ piece)
+    ∙ ap₂ (λ (a b : List ℕ). a ++ take count b) (take-append_seam prefix piece) (drop-append_seam prefix piece)
+    ∙ ap (λ (t : List ℕ). prefix ++ t) (shifted ∙ ap (drop (8 - count)) eight ∙ last)
 
-pub padded_zeros : padded 6 0 ≡ 48 ∷ 48 ∷ 48 ∷ 48 ∷ 48 ∷ 48 ∷ []
-unfolding padded digits
+pub padded_zeros : padded_decimal 6 0 ≡ 48 ∷ 48 ∷ 48 ∷ 48 ∷ 48 ∷ 48 ∷ []
+unfolding padded_decimal digits
 padded_zeros = refl

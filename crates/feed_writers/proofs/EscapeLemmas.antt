@@ -4,7 +4,7 @@ use Rattle.std.specs.Fmt.{digit_glyph}
 use Rattle.feed_writers.specs.declared.escapes.TheConstants.{DIGITS}
 use Rattle.feed_writers.specs.Quoting.{escape}
 
--- the digit of the table
+-- the digit in the table
 glyph_at : (d : ℕ) → d < 16 → slice_index DIGITS d ≡ digit_glyph false d
 glyph_at d h = grind arith
 

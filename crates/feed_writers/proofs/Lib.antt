@@ -2,4 +2,4 @@ pub mod DigitLemmas
 pub mod PlainLemmas
 pub mod EscapeLemmas
 pub mod QuotedLemmas
-pub mod PlaceLemmas
+pub mod ColumnLabelLemmas

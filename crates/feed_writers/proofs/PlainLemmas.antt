@@ -1,4 +1,4 @@
--- From a vector's mask to bytes that stand for themselves. A mask that is computed lane by lane is held to a test of each of the 256 bytes.
+-- From a vector's mask to bytes that need no escape. A mask that is computed lane by lane is compared with a test of each of the 256 bytes.
 use Rattle.std.proofs.Common.{◌≡◌, ℕ, zero, suc, ◌+◌, ◌-◌, ◌%◌, ◌^◌, ◌<◌, ◌≤◌, ltb, eqb, Bool, true, false, not, ◌&&◌, ◌==◌, ◌⊎◌, inl, inr, cond, T, List, [], ◌∷◌, length, take, drop, get_or, map, replicate, Fits, w8, refl, sym, ap, ap₂, ◌∙◌, subst, arith, add-one, get_or-take, not-suc-le-zero}
 use Rattle.std.proofs.lemmas.Bool.{eqb-true, cases_order}
 use Rattle.std.proofs.lemmas.Simd.{length-chunk, leading_from_mask_l, chunk-fits, zip2_splat, mask_l-mod, trailing_mask_l}
@@ -11,9 +11,9 @@ use lib.Bits.{bit_or}
 use lib.Count.{count_trailing_zeros}
 use lib.Lanes.{chunk, mask_l, zip2, top, Each1}
 use Rattle.feed_writers.specs.Quoting.{is_plain_byte}
-use Rattle.feed_writers.specs.PlainBytes.{PlainTo}
+use Rattle.feed_writers.specs.PlainBytes.{IsPlainPrefix}
 
--- ---- a fact of each number below n, by computation
+-- ---- a fact for each number below n, by computation
 abbrev upto : (ℕ → Bool) → ℕ → Bool
 upto p zero = true
 upto p (suc n) = p n && upto p n
@@ -89,7 +89,7 @@ on_true : (b : Bool) (P : Type 0) → (b ≡ true → P) → OnTrue b P
 on_true true P f = f refl
 on_true false P f = tt
 
-plain_from_mask : (d : List ℕ) (n : ℕ) → n ≤ length d → mask_l (map is_stop (chunk 0 n d)) ≡ 0 → PlainTo d n
+plain_from_mask : (d : List ℕ) (n : ℕ) → n ≤ length d → mask_l (map is_stop (chunk 0 n d)) ≡ 0 → IsPlainPrefix d n
 plain_from_mask d n room none k q =
     let long = length-chunk 0 n d (omega (arith, room)) in
     ap is_plain_byte (sym (get_or-take n d k 0 q)) ∙ all_plain (chunk 0 n d) (leading_from_mask_l is_stop (chunk 0 n d) none) k (omega arith)
@@ -106,7 +106,7 @@ stops_from_lanes d n room few fits =
 
 pub plain_from_lanes : (d : List ℕ) (n : ℕ) → n ≤ length d → n ≤ 64 → ((k : ℕ) → Fits w8 (get_or d k 0))
     → OnTrue (mask_l (map (top 7) (zip2 bit_or (zip2 bit_or (zip2 bit_or (zip2 hit (chunk 0 n d) (replicate n 39)) (zip2 hit (chunk 0 n d) (replicate n 92))) (zip2 below (chunk 0 n d) (replicate n 32))) (zip2 below (replicate n 126) (chunk 0 n d)))) % 2 ^ 64 == 0)
-    (PlainTo d n)
+    (IsPlainPrefix d n)
 plain_from_lanes d n room few fits = on_true _ _ (λ e. plain_from_mask d n room (sym (stops_from_lanes d n room few fits) ∙ eqb-true _ 0 e))
 
 one_up : (n : ℕ) → 1 + n ≡ suc n
@@ -115,8 +115,8 @@ one_up n = omega arith
 first_more : (x : ℕ) (d : List ℕ) → is_plain_byte x ≡ true → length (take_while is_plain_byte (x ∷ d)) ≡ length (take_while is_plain_byte d) + 1
 first_more x d h = rw (h, one_up (prefix_len is_plain_byte d), add-one) refl
 
--- plain bytes at the front are so many more
-pub plain_more : (n : ℕ) (d : List ℕ) → n ≤ length d → PlainTo d n → length (take_while is_plain_byte d) ≡ n + length (take_while is_plain_byte (drop n d))
+-- n plain bytes at the start add n to the count
+pub plain_more : (n : ℕ) (d : List ℕ) → n ≤ length d → IsPlainPrefix d n → length (take_while is_plain_byte d) ≡ n + length (take_while is_plain_byte (drop n d))
 plain_more zero d room h = omega arith
 plain_more (suc n) [] room h = absurd (omega arith)
 plain_more (suc n) (x ∷ d) room h =
@@ -124,14 +124,14 @@ plain_more (suc n) (x ∷ d) room h =
     let one : length (take_while is_plain_byte (x ∷ d)) ≡ length (take_while is_plain_byte d) + 1 = first_more x d (h 0 (omega arith)) in
     omega (arith, e, one)
 
--- n bytes were passed, and what is left begins behind them
-pub passed_more : (n : ℕ) (all rest after : List ℕ) → length rest ≤ length all → length (take_while is_plain_byte all) ≡ length all - length rest + length (take_while is_plain_byte rest) → n ≤ length rest → PlainTo rest n → after ≡ drop n rest
+-- n bytes were passed, and the remaining bytes begin after them
+pub passed_more : (n : ℕ) (all rest after : List ℕ) → length rest ≤ length all → length (take_while is_plain_byte all) ≡ length all - length rest + length (take_while is_plain_byte rest) → n ≤ length rest → IsPlainPrefix rest n → after ≡ drop n rest
     → length after + n ≡ length rest → length (take_while is_plain_byte all) ≡ length all - length after + length (take_while is_plain_byte after)
 passed_more n all rest after le e room plain is len =
     let more : length (take_while is_plain_byte rest) ≡ n + length (take_while is_plain_byte after) = plain_more n rest room plain ∙ ap (λ (t : List ℕ). n + length (take_while is_plain_byte t)) (sym is) in
     omega (arith, le, e, more, len)
 
--- as many are before the first that stops as pass at the front
+-- the number of elements before the first that fails the test is that of the longest prefix that passes it
 passed_count : (p : ℕ → Bool) (d : List ℕ) → prefix_len (λ x. not (not (p x))) d ≡ length (take_while p d)
 passed_count p [] = refl
 passed_count p (x ∷ d) = split (p x) refl (passed_count p d)
@@ -145,7 +145,7 @@ pub count_where_none : (d : List ℕ) (n m : ℕ) → n ≤ length d → m ≡ m
 count_where_none d n m room e none =
     sym (length-chunk 0 n d (omega (arith, room))) ∙ sym (leading_from_mask_l is_stop (chunk 0 n d) (sym e ∙ none)) ∙ passed_count is_plain_byte (take n d)
 
--- as many lanes come before the lowest bit of their mask
+-- the number of lanes before the lowest bit of their mask
 pub count_where_some : (d : List ℕ) (n m : ℕ) → n ≤ length d → n ≤ 64 → m ≡ mask_l (map is_stop (chunk 0 n d)) → (m ≡ 0 → ⊥) → count_trailing_zeros 64 m ≡ length (take_while is_plain_byte (take n d))
 count_where_some d n m room few e some =
     let long = length-chunk 0 n d (omega (arith, room)) in
@@ -155,15 +155,15 @@ count_where_some d n m room few e some =
     positive zero h = absurd (h refl)
     positive (suc k) h = omega arith
 
--- what counts as plain is
-pub plain_counted : (d : List ℕ) (n k : ℕ) → n ≤ length d → k ≤ length (take_while is_plain_byte (take n d)) → PlainTo d k
+-- a byte that counts as plain is plain
+pub plain_counted : (d : List ℕ) (n k : ℕ) → n ≤ length d → k ≤ length (take_while is_plain_byte (take n d)) → IsPlainPrefix d k
 plain_counted d n k room le i q =
     let counted = passed_count is_plain_byte (take n d) in
     let all = prefix_len-le-length (λ x. not (is_stop x)) (take n d) in
     let long = length-chunk 0 n d (omega (arith, room)) in
     ap is_plain_byte (sym (get_or-take n d i 0 (omega (arith, long, all, counted, le, q)))) ∙ no_stop _ (prefix_len_passes (λ x. not (is_stop x)) (take n d) i 0 (omega (arith, counted, le, q)))
 
--- ---- zeros in front of digits
+-- ---- leading zeros of digits
 abbrev other : ℕ → ℕ → ℕ
 other a b = cond (not (eqb a b)) 255 0
 
@@ -178,7 +178,7 @@ others (x ∷ v) = ap₂ (λ a b. a ∷ b) (one (eqb x 48)) (others v)
     one true = refl
     one false = refl
 
--- the first lane that differs, where one does
+-- the first lane that differs, if one does
 pub zeros_counted : (d : List ℕ) (m : ℕ) → length d ≡ 8 → m ≡ mask_l (map (top 7) (zip2 other (take 8 d) (replicate 8 48))) % 2 ^ 64 → (m ≡ 0 → ⊥) → count_trailing_zeros 64 m ≡ length (take_while (λ x. x == 48) d)
 zeros_counted d m eight is some =
     let v = take 8 d in

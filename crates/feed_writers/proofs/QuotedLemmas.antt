@@ -6,27 +6,27 @@ use Rattle.std.proofs.lemmas.List.{append-nil, take_all, take_at, take-take, len
 use Rattle.std.proofs.Math.Seq.{take-add, take-append_seam, drop-append_seam}
 use Rattle.std.specs.List.{flat_map}
 use Rattle.feed_writers.specs.Quoting.{is_plain_byte, quoted_byte, quoted}
-use Rattle.feed_writers.specs.PlainBytes.{PlainTo}
+use Rattle.feed_writers.specs.PlainBytes.{IsPlainPrefix}
 
--- plain bytes at the front stand for themselves
-pub plain_front : (n : ℕ) (d : List ℕ) → n ≤ length d → PlainTo d n → flat_map quoted_byte d ≡ take n d ++ flat_map quoted_byte (drop n d)
-plain_front zero d room h = refl
-plain_front (suc n) [] room h = absurd (omega arith)
-plain_front (suc n) (x ∷ d) room h = rw (h 0 (omega arith)) (ap (λ (t : List ℕ). x ∷ t) (plain_front n d (omega arith) (λ k q. h (suc k) (omega arith))))
+-- plain bytes at the start are written unchanged
+pub plain_prefix : (n : ℕ) (d : List ℕ) → n ≤ length d → IsPlainPrefix d n → flat_map quoted_byte d ≡ take n d ++ flat_map quoted_byte (drop n d)
+plain_prefix zero d room h = refl
+plain_prefix (suc n) [] room h = absurd (omega arith)
+plain_prefix (suc n) (x ∷ d) room h = rw (h 0 (omega arith)) (ap (λ (t : List ℕ). x ∷ t) (plain_prefix n d (omega arith) (λ k q. h (suc k) (omega arith))))
 
--- plain bytes were written as they stand
-pub plain_written : (base new d : List ℕ) → PlainTo d (length d) → new ≡ base ++ d → new ≡ base ++ flat_map quoted_byte d
+-- plain bytes were written unchanged
+pub plain_written : (base new d : List ℕ) → IsPlainPrefix d (length d) → new ≡ base ++ d → new ≡ base ++ flat_map quoted_byte d
 plain_written base new d h is =
-    is ∙ ap (λ (t : List ℕ). base ++ t) (sym (plain_front (length d) d (omega arith) h ∙ rw (take_all (length d) d (omega arith), drop_whole d) (append-nil d)))
+    is ∙ ap (λ (t : List ℕ). base ++ t) (sym (plain_prefix (length d) d (omega arith) h ∙ rw (take_all (length d) d (omega arith), drop_whole d) (append-nil d)))
   where
     drop_whole : (s : List ℕ) → drop (length s) s ≡ []
     drop_whole [] = refl
     drop_whole (x ∷ s) = drop_whole s
 
--- the first n bytes were written as they stand, and then the others
-pub front_then : (base one new d front after : List ℕ) (n : ℕ) → front ≡ take n d → after ≡ drop n d → flat_map quoted_byte d ≡ take n d ++ flat_map quoted_byte (drop n d)
-    → one ≡ base ++ front → new ≡ one ++ flat_map quoted_byte after → new ≡ base ++ flat_map quoted_byte d
-front_then base one new d front after n f a e first is =
+-- the first n bytes were written unchanged, and then the others
+pub prefix_then : (base one new d prefix after : List ℕ) (n : ℕ) → prefix ≡ take n d → after ≡ drop n d → flat_map quoted_byte d ≡ take n d ++ flat_map quoted_byte (drop n d)
+    → one ≡ base ++ prefix → new ≡ one ++ flat_map quoted_byte after → new ≡ base ++ flat_map quoted_byte d
+prefix_then base one new d prefix after n f a e first is =
     is ∙ rw (first, f, a, e) (append_assoc base (take n d) (flat_map quoted_byte (drop n d)))
 
 -- a quote, the bytes and a quote
@@ -34,8 +34,8 @@ pub quotes_written : (base one two new d : List ℕ) → one ≡ base ++ 39 ∷ 
 unfolding quoted
 quotes_written base one two new d first second is = is ∙ ap (λ (t : List ℕ). t ++ 39 ∷ []) (second ∙ ap (λ (t : List ℕ). t ++ flat_map quoted_byte d) first) ∙ simp append_assoc
 
--- plain bytes were written with more behind them, and a quote behind them
-pub plain_quoted : (s r len : ℕ) (base one two new d : List ℕ) → len ≤ 16 → PlainTo d len → 16 ≤ length d → take s one ≡ base ++ 39 ∷ [] → r ≡ s + length (take 16 d) → take r two ≡ take s one ++ take 16 d → s ≤ length one
+-- plain bytes were written with more bytes after them, and a quote after the plain ones
+pub plain_quoted : (s r len : ℕ) (base one two new d : List ℕ) → len ≤ 16 → IsPlainPrefix d len → 16 ≤ length d → take s one ≡ base ++ 39 ∷ [] → r ≡ s + length (take 16 d) → take r two ≡ take s one ++ take 16 d → s ≤ length one
     → new ≡ take (s + len) two ++ 39 ∷ [] → new ≡ base ++ quoted (take len d)
 unfolding quoted
 plain_quoted s r len base one two new d few plain long first end second fits third =
@@ -47,23 +47,23 @@ plain_quoted s r len base one two new d few plain long first end second fits thi
     ∙ ap (λ (k : ℕ). take (k + len) (take s one ++ take 16 d)) (sym (length-take-le s one fits))
     ∙ take-add (length (take s one)) len (take s one ++ take 16 d)
     ∙ ap₂ (λ (a b : List ℕ). a ++ take len b) (take-append_seam (take s one) (take 16 d)) (drop-append_seam (take s one) (take 16 d))
-    ∙ ap₂ (λ (a b : List ℕ). a ++ b) first (take-take len 16 d few ∙ sym (stand d len plain (omega arith)))
+    ∙ ap₂ (λ (a b : List ℕ). a ++ b) first (take-take len 16 d few ∙ sym (plain_unchanged d len plain (omega arith)))
     )
     ∙ simp append_assoc
   where
-    stand : (s : List ℕ) (n : ℕ) → PlainTo s n → n ≤ length s → flat_map quoted_byte (take n s) ≡ take n s
-    stand s zero h le = refl
-    stand [] (suc n) h le = refl
-    stand (x ∷ s) (suc n) h le = rw (h 0 (omega arith)) (ap (λ (t : List ℕ). x ∷ t) (stand s n (λ k q. h (suc k) (omega arith)) (omega arith)))
+    plain_unchanged : (s : List ℕ) (n : ℕ) → IsPlainPrefix s n → n ≤ length s → flat_map quoted_byte (take n s) ≡ take n s
+    plain_unchanged s zero h le = refl
+    plain_unchanged [] (suc n) h le = refl
+    plain_unchanged (x ∷ s) (suc n) h le = rw (h 0 (omega arith)) (ap (λ (t : List ℕ). x ∷ t) (plain_unchanged s n (λ k q. h (suc k) (omega arith)) (omega arith)))
 
--- what was written at a place leaves what stands before it
-front_stays : (n k : ℕ) (one two more : List ℕ) → n ≤ length one → take (n + k) two ≡ take n one ++ more → take n two ≡ take n one
-front_stays n k one two more fits is = sym (take-take n (n + k) two (omega arith)) ∙ ap (take n) is ∙ take_at (take n one) more n (length-take-le n one fits)
+-- a write at an offset leaves the text before it unchanged
+prefix_stays : (n k : ℕ) (one two more : List ℕ) → n ≤ length one → take (n + k) two ≡ take n one ++ more → take n two ≡ take n one
+prefix_stays n k one two more fits is = sym (take-take n (n + k) two (omega arith)) ∙ ap (take n) is ∙ take_at (take n one) more n (length-take-le n one fits)
 
--- a plain byte was written, and digits behind it that don't count
+-- a plain byte was written, and digits after it that don't count
 pub plain_counts : (n k b x : ℕ) (base one two more : List ℕ) → is_plain_byte b ≡ true → x ≡ (if is_plain_byte b then b else 92) → n ≤ length one → take n one ≡ base ++ x ∷ [] → take (n + k) two ≡ take n one ++ more → take n two ≡ base ++ quoted_byte b
-plain_counts n k b x base one two more plain is fits first second = front_stays n k one two more fits second ∙ first ∙ rw (is, plain) refl
+plain_counts n k b x base one two more plain is fits first second = prefix_stays n k one two more fits second ∙ first ∙ rw (is, plain) refl
 
--- a backslash was written and the digits of a byte
+-- a backslash and the digits of a byte were written
 pub escape_counts : (n k b x : ℕ) (base one two : List ℕ) → is_plain_byte b ≡ false → x ≡ (if is_plain_byte b then b else 92) → take n one ≡ base ++ x ∷ [] → take k two ≡ take n one ++ digit_glyph false (b / 16) ∷ digit_glyph false (b % 16) ∷ [] → take k two ≡ base ++ quoted_byte b
 escape_counts n k b x base one two plain is first second = second ∙ rw (first, is, plain) (simp append_assoc)

@@ -1,8 +1,8 @@
-//! Bytes and numbers in decimal.
+//! Bytes and decimal numbers.
 
 ghost use Rattle.std.specs.Prelude.{◌≡◌, ◌≤◌, ◌<◌, ◌^◌, ◌+◌, ◌-◌, ◌/◌, ◌%◌, ◌==◌, ◌++◌, ◌∷◌, [], length, take, take_while, drop};
 ghost use Rattle.std.specs.Fmt.{decimal, signed_decimal};
-ghost use Rattle.rows_times.specs.TimeTexts.{padded};
+ghost use Rattle.rows_times.specs.TimeTexts.{padded_decimal};
 
 use itoa::write_digits;
 use std::simd::prelude::*;
@@ -22,7 +22,7 @@ pub fn put_byte(text: &mut [u8], at: usize, byte: u8) -> usize
     at + 1
 }
 
-/// Writes bytes as they stand.
+/// Writes bytes, unchanged.
 #[inline(always)]
 pub fn put_bytes(text: &mut [u8], at: usize, bytes: &[u8]) -> usize
     requires { at + length bytes.now ≤ length text.old }
@@ -34,13 +34,13 @@ pub fn put_bytes(text: &mut [u8], at: usize, bytes: &[u8]) -> usize
     end
 }
 
-/// Writes a number below 100 in two digits.
+/// Writes a number below 100 with two digits.
 #[inline(always)]
 pub(crate) fn put_two(text: &mut [u8], at: usize, number: u32) -> usize
     requires small { number < 100 }
     requires room { at + 2 ≤ length text.old }
     ensures end { result ≡ at + 2 }
-    ensures text { take result text.new ≡ take at text.old ++ padded 2 number }
+    ensures text { take result text.new ≡ take at text.old ++ padded_decimal 2 number }
 {
     let from = number as usize * 2;
     let (tens, ones) = (PAIRS[from], PAIRS[from + 1]);
@@ -48,31 +48,31 @@ pub(crate) fn put_two(text: &mut [u8], at: usize, number: u32) -> usize
     put_byte(text, end, ones)
 }
 
-/// Writes a number below 10,000 in four digits.
+/// Writes a number below 10,000 with four digits.
 #[inline(always)]
 pub(crate) fn put_four(text: &mut [u8], at: usize, number: u32) -> usize
     requires small { number < 10000 }
     requires room { at + 4 ≤ length text.old }
     ensures end { result ≡ at + 4 }
-    ensures text { take result text.new ≡ take at text.old ++ padded 4 number }
+    ensures text { take result text.new ≡ take at text.old ++ padded_decimal 4 number }
 {
     let end = put_two(text, at, number / 100);
     put_two(text, end, number % 100)
 }
 
-/// Writes a number below 1,000,000 in six digits.
+/// Writes a number below 1,000,000 with six digits.
 #[inline(always)]
 pub(crate) fn put_six(text: &mut [u8], at: usize, number: u32) -> usize
     requires small { number < 1000000 }
     requires room { at + 6 ≤ length text.old }
     ensures end { result ≡ at + 6 }
-    ensures text { take result text.new ≡ take at text.old ++ padded 6 number }
+    ensures text { take result text.new ≡ take at text.old ++ padded_decimal 6 number }
 {
     let end = put_four(text, at, number / 100);
     put_two(text, end, number % 100)
 }
 
-/// How many digits a number has that is below 10,000.
+/// The number of digits of a number below 10,000.
 #[inline(always)]
 fn short_count(number: u64) -> usize
     requires { number < 10000 }
@@ -88,7 +88,7 @@ fn short_count(number: u64) -> usize
     }
 }
 
-/// How many digits a number has.
+/// The number of digits of a number.
 #[inline(always)]
 fn digit_count(number: u64) -> usize
     ensures value { result ≡ length (decimal number) }
@@ -107,7 +107,7 @@ fn digit_count(number: u64) -> usize
     }
 }
 
-/// Writes a number that has so many digits.
+/// Writes a number with its `count` digits.
 #[inline(always)]
 fn put_counted(text: &mut [u8], at: usize, count: usize, number: u64) -> usize
     requires count { count ≡ length (decimal number) }
@@ -168,8 +168,8 @@ fn put_three(text: &mut [u8], at: usize, number: u32) -> usize
     put_two(text, end, number - 100 * hundreds)
 }
 
-/// Writes a number below 100,000,000 in decimal. All of its eight digits are shifted as one number until those
-/// in front are left out that are zeros, so that nothing hangs on how many these are but where the text ends.
+/// Writes a number below 100,000,000 in decimal. Its eight digits are shifted as one number until the leading zeros are dropped,
+/// so that only the offset of the end depends on their number.
 #[inline(always)]
 fn put_middle(text: &mut [u8], at: usize, number: u32) -> usize
     requires small { number < 100000000 }
@@ -179,15 +179,15 @@ fn put_middle(text: &mut [u8], at: usize, number: u32) -> usize
     ensures text { take result text.new ≡ take at text.old ++ decimal number }
 {
     let mut digits = [b'0'; 8];
-    put_eight(&mut digits, 0, number);
-    let count = 8 - zeros_in_front(&digits).min(7);
-    put_bytes(text, at, &last_in_front(digits, count));
+    put_eight_bytes(&mut digits, 0, number);
+    let count = 8 - leading_zeros(&digits).min(7);
+    put_bytes(text, at, &last_bytes_first(digits, count));
     at + count
 }
 
-/// How many zeros stand before the first of eight digits that isn't one.
+/// The number of zeros before the first nonzero digit of eight.
 #[inline(always)]
-fn zeros_in_front(digits: &[u8; 8]) -> usize
+fn leading_zeros(digits: &[u8; 8]) -> usize
     ensures { result ≡ length (take_while (λ d. d == 48) digits.now) }
 {
     let others = u8x8::from_slice(digits).simd_ne(u8x8::splat(b'0'));
@@ -198,15 +198,15 @@ fn zeros_in_front(digits: &[u8; 8]) -> usize
     mask.trailing_zeros() as usize
 }
 
-/// Writes a number in so many digits, eight at most.
+/// Writes a number with `count` digits, at most eight.
 #[inline(always)]
-pub fn put_places(text: &mut [u8], at: usize, count: usize, number: u32) -> usize
+pub fn put_fixed_digits(text: &mut [u8], at: usize, count: usize, number: u32) -> usize
     requires some { 1 ≤ count }
     requires few { count ≤ 8 }
     requires small { number < 10 ^ count }
     requires room { at + 8 ≤ length text.old }
     ensures end { result ≡ at + count }
-    ensures text { take result text.new ≡ take at text.old ++ padded count number }
+    ensures text { take result text.new ≡ take at text.old ++ padded_decimal count number }
 {
     match count {
         2 => put_two(text, at, number),
@@ -215,7 +215,7 @@ pub fn put_places(text: &mut [u8], at: usize, count: usize, number: u32) -> usiz
     }
 }
 
-/// The same by the last of eight digits.
+/// The same, by way of the last of eight digits.
 #[inline(always)]
 fn put_last_of_eight(text: &mut [u8], at: usize, count: usize, number: u32) -> usize
     requires some { 1 ≤ count }
@@ -223,17 +223,17 @@ fn put_last_of_eight(text: &mut [u8], at: usize, count: usize, number: u32) -> u
     requires small { number < 10 ^ count }
     requires room { at + 8 ≤ length text.old }
     ensures end { result ≡ at + count }
-    ensures text { take result text.new ≡ take at text.old ++ padded count number }
+    ensures text { take result text.new ≡ take at text.old ++ padded_decimal count number }
 {
     let mut digits = [b'0'; 8];
-    put_eight(&mut digits, 0, number);
-    put_bytes(text, at, &last_in_front(digits, count));
+    put_eight_bytes(&mut digits, 0, number);
+    put_bytes(text, at, &last_bytes_first(digits, count));
     at + count
 }
 
-/// The last `count` of eight bytes, in front of others.
+/// Moves the last `count` of eight bytes to the start.
 #[inline(always)]
-fn last_in_front(bytes: [u8; 8], count: usize) -> [u8; 8]
+fn last_bytes_first(bytes: [u8; 8], count: usize) -> [u8; 8]
     requires some { 1 ≤ count }
     requires most { count ≤ 8 }
     ensures { take count result ≡ drop (8 - count) bytes }
@@ -242,9 +242,9 @@ fn last_in_front(bytes: [u8; 8], count: usize) -> [u8; 8]
     shifted.to_le_bytes()
 }
 
-/// 1 where a number is at least another, else 0.
+/// 1 if a number is at least `least`, else 0.
 #[inline(always)]
-pub(crate) fn is_from(number: u32, least: u32) -> usize
+pub(crate) fn at_least(number: u32, least: u32) -> usize
     ensures most { result ≤ 1 }
     ensures from { least ≤ number → result ≡ 1 }
     ensures below { number < least → result ≡ 0 }
@@ -252,13 +252,13 @@ pub(crate) fn is_from(number: u32, least: u32) -> usize
     usize::from(number >= least)
 }
 
-/// Writes a number below 100,000,000 in eight digits.
+/// Writes a number below 100,000,000 with eight digits.
 #[inline(always)]
-fn put_eight(text: &mut [u8], at: usize, number: u32) -> usize
+fn put_eight_bytes(text: &mut [u8], at: usize, number: u32) -> usize
     requires small { number < 100000000 }
     requires room { at + 8 ≤ length text.old }
     ensures end { result ≡ at + 8 }
-    ensures text { take result text.new ≡ take at text.old ++ (padded 4 (number / 10000) ++ padded 4 (number % 10000)) }
+    ensures text { take result text.new ≡ take at text.old ++ (padded_decimal 4 (number / 10000) ++ padded_decimal 4 (number % 10000)) }
 {
     let end = put_four(text, at, number / 10_000);
     put_four(text, end, number % 10_000)
@@ -287,15 +287,15 @@ fn put_long(text: &mut [u8], at: usize, number: u64) -> usize
     ensures most { result ≤ at + 20 }
     ensures text { take result text.new ≡ take at text.old ++ decimal number }
 {
-    let front = number / 100_000_000;
+    let prefix = number / 100_000_000;
     let last = (number % 100_000_000) as u32;
-    if front < 100_000_000 {
-        let end = put_middle(text, at, front as u32);
-        return put_eight(text, end, last);
+    if prefix < 100_000_000 {
+        let end = put_middle(text, at, prefix as u32);
+        return put_eight_bytes(text, end, last);
     }
-    let end = put_short(text, at, (front / 100_000_000) as u32);
-    let end = put_eight(text, end, (front % 100_000_000) as u32);
-    put_eight(text, end, last)
+    let end = put_short(text, at, (prefix / 100_000_000) as u32);
+    let end = put_eight_bytes(text, end, (prefix % 100_000_000) as u32);
+    put_eight_bytes(text, end, last)
 }
 
 /// Writes a signed number in decimal.
@@ -312,13 +312,13 @@ pub fn put_signed(text: &mut [u8], at: usize, number: i64) -> usize
     put_number(text, end, number.unsigned_abs())
 }
 
-/// Writes a number with zeros before it up to a least width.
+/// Writes a number with leading zeros up to a minimum width.
 #[inline(never)]
 pub fn put_padded(text: &mut [u8], at: usize, width: usize, number: u32) -> usize
     requires width { width ≤ 10 }
     requires room { at + 10 ≤ length text.old }
     ensures most { result ≤ at + 10 }
-    ensures text { take result text.new ≡ take at text.old ++ padded width number }
+    ensures text { take result text.new ≡ take at text.old ++ padded_decimal width number }
 {
     let number = u64::from(number);
     let count = short_digit_count(number);
@@ -332,7 +332,7 @@ pub fn put_padded(text: &mut [u8], at: usize, width: usize, number: u32) -> usiz
     put_counted(text, end, count, number)
 }
 
-/// How many digits a number of 32 bits has.
+/// The number of digits of a 32-bit number.
 fn short_digit_count(number: u64) -> usize
     requires { number < 2 ^ 32 }
     ensures value { result ≡ length (decimal number) }

@@ -1,4 +1,4 @@
-//! Bytes that don't stand for themselves between quotes.
+//! Bytes that are escaped between quotes.
 
 ghost use Rattle.std.specs.Prelude.{◌≡◌, ◌≤◌, ◌+◌, ◌*◌, ◌/◌, ◌%◌, ◌∷◌, ◌++◌, [], length, take, false};
 ghost use Rattle.std.specs.Fmt.{digit_glyph};

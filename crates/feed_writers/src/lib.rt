@@ -1,22 +1,21 @@
-//! Text that is written at a place of a buffer that has room for it: digits, dates and times of day, bytes
-//! between quotes.
+//! Writers of text at an offset of a buffer with room for it: digits, dates and times of day, quoted bytes.
 //!
-//! Each writer is told where its text begins and answers where it ends. What stands before the text is left;
-//! what stands behind it is not text yet, and may be overwritten. `specs/` has the texts.
+//! Each writer takes the offset of its text, and returns the offset of its end. It leaves the text before its own unchanged; the
+//! bytes after it aren't text yet, and it may overwrite them. The specifications of the texts are in `specs/`.
 #![tactic(auto)]
 
+mod column_labels;
 mod digits;
 mod escapes;
 mod hexadecimal;
-mod places;
 mod plain;
 mod quoted;
 mod times;
 
-pub use digits::{put_byte, put_bytes, put_number, put_padded, put_places, put_signed};
+pub use column_labels::put_column_label;
+pub use digits::{put_byte, put_bytes, put_fixed_digits, put_number, put_padded, put_signed};
 pub use escapes::put_escapes;
 pub use hexadecimal::put_hexadecimal;
-pub use places::put_place;
 pub use plain::{is_plain, plain_len};
-pub use quoted::{put_between, put_plain_quoted, put_quoted};
+pub use quoted::{put_plain_quoted, put_quoted, put_quoted_content};
 pub use times::{Clock, Day, put_clock, put_day};

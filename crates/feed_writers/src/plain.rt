@@ -1,14 +1,14 @@
-//! Bytes that stand for themselves between quotes, eight at a time.
+//! Bytes that need no escape between quotes, eight at a time.
 
 ghost use Rattle.std.specs.Prelude.{◌≡◌, ◌≤◌, length, take, take_while};
 ghost use Rattle.std.specs.Bool.{OnTrue};
 ghost use Rattle.feed_writers.specs.Quoting.{is_plain_byte};
-ghost use Rattle.feed_writers.specs.PlainBytes.{PlainTo};
+ghost use Rattle.feed_writers.specs.PlainBytes.{IsPlainPrefix};
 
 use std::simd::prelude::*;
 
-/// Whether a byte stands for itself between quotes: 0x20 to 0x7e, save quote and backslash. Each test is made whatever the
-/// others say, so that there is no branch.
+/// Whether a byte needs no escape between quotes: 0x20 to 0x7e, except quote and backslash. All tests are made in any case, so
+/// that there is no branch.
 #[inline(always)]
 pub fn is_plain(byte: u8) -> bool
     ensures { result ≡ is_plain_byte byte }
@@ -16,11 +16,11 @@ pub fn is_plain(byte: u8) -> bool
     (byte.wrapping_sub(0x20) < 0x5f) & (byte != b'\'') & (byte != b'\\')
 }
 
-/// Whether the first eight bytes stand for themselves.
+/// Whether the first eight bytes need no escape.
 #[inline(always)]
 pub(crate) fn are_eight_plain(bytes: &[u8]) -> bool
     requires { 8 ≤ length bytes.now }
-    ensures { OnTrue result (PlainTo bytes.now 8) }
+    ensures { OnTrue result (IsPlainPrefix bytes.now 8) }
 {
     let v = u8x8::from_slice(bytes);
     (v.simd_eq(u8x8::splat(b'\''))
@@ -30,11 +30,11 @@ pub(crate) fn are_eight_plain(bytes: &[u8]) -> bool
         == 0
 }
 
-/// Whether the first four bytes stand for themselves.
+/// Whether the first four bytes need no escape.
 #[inline(always)]
 pub(crate) fn are_four_plain(bytes: &[u8]) -> bool
     requires { 4 ≤ length bytes.now }
-    ensures { OnTrue result (PlainTo bytes.now 4) }
+    ensures { OnTrue result (IsPlainPrefix bytes.now 4) }
 {
     let v = u8x4::from_slice(bytes);
     (v.simd_eq(u8x4::splat(b'\''))
@@ -44,7 +44,7 @@ pub(crate) fn are_four_plain(bytes: &[u8]) -> bool
         == 0
 }
 
-/// How many of the first sixteen bytes stand for themselves, up to the first that doesn't.
+/// Counts the bytes at the start that need no escape, among the first sixteen.
 #[inline(always)]
 pub(crate) fn sixteen_plain_len(bytes: &[u8]) -> usize
     requires { 16 ≤ length bytes.now }
@@ -61,7 +61,7 @@ pub(crate) fn sixteen_plain_len(bytes: &[u8]) -> usize
     stops.trailing_zeros() as usize
 }
 
-/// How many bytes at the front stand for themselves.
+/// Counts the bytes at the start that need no escape.
 #[inline(always)]
 pub fn plain_len(bytes: &[u8]) -> usize
     ensures most { result ≤ length bytes.now }

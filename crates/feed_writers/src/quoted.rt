@@ -1,4 +1,4 @@
-//! Bytes between quotes, eight at a time.
+//! Quoted bytes, eight at a time.
 
 ghost use Rattle.std.specs.Prelude.{◌≡◌, ◌≤◌, ◌<◌, ◌+◌, ◌*◌, ◌++◌, IfNone, IfSome, length, take, take_while, if◌then◌else◌};
 ghost use Rattle.std.specs.List.{flat_map};
@@ -8,7 +8,7 @@ use crate::digits::{put_byte, put_bytes};
 use crate::escapes::{put_escape, put_hex};
 use crate::plain::{are_eight_plain, are_four_plain, is_plain, sixteen_plain_len};
 
-/// Writes bytes between single quotes.
+/// Writes bytes in single quotes.
 #[inline(always)]
 pub fn put_quoted(text: &mut [u8], at: usize, bytes: &[u8]) -> usize
     requires { at + (3 * length bytes.now + 2) ≤ length text.old }
@@ -16,12 +16,12 @@ pub fn put_quoted(text: &mut [u8], at: usize, bytes: &[u8]) -> usize
     ensures text { take result text.new ≡ take at text.old ++ quoted bytes.now }
 {
     let start = put_byte(text, at, b'\'');
-    let end = put_between(text, start, bytes);
+    let end = put_quoted_content(text, start, bytes);
     put_byte(text, end, b'\'')
 }
 
-/// Writes the first `len` of sixteen bytes between single quotes, where each of them stands for itself; else
-/// leaves the text as it was.
+/// Writes the first `len` of sixteen bytes in single quotes if none of them needs an escape; else leaves the text unchanged and
+/// returns `None`.
 #[inline(always)]
 pub fn put_plain_quoted(text: &mut [u8], at: usize, bytes: &[u8], len: usize) -> Option<usize>
     requires few { len ≤ 16 }
@@ -40,9 +40,9 @@ pub fn put_plain_quoted(text: &mut [u8], at: usize, bytes: &[u8], len: usize) ->
     Some(put_byte(text, start + len, b'\''))
 }
 
-/// Writes bytes as they stand between quotes.
+/// Writes bytes as they are written between quotes.
 #[inline(always)]
-pub fn put_between(text: &mut [u8], at: usize, bytes: &[u8]) -> usize
+pub fn put_quoted_content(text: &mut [u8], at: usize, bytes: &[u8]) -> usize
     requires { at + 3 * length bytes.now ≤ length text.old }
     ensures most { result ≤ at + 3 * length bytes.now }
     ensures text { take result text.new ≡ take at text.old ++ flat_map quoted_byte bytes.now }
@@ -51,15 +51,15 @@ pub fn put_between(text: &mut [u8], at: usize, bytes: &[u8]) -> usize
     let mut rest = bytes;
     while rest.len() >= 8 {
         let (eight, after) = rest.split_at(8);
-        end = put_eight(text, end, eight);
+        end = put_eight_bytes(text, end, eight);
         rest = after;
     }
     put_few(text, end, rest)
 }
 
-/// Writes eight bytes as they stand between quotes.
+/// Writes eight bytes as they are written between quotes.
 #[inline(always)]
-fn put_eight(text: &mut [u8], at: usize, bytes: &[u8]) -> usize
+fn put_eight_bytes(text: &mut [u8], at: usize, bytes: &[u8]) -> usize
     requires eight { length bytes.now ≡ 8 }
     requires room { at + 24 ≤ length text.old }
     ensures most { result ≤ at + 24 }
@@ -71,7 +71,7 @@ fn put_eight(text: &mut [u8], at: usize, bytes: &[u8]) -> usize
     put_mixed(text, at, bytes)
 }
 
-/// Writes each byte as it stands between quotes, by the same steps whatever the bytes are.
+/// Writes each byte as it is written between quotes, with the same steps for any bytes.
 #[inline(always)]
 fn put_mixed(text: &mut [u8], at: usize, bytes: &[u8]) -> usize
     requires { at + 3 * length bytes.now ≤ length text.old }
@@ -85,7 +85,7 @@ fn put_mixed(text: &mut [u8], at: usize, bytes: &[u8]) -> usize
     end
 }
 
-/// Writes a byte as it stands between quotes. Its digits are written in any case, so that the processor needn't foresee
+/// Writes a byte as it is written between quotes. Its digits are stored in any case, so that the processor needn't predict
 /// whether they count.
 #[inline(always)]
 fn put_either(text: &mut [u8], at: usize, byte: u8) -> usize
@@ -98,7 +98,7 @@ fn put_either(text: &mut [u8], at: usize, byte: u8) -> usize
     if is_plain(byte) { plain } else { escaped }
 }
 
-/// What a byte begins with between quotes: itself, or a backslash.
+/// The first character of a byte between quotes: the byte, or a backslash.
 #[inline(always)]
 fn first_of(byte: u8) -> u8
     ensures { result ≡ (if is_plain_byte byte then byte else 92) }
@@ -106,7 +106,7 @@ fn first_of(byte: u8) -> u8
     if is_plain(byte) { byte } else { b'\\' }
 }
 
-/// Writes fewer than eight bytes as they stand between quotes.
+/// Writes fewer than eight bytes as they are written between quotes.
 #[inline(always)]
 fn put_few(text: &mut [u8], at: usize, bytes: &[u8]) -> usize
     requires { at + 3 * length bytes.now ≤ length text.old }
@@ -121,7 +121,7 @@ fn put_few(text: &mut [u8], at: usize, bytes: &[u8]) -> usize
     put_each(text, at, bytes)
 }
 
-/// Writes each byte as it stands between quotes.
+/// Writes each byte as it is written between quotes.
 #[inline(always)]
 fn put_each(text: &mut [u8], at: usize, bytes: &[u8]) -> usize
     requires { at + 3 * length bytes.now ≤ length text.old }
@@ -135,7 +135,7 @@ fn put_each(text: &mut [u8], at: usize, bytes: &[u8]) -> usize
     end
 }
 
-/// Writes a byte as it stands between quotes.
+/// Writes a byte as it is written between quotes.
 #[inline(always)]
 fn put_one(text: &mut [u8], at: usize, byte: u8) -> usize
     requires { at + 3 ≤ length text.old }

@@ -1,34 +1,41 @@
 //! Dates and times of day.
 
 ghost use Rattle.std.specs.Prelude.{◌≡◌, ◌≤◌, ◌<◌, ◌+◌, ◌++◌, length, take};
-ghost use Rattle.rows_times.specs.TimeTexts.{padded};
+ghost use Rattle.rows_times.specs.TimeTexts.{padded_decimal};
 ghost use Rattle.feed_writers.specs.TimesOfDay.{clock_text, day_text};
 
 use crate::digits::{put_byte, put_bytes, put_four, put_padded, put_six, put_two};
 
-/// A time of day, or what is left of a span of time.
+/// A time of day, or the rest of a span of time after its days.
 #[derive(Clone, Copy, Debug, PartialEq, Eq)]
 pub struct Clock {
+    /// Hours, from 0 on.
     pub hour: u32,
+    /// Minutes, from 0 on.
     pub minute: u32,
+    /// Seconds, from 0 on.
     pub second: u32,
+    /// Microseconds, from 0 on.
     pub micros: u32,
 }
 
-/// A day of a year.
+/// A date.
 #[derive(Clone, Copy, Debug, PartialEq, Eq)]
 pub struct Day {
+    /// The year.
     pub year: u32,
+    /// The month: 1 to 12 in a date of the calendar; MySQL allows 0.
     pub month: u32,
+    /// The day of the month: 1 to 31 in a date of the calendar; MySQL allows 0.
     pub day: u32,
 }
 
-/// Writes a number of at least two digits.
+/// Writes a number with at least two digits.
 #[inline(always)]
 fn put_part(text: &mut [u8], at: usize, number: u32) -> usize
     requires { at + 10 ≤ length text.old }
     ensures most { result ≤ at + 10 }
-    ensures text { take result text.new ≡ take at text.old ++ padded 2 number }
+    ensures text { take result text.new ≡ take at text.old ++ padded_decimal 2 number }
 {
     if number >= 100 {
         return put_padded(text, at, 2, number);
@@ -36,12 +43,12 @@ fn put_part(text: &mut [u8], at: usize, number: u32) -> usize
     put_two(text, at, number)
 }
 
-/// Writes a number of at least four digits.
+/// Writes a number with at least four digits.
 #[inline(always)]
 fn put_year(text: &mut [u8], at: usize, number: u32) -> usize
     requires { at + 10 ≤ length text.old }
     ensures most { result ≤ at + 10 }
-    ensures text { take result text.new ≡ take at text.old ++ padded 4 number }
+    ensures text { take result text.new ≡ take at text.old ++ padded_decimal 4 number }
 {
     if number >= 10_000 {
         return put_padded(text, at, 4, number);
@@ -49,12 +56,12 @@ fn put_year(text: &mut [u8], at: usize, number: u32) -> usize
     put_four(text, at, number)
 }
 
-/// Writes a number of at least six digits.
+/// Writes a number with at least six digits.
 #[inline(always)]
 fn put_micros(text: &mut [u8], at: usize, number: u32) -> usize
     requires { at + 10 ≤ length text.old }
     ensures most { result ≤ at + 10 }
-    ensures text { take result text.new ≡ take at text.old ++ padded 6 number }
+    ensures text { take result text.new ≡ take at text.old ++ padded_decimal 6 number }
 {
     if number == 0 {
         return put_bytes(text, at, b"000000");
@@ -65,8 +72,7 @@ fn put_micros(text: &mut [u8], at: usize, number: u32) -> usize
     put_six(text, at, number)
 }
 
-/// Writes hours, minutes, seconds and microseconds, as `hh:mm:ss.uuuuuu`; a part that has more digits has
-/// them all.
+/// Writes hours, minutes, seconds and microseconds as `hh:mm:ss.uuuuuu`. A field with more digits is written with all of them.
 #[inline(always)]
 #[tactic(auto, unfolding(crate::specs::TimesOfDay::clock_text))]
 pub fn put_clock(text: &mut [u8], at: usize, clock: Clock) -> usize
@@ -83,7 +89,7 @@ pub fn put_clock(text: &mut [u8], at: usize, clock: Clock) -> usize
     put_micros(text, end, clock.micros)
 }
 
-/// Writes year, month and day, as `YYYY-MM-DD`; a part that has more digits has them all.
+/// Writes year, month and day as `YYYY-MM-DD`. A field with more digits is written with all of them.
 #[inline(always)]
 #[tactic(auto, unfolding(crate::specs::TimesOfDay::day_text))]
 pub fn put_day(text: &mut [u8], at: usize, day: Day) -> usize

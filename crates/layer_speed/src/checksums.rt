@@ -1,24 +1,24 @@
-//! The checksums of the pieces of a file: `bench/checksums` times them beside zlib.
+//! The checksums of the pieces of a file; `bench/checksums` compares their speed with zlib's.
 
 use crc32::crc32;
 use std::time::Instant;
 use std::{fs, io};
 
-/// How often the checksums are taken.
+/// How often the checksums are computed.
 const TURNS: usize = 9;
 
-/// Three thousand bytes, of which neighbours differ.
+/// 3,000 bytes, each different from its neighbours.
 fn long_message() -> [u8; 3000] {
     let mut bytes = [0; 3000];
     let mut byte = 0x9du8;
-    for place in bytes.iter_mut() {
+    for offset in bytes.iter_mut() {
         byte = byte.wrapping_mul(5).wrapping_add(37);
-        *place = byte;
+        *offset = byte;
     }
     bytes
 }
 
-/// The checksums of the pieces of so many bytes, at least one, added up.
+/// The sum of the checksums of a message's pieces of `len` bytes, at least 1.
 fn sum_of_checksums(bytes: &[u8], len: usize) -> u32 {
     let mut sum = 0u32;
     for piece in bytes.chunks(len.max(1)) {
@@ -34,7 +34,7 @@ pub(crate) fn print_samples(rt: &HostRuntime) -> io::Result<()> {
     Ok(())
 }
 
-/// Prints the checksums of the pieces of a file, added up, and on standard error the nanoseconds of the fastest turn.
+/// Prints the sum of the checksums of a file's pieces; on standard error, the nanoseconds of the fastest turn.
 pub(crate) fn print_file(rt: &HostRuntime, path: &str, len: &str) -> io::Result<()> {
     let bytes = fs::read(rt, path)?;
     let len = len.parse().unwrap_or(usize::MAX);

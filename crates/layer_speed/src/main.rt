@@ -1,5 +1,5 @@
-//! Times two layers, as `bench/` calls it: `checksums FILE LEN` the checksums of a file's pieces, `rows FILE` the text of the
-//! rows of a binary log. Without words it prints both of what it carries with it.
+//! Times two layers for `bench/`: `checksums FILE LEN` computes the checksums of a file's pieces, `rows FILE` prints the rows of
+//! a binary log. Without arguments it prints both for built-in samples.
 #![tactic(auto)]
 
 mod checksums;
@@ -10,7 +10,7 @@ use std::process::ExitCode;
 use std::rt::{Env, Files};
 use std::{env, io};
 
-/// Prints what the words ask for, and answers whether that went well.
+/// Runs what the words ask for, and returns whether that succeeded.
 fn run(rt: &HostRuntime, alloc: Global, words: &[String]) -> bool {
     let Some((layer, words)) = words.split_first() else {
         return checksums::print_samples(rt).is_ok() && row_lines::print_two_rows(rt, alloc).is_ok();

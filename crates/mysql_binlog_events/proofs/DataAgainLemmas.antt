@@ -1,14 +1,14 @@
 -- The body of an event of any type is read again.
 use Rattle.std.proofs.Common.{◌≡◌, ℕ, List, [], refl, sym, subst, append-nil}
-use Rattle.wire_buf.specs.Spelling.{Reads}
+use Rattle.wire_buf.specs.Encoding.{Reads}
 use Rattle.rows_meta.proofs.MapLawLemmas.{map_whole}
-use Rattle.events_frames.specs.Descriptions.{Description, IsFields, description_of}
+use Rattle.events_frames.specs.Descriptions.{Description, IsFields, event_description_of}
 use Rattle.events_frames.proofs.LawLemmas.{written_whole}
 use Rattle.events_bodies.proofs.BodyLemmas.{incident_whole}
 use Rattle.events_queries.proofs.QueryLemmas.{query_whole}
 use Rattle.events_queries.proofs.LoadQueryLemmas.{load_query_whole}
 use Rattle.events_data.specs.declared.event_data.EventData.TheVariants as read
-use Rattle.mysql_binlog_events.specs.ReadAgain.{IsReadInOneWay}
+use Rattle.mysql_binlog_events.specs.ReadAgain.{IsReadAsEncoded}
 use Rattle.mysql_binlog_events.specs.DataAgain.{IsDataSameAgain}
 use Rattle.mysql_binlog_events.proofs.OneWayLemmas.{whole_body}
 use Rattle.mysql_binlog_events.proofs.PlainBodyLemmas.{one_rotate, one_xid, one_rand, one_intvar, one_block, one_incident, one_rows_query, one_user_var, one_table_map, user_var_whole}
@@ -17,32 +17,32 @@ use Rattle.mysql_binlog_events.proofs.StatementOneLemmas.{one_query, one_load_qu
 use Rattle.mysql_binlog_events.proofs.GtidOneLemmas.{one_gtid}
 use Rattle.mysql_binlog_events.proofs.RowsOneLemmas.{rows_same}
 
--- what is written of a value is all of it, and the bytes spell it
-stands_again : {A : Type 0} {form : A → List ℕ → List ℕ → Type 0} {v : A} (written : A) (bytes : List ℕ) → IsReadInOneWay form → written ≡ v → form written bytes [] → Reads form v bytes []
-stands_again {form = form} {v = v} written bytes one whole is =
-    one v bytes [] (record { bytes = bytes; joined = sym (append-nil bytes); is = subst (λ y. form y bytes []) whole is })
+-- a value is written completely, and the bytes encode it
+represents_again : {A : Type 0} {encoding : A → List ℕ → List ℕ → Type 0} {v : A} (written : A) (bytes : List ℕ) → IsReadAsEncoded encoding → written ≡ v → encoding written bytes [] → Reads encoding v bytes []
+represents_again {encoding = encoding} {v = v} written bytes one whole is =
+    one v bytes [] (record { bytes = bytes; joined = sym (append-nil bytes); is = subst (λ y. encoding y bytes []) whole is })
 
 pub data_same : IsDataSameAgain
-data_same (read.QueryEvent e) form body old new are h w = (h.0, stands_again _ w.bytes one_query (query_whole _ body [] are (whole_body h.1)) (w.spells [] refl))
-data_same (read.RotateEvent e) form body old new are h w = (h.0, stands_again _ w.bytes one_rotate refl (w.spells [] refl))
-data_same (read.IntvarEvent e) form body old new are h w = (h.0, stands_again _ w.bytes one_intvar refl (w.spells [] refl))
-data_same (read.RandEvent e) form body old new are h w = (h.0, stands_again _ w.bytes one_rand refl (w.spells [] refl))
-data_same (read.UserVarEvent e) form body old new are h w = (h.0, stands_again _ w.bytes one_user_var (user_var_whole _ body [] are (whole_body h.1)) (w.spells [] refl))
-data_same (read.FormatDescriptionEvent e) form body old new are h w =
-    let stands = whole_body h.1 in
-    let fields = subst (λ (d : Description). IsFields d w.bytes []) (written_whole (description_of e) body [] stands) (w.spells [] refl) in
-    (h.0, one_description (description_of e) w.bytes [] (record { bytes = w.bytes; joined = sym (append-nil w.bytes); is = (stands.0, stands.1, fields) }))
-data_same (read.XidEvent e) form body old new are h w = (h.0, stands_again _ w.bytes one_xid refl (w.spells [] refl))
-data_same (read.BeginLoadQueryEvent e) form body old new are h w = (h.0, stands_again _ w.bytes one_block refl (w.spells [] refl))
-data_same (read.ExecuteLoadQueryEvent e) form body old new are h w = (h.0, stands_again _ w.bytes one_load_query (load_query_whole _ body [] are (whole_body h.1)) (w.spells [] refl))
-data_same (read.TableMapEvent e) form body old new are h w = (h.0, stands_again _ w.bytes (one_table_map 8) (map_whole _ body [] are (whole_body h.1)) (w.spells [] refl))
-data_same (read.IncidentEvent e) form body old new are h w = (h.0, stands_again _ w.bytes one_incident (incident_whole _ body [] are (whole_body h.1)) (w.spells [] refl))
-data_same (read.RowsQueryEvent e) form body old new are h w = (h.0, stands_again _ w.bytes one_rows_query refl (w.spells [] refl))
-data_same (read.GtidEvent e) form body old new are h w = (h.0, stands_again _ w.bytes one_gtid refl (w.spells [] refl))
-data_same (read.AnonymousGtidEvent e) form body old new are h w = (h.0, stands_again _ w.bytes one_gtid refl (w.spells [] refl))
-data_same (read.RowsEvent e) form body old new are h w = record {
+data_same (read.QueryEvent e) encoding body old new are h w = (h.0, represents_again _ w.bytes one_query (query_whole _ body [] are (whole_body h.1)) (w.encodes [] refl))
+data_same (read.RotateEvent e) encoding body old new are h w = (h.0, represents_again _ w.bytes one_rotate refl (w.encodes [] refl))
+data_same (read.IntvarEvent e) encoding body old new are h w = (h.0, represents_again _ w.bytes one_intvar refl (w.encodes [] refl))
+data_same (read.RandEvent e) encoding body old new are h w = (h.0, represents_again _ w.bytes one_rand refl (w.encodes [] refl))
+data_same (read.UserVarEvent e) encoding body old new are h w = (h.0, represents_again _ w.bytes one_user_var (user_var_whole _ body [] are (whole_body h.1)) (w.encodes [] refl))
+data_same (read.FormatDescriptionEvent e) encoding body old new are h w =
+    let represents = whole_body h.1 in
+    let fields = subst (λ (d : Description). IsFields d w.bytes []) (written_whole (event_description_of e) body [] represents) (w.encodes [] refl) in
+    (h.0, one_description (event_description_of e) w.bytes [] (record { bytes = w.bytes; joined = sym (append-nil w.bytes); is = (represents.0, represents.1, fields) }))
+data_same (read.XidEvent e) encoding body old new are h w = (h.0, represents_again _ w.bytes one_xid refl (w.encodes [] refl))
+data_same (read.BeginLoadQueryEvent e) encoding body old new are h w = (h.0, represents_again _ w.bytes one_block refl (w.encodes [] refl))
+data_same (read.ExecuteLoadQueryEvent e) encoding body old new are h w = (h.0, represents_again _ w.bytes one_load_query (load_query_whole _ body [] are (whole_body h.1)) (w.encodes [] refl))
+data_same (read.TableMapEvent e) encoding body old new are h w = (h.0, represents_again _ w.bytes (one_table_map 8) (map_whole _ body [] are (whole_body h.1)) (w.encodes [] refl))
+data_same (read.IncidentEvent e) encoding body old new are h w = (h.0, represents_again _ w.bytes one_incident (incident_whole _ body [] are (whole_body h.1)) (w.encodes [] refl))
+data_same (read.RowsQueryEvent e) encoding body old new are h w = (h.0, represents_again _ w.bytes one_rows_query refl (w.encodes [] refl))
+data_same (read.GtidEvent e) encoding body old new are h w = (h.0, represents_again _ w.bytes one_gtid refl (w.encodes [] refl))
+data_same (read.AnonymousGtidEvent e) encoding body old new are h w = (h.0, represents_again _ w.bytes one_gtid refl (w.encodes [] refl))
+data_same (read.RowsEvent e) encoding body old new are h w = record {
   rows_type = h.rows_type;
   is = h.is;
-  reads = rows_same h.rows_type _ body old new h.reads (record { bytes = w.bytes; is = w.is; appended = w.appended; spells = w.spells; least = w.least });
+  reads = rows_same h.rows_type _ body old new h.reads (record { bytes = w.bytes; is = w.is; appended = w.appended; encodes = w.encodes; least = w.least });
 }
-data_same (read.Raw t raw) form body old new are h w = (h.0, (w.spells [] refl).bytes_are)
+data_same (read.Raw t raw) encoding body old new are h w = (h.0, (w.encodes [] refl).bytes_are)

@@ -1,54 +1,54 @@
--- GTID events are read in one way.
+-- The encoding of a GTID event is read as the same event.
 use Rattle.std.proofs.lemmas.Bool.Decides.{leb_tells}
 use Rattle.std.proofs.Common.{◌≡◌, ◌<◌, ◌≤◌, ◌++◌, ◌∙◌, ℕ, List, [], refl, sym, ap, subst, arith, inl, inr, true≢false, append-nil, append_assoc, Option, Some, None, Bool, true, false}
 use Rattle.std.specs.Bool.{⊤}
-use Rattle.wire_buf.specs.Spelling.{Begins, Reads, Lacks, Alone}
+use Rattle.wire_buf.specs.Encoding.{Begins, Reads, Lacks, Alone}
 use Rattle.wire_buf.specs.Numbers.{IsLenenc}
-use Rattle.wire_buf.proofs.SpellingLemmas.{Reads-is}
+use Rattle.wire_buf.proofs.EncodingLemmas.{Reads-is}
 use Rattle.wire_forms.specs.Texts.{IsAll}
-use Rattle.rows_meta.specs.TableMaps.{number}
-use Rattle.events_gtids.specs.Stamps.{Stamp, IsStamp, IsAnnounced, top_bit}
-use Rattle.events_gtids.specs.Gtids.{Gtid, IsClock, IsGtid}
-use Rattle.events_gtids.proofs.StampLemmas.{alone_reads, twice_reads}
+use Rattle.rows_meta.specs.TableMaps.{little_endian}
+use Rattle.events_gtids.specs.Stamps.{AnnouncedPair, IsStamp, IsAnnounced, top_bit}
+use Rattle.events_gtids.specs.Gtids.{GtidBody, IsClock, IsGtid}
+use Rattle.events_gtids.proofs.AnnouncedPairLemmas.{alone_reads, twice_reads}
 use Rattle.events_gtids.proofs.OptionalLemmas.{Level, Tail, LinkRow, LinkSettled, last_level, last_runs, link_level, link_runs}
 use Rattle.events_gtids.proofs.GtidLemmas.{IsHead, Ticket, Version, Length, Time, ticket_on, version_on, length_on, time_on, fields_on, TicketSettled, VersionSettled, LengthSettled, TimeSettled, FieldsSettled, FieldsRow, gtid_reads, head, fields}
-use Rattle.mysql_binlog_events.specs.ReadAgain.{IsReadInOneWay}
+use Rattle.mysql_binlog_events.specs.ReadAgain.{IsReadAsEncoded}
 use Rattle.mysql_binlog_events.proofs.OneWayLemmas.{one_number, one_text, one_lenenc, one_both}
 
--- ---- numbers of which the first announces the second
+-- ---- pairs of numbers, the first of which announces the second
 
 unannounced : (n : ℕ) (b : Bool) (bytes rest : List ℕ) → IsAnnounced n b None bytes rest → (b ≡ false) × (bytes ≡ [])
 unannounced n true bytes rest h = absurd h
 unannounced n false bytes rest h = (refl, h)
 
-announced : (n : ℕ) (b : Bool) (v : ℕ) (bytes rest : List ℕ) → IsAnnounced n b (Some v) bytes rest → (b ≡ true) × number n v bytes rest
+announced : (n : ℕ) (b : Bool) (v : ℕ) (bytes rest : List ℕ) → IsAnnounced n b (Some v) bytes rest → (b ≡ true) × little_endian n v bytes rest
 announced n true v bytes rest h = (refl, h)
 announced n false v bytes rest h = absurd h
 
-marked_at : (n : ℕ) (s : Stamp) (x r : List ℕ) (t : Begins (IsStamp n s) x r) → Begins (number n t.is.marked) x (t.is.spelled.back ++ r)
-marked_at n s x r t = record {
-  bytes = t.is.spelled.front;
-  joined = t.joined ∙ ap (λ (l : List ℕ). l ++ r) t.is.spelled.joined ∙ append_assoc t.is.spelled.front t.is.spelled.back r;
-  is = t.is.spelled.first_is;
+with_magic_at : (n : ℕ) (s : AnnouncedPair) (x r : List ℕ) (t : Begins (IsStamp n s) x r) → Begins (little_endian n t.is.first_number) x (t.is.encoding_is.suffix ++ r)
+with_magic_at n s x r t = record {
+  bytes = t.is.encoding_is.prefix;
+  joined = t.joined ∙ ap (λ (l : List ℕ). l ++ r) t.is.encoding_is.joined ∙ append_assoc t.is.encoding_is.prefix t.is.encoding_is.suffix r;
+  is = t.is.encoding_is.first_is;
 }
 
 stamp_parts : (n i : ℕ) (o : Option ℕ) (x r : List ℕ) → Begins (IsStamp n (record { immediate = i; original = o })) x r → Reads (IsStamp n) (record { immediate = i; original = o }) x r
 stamp_parts n i None x r t =
-    let none = unannounced n _ t.is.spelled.back r t.is.spelled.second_is in
-    let at : Begins (number n t.is.marked) x r = subst (λ (l : List ℕ). Begins (number n t.is.marked) x (l ++ r)) none.1 (marked_at n _ x r t) in
-    let low : t.is.marked < top_bit n = elim (leb_tells (top_bit n) t.is.marked) [ inl y ↦ absurd (true≢false (sym y.0 ∙ none.0)) | inr f ↦ omega (arith, f.1) ] in
-    Reads-is (λ j. record { immediate = (sym t.is.immediate_is) j; original = None }) (alone_reads n t.is.marked x r low (one_number n t.is.marked x r at))
+    let none = unannounced n _ t.is.encoding_is.suffix r t.is.encoding_is.second_is in
+    let at : Begins (little_endian n t.is.first_number) x r = subst (λ (l : List ℕ). Begins (little_endian n t.is.first_number) x (l ++ r)) none.1 (with_magic_at n _ x r t) in
+    let low : t.is.first_number < top_bit n = elim (leb_tells (top_bit n) t.is.first_number) [ inl y ↦ absurd (true≢false (sym y.0 ∙ none.0)) | inr f ↦ omega (arith, f.1) ] in
+    Reads-is (λ j. record { immediate = (sym t.is.immediate_is) j; original = None }) (alone_reads n t.is.first_number x r low (one_number n t.is.first_number x r at))
 stamp_parts n i (Some v) x r t =
-    let some = announced n _ v t.is.spelled.back r t.is.spelled.second_is in
-    let high : top_bit n ≤ t.is.marked = elim (leb_tells (top_bit n) t.is.marked) [ inl y ↦ y.1 | inr f ↦ absurd (true≢false (sym some.0 ∙ f.0)) ] in
-    let second : Begins (number n v) (t.is.spelled.back ++ r) r = record { bytes = t.is.spelled.back; joined = refl; is = some.1 } in
+    let some = announced n _ v t.is.encoding_is.suffix r t.is.encoding_is.second_is in
+    let high : top_bit n ≤ t.is.first_number = elim (leb_tells (top_bit n) t.is.first_number) [ inl y ↦ y.1 | inr f ↦ absurd (true≢false (sym some.0 ∙ f.0)) ] in
+    let second : Begins (little_endian n v) (t.is.encoding_is.suffix ++ r) r = record { bytes = t.is.encoding_is.suffix; joined = refl; is = some.1 } in
     Reads-is (λ j. record { immediate = (sym t.is.immediate_is) j; original = Some v })
-    (twice_reads n t.is.marked v x (t.is.spelled.back ++ r) r high (one_number n t.is.marked x _ (marked_at n _ x r t)) (one_number n v _ r second))
+    (twice_reads n t.is.first_number v x (t.is.encoding_is.suffix ++ r) r high (one_number n t.is.first_number x _ (with_magic_at n _ x r t)) (one_number n v _ r second))
 
-one_stamp : (n : ℕ) → IsReadInOneWay (IsStamp n)
+one_stamp : (n : ℕ) → IsReadAsEncoded (IsStamp n)
 one_stamp n s = stamp_parts n s.immediate s.original
 
-one_clock : IsReadInOneWay IsClock
+one_clock : IsReadAsEncoded IsClock
 one_clock v x r t =
     let p = one_both (one_number 1) (one_both (one_number 8) (one_number 8)) (2, (v.last_committed, v.sequence_number)) x r (record { bytes = t.bytes; joined = t.joined; is = t.is }) in
     record {
@@ -58,7 +58,7 @@ one_clock v x r t =
           (o.0, (λ i. record { last_committed = (o.1 i).1.0; sequence_number = (o.1 i).1.1 }));
     }
 
--- ---- optional fields in turn
+-- ---- optional fields in order
 
 abbrev OneTail : {T : Type 0} → (T → List ℕ → List ℕ → Type 0) → (T → Type 0) → Type 0
 OneTail {T} row settled = (t : T) (x : List ℕ) → Begins (Tail row settled t) x [] → Reads (Tail row settled) t x []
@@ -68,27 +68,27 @@ last_one v x t =
     let all : x ≡ v = t.joined ∙ append-nil t.bytes ∙ sym t.is.0.bytes_are in
     Reads-is all (last_runs true x)
 
-module _ {A T : Type 0} (form : A → List ℕ → List ℕ → Type 0) (row : T → List ℕ → List ℕ → Type 0) (later : T → Bool) (left : T → List ℕ) (settled : T → Type 0)
+module _ {A T : Type 0} (encoding : A → List ℕ → List ℕ → Type 0) (row : T → List ℕ → List ℕ → Type 0) (later : T → Bool) (left : T → List ℕ) (settled : T → Type 0)
     (on : Option A × T → Bool) (on_none : (t : T) → on (None, t) ≡ later t) (on_some : (v : A) (t : T) → on (Some v, t) ≡ true) where
-  link_one : Level row later left → IsReadInOneWay form → OneTail row settled → OneTail (LinkRow form row) (LinkSettled form later left settled)
+  link_one : Level row later left → IsReadAsEncoded encoding → OneTail row settled → OneTail (LinkRow encoding row) (LinkSettled encoding later left settled)
   link_one level one tail (None, t) x b =
       let h = b.is.0 in
       let none = b.is.1.0 in
-      let back : x ≡ h.back = b.joined ∙ append-nil b.bytes ∙ h.joined ∙ ap (λ (l : List ℕ). l ++ h.back) h.first_is in
-      let at : left t ≡ x = (level.ends t h.back [] none h.second_is).0 ∙ sym back in
-      link_runs form row later left settled on on_none on_some level true None t x x (subst (Lacks form) at b.is.1.1, refl) (none, at)
+      let back : x ≡ h.suffix = b.joined ∙ append-nil b.bytes ∙ h.joined ∙ ap (λ (l : List ℕ). l ++ h.suffix) h.first_is in
+      let at : left t ≡ x = (level.ends t h.suffix [] none h.second_is).0 ∙ sym back in
+      link_runs encoding row later left settled on on_none on_some level true None t x x (subst (Lacks encoding) at b.is.1.1, refl) (none, at)
   link_one level one tail (Some v, t) x b =
       let h = b.is.0 in
-      let front : Begins (form v) x (h.back ++ []) = record {
-        bytes = h.front;
-        joined = b.joined ∙ ap (λ (l : List ℕ). l ++ []) h.joined ∙ append_assoc h.front h.back [];
+      let prefix : Begins (encoding v) x (h.suffix ++ []) = record {
+        bytes = h.prefix;
+        joined = b.joined ∙ ap (λ (l : List ℕ). l ++ []) h.joined ∙ append_assoc h.prefix h.suffix [];
         is = h.first_is;
       } in
-      let others : Begins (Tail row settled t) (h.back ++ []) [] = record { bytes = h.back; joined = refl; is = (h.second_is, b.is.1) } in
-      link_runs form row later left settled on on_none on_some level true (Some v) t x (h.back ++ []) (one v x (h.back ++ []) front) (tail t (h.back ++ []) others)
+      let others : Begins (Tail row settled t) (h.suffix ++ []) [] = record { bytes = h.suffix; joined = refl; is = (h.second_is, b.is.1) } in
+      link_runs encoding row later left settled on on_none on_some level true (Some v) t x (h.suffix ++ []) (one v x (h.suffix ++ []) prefix) (tail t (h.suffix ++ []) others)
 
 abbrev TicketRow : Ticket → List ℕ → List ℕ → Type 0
-TicketRow = LinkRow (number 8) IsAll
+TicketRow = LinkRow (little_endian 8) IsAll
 
 abbrev VersionRow : Version → List ℕ → List ℕ → Type 0
 VersionRow = LinkRow (IsStamp 4) TicketRow
@@ -100,7 +100,7 @@ abbrev TimeRow : Time → List ℕ → List ℕ → Type 0
 TimeRow = LinkRow (IsStamp 7) LengthRow
 
 ticket_level : Level TicketRow ticket_on (λ p. p.1)
-ticket_level = link_level (number 8) IsAll (λ l. false) (λ l. l) (λ l. ⊤) ticket_on (λ t. refl) (λ v t. refl) last_level
+ticket_level = link_level (little_endian 8) IsAll (λ l. false) (λ l. l) (λ l. ⊤) ticket_on (λ t. refl) (λ v t. refl) last_level
 
 version_level : Level VersionRow version_on (λ p. p.1.1)
 version_level = link_level (IsStamp 4) TicketRow ticket_on (λ p. p.1) TicketSettled version_on (λ t. refl) (λ v t. refl) ticket_level
@@ -113,27 +113,27 @@ time_level = link_level (IsStamp 7) LengthRow length_on (λ p. p.1.1.1) LengthSe
 
 fields_one : OneTail FieldsRow FieldsSettled
 fields_one =
-    let ticket = link_one (number 8) IsAll (λ l. false) (λ l. l) (λ l. ⊤) ticket_on (λ t. refl) (λ v t. refl) last_level (one_number 8) last_one in
+    let ticket = link_one (little_endian 8) IsAll (λ l. false) (λ l. l) (λ l. ⊤) ticket_on (λ t. refl) (λ v t. refl) last_level (one_number 8) last_one in
     let version = link_one (IsStamp 4) TicketRow ticket_on (λ p. p.1) TicketSettled version_on (λ t. refl) (λ v t. refl) ticket_level (one_stamp 4) ticket in
     let length = link_one (Alone IsLenenc) VersionRow version_on (λ p. p.1.1) VersionSettled length_on (λ t. refl) (λ v t. refl) version_level one_lenenc version in
     let time = link_one (IsStamp 7) LengthRow length_on (λ p. p.1.1.1) LengthSettled time_on (λ t. refl) (λ v t. refl) length_level (one_stamp 7) length in
     link_one IsClock TimeRow time_on (λ p. p.1.1.1.1) TimeSettled fields_on (λ t. refl) (λ v t. refl) time_level one_clock time
 
-one_head : IsReadInOneWay IsHead
+one_head : IsReadAsEncoded IsHead
 one_head = one_both (one_number 1) (one_both (one_text 16) (one_number 8))
 
-gtid_at_end : (g : Gtid) (x : List ℕ) → Begins (IsGtid g) x [] → Reads IsGtid g x []
+gtid_at_end : (g : GtidBody) (x : List ℕ) → Begins (IsGtid g) x [] → Reads IsGtid g x []
 gtid_at_end g x t =
     let h = t.is.0 in
-    let front : Begins (IsHead (head g)) x (h.back ++ []) = record {
-      bytes = h.front;
-      joined = t.joined ∙ ap (λ (l : List ℕ). l ++ []) h.joined ∙ append_assoc h.front h.back [];
+    let prefix : Begins (IsHead (head g)) x (h.suffix ++ []) = record {
+      bytes = h.prefix;
+      joined = t.joined ∙ ap (λ (l : List ℕ). l ++ []) h.joined ∙ append_assoc h.prefix h.suffix [];
       is = h.first_is;
     } in
-    let others : Begins (Tail FieldsRow FieldsSettled (fields g)) (h.back ++ []) [] = record { bytes = h.back; joined = refl; is = (h.second_is, t.is.1) } in
-    gtid_reads (head g) (fields g) x (h.back ++ []) (one_head (head g) x (h.back ++ []) front) (fields_one (fields g) (h.back ++ []) others)
+    let others : Begins (Tail FieldsRow FieldsSettled (fields g)) (h.suffix ++ []) [] = record { bytes = h.suffix; joined = refl; is = (h.second_is, t.is.1) } in
+    gtid_reads (head g) (fields g) x (h.suffix ++ []) (one_head (head g) x (h.suffix ++ []) prefix) (fields_one (fields g) (h.suffix ++ []) others)
 
-pub one_gtid : IsReadInOneWay IsGtid
+pub one_gtid : IsReadAsEncoded IsGtid
 one_gtid g x r t =
     let ends : r ≡ [] = t.is.0.second_is.second_is.second_is.second_is.second_is.second_is.ends in
     subst (λ (s : List ℕ). Reads IsGtid g x s) (sym ends) (gtid_at_end g x (subst (λ (s : List ℕ). Begins (IsGtid g) x s) ends t))

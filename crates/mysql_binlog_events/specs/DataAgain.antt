@@ -1,14 +1,14 @@
--- That an event of any type that was written is read again.
+-- An event body of any type that was read and written is read again.
 use Rattle.std.specs.Prelude.{ℕ, List, []}
-use Rattle.wire_buf.specs.Spelling.{AreBytes}
+use Rattle.wire_buf.specs.Encoding.{AreBytes}
 use Rattle.wire_buf.specs.Writing.{WritesField}
 use Rattle.events_data.specs.DataReadings.{IsRead}
-use Rattle.events_data.specs.DataSpellings.{IsData, data_spelling}
-use Rattle.events_data.specs.declared.body_form.BodyForm.{BodyForm}
+use Rattle.events_data.specs.DataEncodings.{IsData, data_encoded}
+use Rattle.events_data.specs.declared.body_format.BodyFormat.{BodyFormat}
 use Rattle.events_data.specs.declared.event_data.EventData.{EventData}
-use Rattle.mysql_binlog_events.specs.ReadAgain.{AtEnd}
+use Rattle.mysql_binlog_events.specs.ReadAgain.{NothingFollows}
 
--- The body of an event that was read, written and read again is the same, where a description says no post-header lengths.
+-- The body of an event that was read, written and read again is the same, if the format description lists no post-header lengths.
 abbrev pub IsDataSameAgain : Type 0
 IsDataSameAgain =
-    (e : EventData) (form : BodyForm) (body old new : List ℕ) → AreBytes body → IsRead [] form e body → (w : WritesField data_spelling IsData AtEnd e old new) → IsRead [] form e w.bytes
+    (e : EventData) (encoding : BodyFormat) (body old new : List ℕ) → AreBytes body → IsRead [] encoding e body → (w : WritesField data_encoded IsData NothingFollows e old new) → IsRead [] encoding e w.bytes

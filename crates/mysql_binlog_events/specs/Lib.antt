@@ -7,9 +7,9 @@ pub use Rattle.events_bodies.specs.BodyViews
 pub use Rattle.events_bodies.specs.BodySizes
 pub use Rattle.events_bodies.specs.UserVars
 pub use Rattle.events_bodies.specs.UserVarViews
-pub use Rattle.events_data.specs.BodyForms
+pub use Rattle.events_data.specs.BodyFormats
 pub use Rattle.events_data.specs.DataReadings
-pub use Rattle.events_data.specs.DataSpellings
+pub use Rattle.events_data.specs.DataEncodings
 pub use Rattle.events_frames.specs.EventErrors
 pub use Rattle.events_frames.specs.Bodies as FrameBodies
 pub use Rattle.events_frames.specs.FileHeaders
@@ -34,7 +34,7 @@ pub use Rattle.events_queries.specs.Queries
 pub use Rattle.events_queries.specs.LoadQueries
 pub use Rattle.events_queries.specs.QueryViews
 pub use Rattle.events_queries.specs.StatusVars
-pub use Rattle.events_queries.specs.StatusVarFronts
+pub use Rattle.events_queries.specs.StatusVarsComputed
 pub use Rattle.events_queries.specs.DbNames
 pub use Rattle.events_queries.specs.StatusVarViews
 pub use Rattle.events_rows.specs.RowsContexts

@@ -1,25 +1,25 @@
--- What a reader of a log knows behind many events, looked at from the newest event backwards.
+-- The state of a log's reader after many events, by the newest event first.
 use Rattle.std.specs.Prelude.{ℕ, ◌==◌, List, [], ◌∷◌, Option, Some, None, if◌then◌else◌}
 use Rattle.rows_meta.specs.TableMaps.{TableMap}
 use Rattle.events_frames.specs.Descriptions.{Description}
 use Rattle.events_frames.specs.EventParts.{Parts}
-use Rattle.events_stream.specs.Readings.{Reading, Said, NewDescription, NewTableMap, NewFile, NothingNew, IsTaken}
+use Rattle.events_stream.specs.Readings.{ReaderState, Change, NewDescription, NewTableMap, NewFile, NothingNew, IsAccepted}
 
--- these things were said by all events that were taken, the newest first
-pub data TakesAll (first : Reading) : List Said → Reading → Type 0 where
-  NoEvent : TakesAll first [] first
-  OneMore : (older : List Said) (old new : Reading) (event : List ℕ) (p : Parts) (taken : IsTaken old new event p) → TakesAll first older old → TakesAll first (taken.said ∷ older) new
+-- the changes of all accepted events, the newest first
+pub data AcceptsAll (first : ReaderState) : List Change → ReaderState → Type 0 where
+  NoEvent : AcceptsAll first [] first
+  OneMore : (older : List Change) (old new : ReaderState) (event : List ℕ) (p : Parts) (taken : IsAccepted old new event p) → AcceptsAll first older old → AcceptsAll first (taken.said ∷ older) new
 
--- the newest description, or this one where there is none
-abbrev pub newest_description : Description → List Said → Description
-newest_description first [] = first
-newest_description first (NewDescription d ∷ older) = d
-newest_description first (NewTableMap t ∷ older) = newest_description first older
-newest_description first (NewFile ∷ older) = newest_description first older
-newest_description first (NothingNew ∷ older) = newest_description first older
+-- the newest format description, or this one if there is none
+abbrev pub newest_described : Description → List Change → Description
+newest_described first [] = first
+newest_described first (NewDescription d ∷ older) = d
+newest_described first (NewTableMap t ∷ older) = newest_described first older
+newest_described first (NewFile ∷ older) = newest_described first older
+newest_described first (NothingNew ∷ older) = newest_described first older
 
--- the newest table map of the id, where no other file began behind it
-abbrev pub newest_table_map : ℕ → List Said → Option TableMap
+-- the newest table map with the table id, unless another file began after it
+abbrev pub newest_table_map : ℕ → List Change → Option TableMap
 newest_table_map id [] = None
 newest_table_map id (NewDescription d ∷ older) = newest_table_map id older
 newest_table_map id (NewTableMap t ∷ older) = if t.table_id == id then Some t else newest_table_map id older

@@ -1,51 +1,51 @@
--- That what was written is read again.
+-- What was written can be read again.
 use Rattle.std.specs.Prelude.{◌≡◌, ⊤, List, [], ℕ, Option}
-use Rattle.wire_buf.specs.Spelling.{ByteForm, Begins, Reads, AreBytes}
+use Rattle.wire_buf.specs.Encoding.{Encoding, Begins, Reads, AreBytes}
 use Rattle.wire_buf.specs.Writing.{WritesField}
-use Rattle.rows_events.specs.RowsEvents.{RowsBody, IsRowsEvent, rows_event_spelling, written_body, written_ctx}
+use Rattle.rows_events.specs.RowsEvents.{RowsBody, IsRowsEvent, rows_event_encoded, written_body, written_ctx}
 use Rattle.rows_events.specs.declared.rows_event_type.RowsEventType.{RowsEventType}
 use Rattle.events_rows.specs.RowsContexts.{described_ctx}
 use Rattle.events_frames.specs.Footers.{Footer, no_footer}
-use Rattle.events_frames.specs.Descriptions.{Description, IsFields, IsDescription, description_spelling, written_description}
+use Rattle.events_frames.specs.Descriptions.{Description, IsFields, IsDescription, description_encoded, written_description}
 
--- A form is read in one way: a value that is spelled at the front of bytes is the one that is read there.
-abbrev pub IsReadInOneWay : {A : Type 0} → ByteForm A → Type 0
-IsReadInOneWay {A} form = (v : A) (before after : List ℕ) → Begins (form v) before after → Reads form v before after
+-- Bytes that begin with the encoding of a value are read as this value.
+abbrev pub IsReadAsEncoded : {A : Type 0} → Encoding A → Type 0
+IsReadAsEncoded {A} encoding = (v : A) (before after : List ℕ) → Begins (encoding v) before after → Reads encoding v before after
 
 -- nothing follows
-abbrev pub AtEnd : List ℕ → Type 0
-AtEnd rest = rest ≡ []
+abbrev pub NothingFollows : List ℕ → Type 0
+NothingFollows rest = rest ≡ []
 
 -- any bytes may follow
-abbrev pub Anywhere : List ℕ → Type 0
-Anywhere rest = ⊤
+abbrev pub AnythingFollows : List ℕ → Type 0
+AnythingFollows rest = ⊤
 
--- The bytes that are written for a value, as the call `serialize` says them, are read as this value where no others follow.
-abbrev pub IsReadAgain : {A : Type 0} → (A → Option (List ℕ)) → ByteForm A → (List ℕ → Type 0) → Type 0
-IsReadAgain {A} spelling form suits = (v : A) (old new : List ℕ) (w : WritesField spelling form suits v old new) → Reads form v w.bytes []
+-- The bytes that `serialize` writes for a value are read as this value, if no bytes follow.
+abbrev pub IsReadAgain : {A : Type 0} → (A → Option (List ℕ)) → Encoding A → (List ℕ → Type 0) → Type 0
+IsReadAgain {A} encoded encoding allows_rest = (v : A) (old new : List ℕ) (w : WritesField encoded encoding allows_rest v old new) → Reads encoding v w.bytes []
 
--- A value that was read, written and read again is the same value. Here `written` says what of a value is written.
-abbrev pub IsSameAgain : {A : Type 0} → (A → A) → (A → Option (List ℕ)) → ByteForm A → (List ℕ → Type 0) → Type 0
-IsSameAgain {A} written spelling form suits =
-    (v : A) (body old new : List ℕ) → AreBytes body → Reads form v body [] → (w : WritesField spelling form suits (written v) old new) → Reads form v w.bytes []
+-- A value that was read, written and read again is the same value. `written` is the part of a value that is written.
+abbrev pub IsSameAgain : {A : Type 0} → (A → A) → (A → Option (List ℕ)) → Encoding A → (List ℕ → Type 0) → Type 0
+IsSameAgain {A} written encoded encoding allows_rest =
+    (v : A) (body old new : List ℕ) → AreBytes body → Reads encoding v body [] → (w : WritesField encoded encoding allows_rest (written v) old new) → Reads encoding v w.bytes []
 
--- Both of descriptions: their version is 4, and their footers stand behind the body, so that none is written with it.
+-- Both for format descriptions: their version is 4, and their footers follow the body, so none is written with it.
 abbrev pub IsDescriptionReadAgain : Type 0
 IsDescriptionReadAgain =
-    (d : Description) (old new : List ℕ) → d.version ≡ 4 → (w : WritesField description_spelling IsFields AtEnd d old new) → Reads IsDescription (record d { footer = no_footer }) w.bytes []
+    (d : Description) (old new : List ℕ) → d.version ≡ 4 → (w : WritesField description_encoded IsFields NothingFollows d old new) → Reads IsDescription (record d { footer = no_footer }) w.bytes []
 
 abbrev pub IsDescriptionSameAgain : Type 0
 IsDescriptionSameAgain =
     (d : Description) (footer : Footer) (body old new : List ℕ) → Reads IsDescription d body []
-    → (w : WritesField description_spelling IsFields AtEnd (written_description (record d { footer = footer })) old new) → Reads IsDescription d w.bytes []
+    → (w : WritesField description_encoded IsFields NothingFollows (written_description (record d { footer = footer })) old new) → Reads IsDescription d w.bytes []
 
--- Both of rows events of any type, where a description says no post-header lengths.
+-- Both for rows events of any type, if the format description lists no post-header lengths.
 abbrev pub IsRowsReadAgain : Type 0
 IsRowsReadAgain =
-    (r : RowsBody) (old new : List ℕ) (w : WritesField rows_event_spelling (λ r. IsRowsEvent (written_ctx r.event_type) r) AtEnd r old new)
+    (r : RowsBody) (old new : List ℕ) (w : WritesField rows_event_encoded (λ r. IsRowsEvent (written_ctx r.event_type) r) NothingFollows r old new)
     → Reads (IsRowsEvent (described_ctx r.event_type [])) r w.bytes []
 
 abbrev pub IsRowsSameAgain : Type 0
 IsRowsSameAgain =
     (t : RowsEventType) (r : RowsBody) (body old new : List ℕ) → Reads (IsRowsEvent (described_ctx t [])) r body []
-    → (w : WritesField rows_event_spelling (λ r. IsRowsEvent (written_ctx r.event_type) r) AtEnd (written_body r) old new) → Reads (IsRowsEvent (described_ctx t [])) r w.bytes []
+    → (w : WritesField rows_event_encoded (λ r. IsRowsEvent (written_ctx r.event_type) r) NothingFollows (written_body r) old new) → Reads (IsRowsEvent (described_ctx t [])) r w.bytes []

@@ -1,11 +1,10 @@
-//! The events of MySQL's binary logs: frames, headers, checksums and descriptions, the bodies of events, and the
-//! readers of streams and files.
+//! The events of MySQL's binary logs: frames, headers, checksums and format descriptions, the bodies of events, and the readers
+//! of streams and files.
 //!
-//! Each thing is made in a part of its own, which is re-exported whole: `events_frames` has frames, headers, footers,
-//! descriptions and the faults of events, `events_bodies` the plain bodies, `events_queries` the bodies that hold
-//! statements, and their status variables, `events_gtids` those of GTIDs, `events_rows` rows events by their types,
-//! `events_data` bodies of any type, and `events_stream` the readers of streams and files, and the writer. The parts stand
-//! on those of `mysql_binlog_rows` and `mysql_wire`.
+//! Each part is a crate, which is re-exported completely: `events_frames` has frames, headers, footers, format descriptions and
+//! event errors, `events_bodies` the bodies with a fixed layout, `events_queries` the bodies with statements and their status
+//! variables, `events_gtids` those with GTIDs, `events_rows` rows events by type, `events_data` bodies of any type, and
+//! `events_stream` the readers of streams and files, and the writer. The parts use those of `mysql_binlog_rows` and `mysql_wire`.
 #![tactic(auto)]
 
 pub mod laws;
@@ -14,7 +13,7 @@ pub use events_bodies::{
     BeginLoadQueryEvent, IncidentEvent, IntvarEvent, RandEvent, RotateEvent, RowsQueryEvent,
     UserVarEvent, XidEvent,
 };
-pub use events_data::{BodyForm, EventData};
+pub use events_data::{BodyFormat, EventData};
 pub use events_frames::{
     BinlogCtx, BinlogEvent, BinlogEventFooter, BinlogEventHeader, BinlogFileHeader, BinlogStruct,
     EventError, EventParts, FormatDescriptionEvent, NextFrame, calc_checksum, gather, next_frame,

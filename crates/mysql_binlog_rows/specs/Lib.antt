@@ -2,14 +2,14 @@ pub use Rattle.rows_consts.specs.EventTypes
 pub use Rattle.rows_consts.specs.StatusVarKeys
 pub use Rattle.rows_consts.specs.MetadataTypes
 pub use Rattle.rows_consts.specs.Constants
-pub use Rattle.rows_consts.specs.Refusals
+pub use Rattle.rows_consts.specs.Conversions
 pub use Rattle.rows_flags.specs.FlagTables
 pub use Rattle.rows_times.specs.Faults
 pub use Rattle.rows_times.specs.PackedTimes
 pub use Rattle.rows_times.specs.Readings
 pub use Rattle.rows_times.specs.ReadTimes
 pub use Rattle.rows_times.specs.TimeFields
-pub use Rattle.rows_times.specs.TimePlaces
+pub use Rattle.rows_times.specs.TimeBits
 pub use Rattle.rows_values.specs.Values
 pub use Rattle.rows_values.specs.Columns
 pub use Rattle.rows_values.specs.BitLists
@@ -19,7 +19,7 @@ pub use Rattle.rows_times.specs.TimeTexts
 pub use Rattle.rows_decimal.specs.Digits
 pub use Rattle.rows_decimal.specs.Decimals
 pub use Rattle.rows_decimal.specs.Steps
-pub use Rattle.rows_decimal.specs.GroupsLeft
+pub use Rattle.rows_decimal.specs.RemainingGroups
 pub use Rattle.rows_decimal.specs.Texts
 pub use Rattle.rows_decimal.specs.Unpacked
 pub use Rattle.rows_decimal.specs.PackedTexts
@@ -39,8 +39,8 @@ pub use Rattle.rows_jsonb.specs.JsonOpaqueText
 pub use Rattle.rows_jsonb.specs.JsonParsing
 pub use Rattle.rows_jsonb.specs.WorkedDocuments
 pub use Rattle.rows_cells.specs.Fields
-pub use Rattle.rows_cells.specs.ColumnForms
-pub use Rattle.rows_cells.specs.CellForms
+pub use Rattle.rows_cells.specs.ColumnFormats
+pub use Rattle.rows_cells.specs.CellSizes
 pub use Rattle.rows_cells.specs.CellValues
 pub use Rattle.rows_cells.specs.CellViews
 pub use Rattle.rows_cells.specs.Cells
@@ -50,7 +50,7 @@ pub use Rattle.rows_cells.specs.EventRows
 pub use Rattle.rows_cells.specs.RowViews
 pub use Rattle.rows_cells.specs.BinlogValues
 pub use Rattle.rows_optional.specs.Entries
-pub use Rattle.rows_optional.specs.EntryRefusals
+pub use Rattle.rows_optional.specs.EntryErrors
 pub use Rattle.rows_optional.specs.Lists
 pub use Rattle.rows_optional.specs.KnownConstants
 pub use Rattle.rows_optional.specs.MetadataFields
@@ -58,7 +58,7 @@ pub use Rattle.rows_optional.specs.Members
 pub use Rattle.rows_optional.specs.Extracted
 pub use Rattle.rows_optional.specs.Served
 pub use Rattle.rows_optional.specs.MetadataViews
-pub use Rattle.rows_optional.specs.FieldSpellings
+pub use Rattle.rows_optional.specs.FieldEncodings
 pub use Rattle.rows_meta.specs.TableMaps
 pub use Rattle.rows_meta.specs.ColumnTypes
 pub use Rattle.rows_meta.specs.ColumnMetadata
@@ -70,7 +70,7 @@ pub use Rattle.rows_images.specs.PlanViews
 pub use Rattle.rows_images.specs.Walks
 pub use Rattle.rows_images.specs.PickedColumns
 pub use Rattle.rows_images.specs.ImageShapes
-pub use Rattle.rows_images.specs.ImagePlaces
+pub use Rattle.rows_images.specs.ImageColumnIndexes
 pub use Rattle.rows_images.specs.OwnedRows
 pub use Rattle.rows_images.specs.PlainRows
 pub use Rattle.rows_images.specs.RowImages

@@ -1,15 +1,15 @@
-//! Laws of the parts, each proved as the contract of a function that does nothing.
+//! The laws of the parts. Each is a function without code; its contract is the law.
 
 pub use rows_cells::laws::{
     cells_are_read, images_are_read, kept_values_are_those_of_cells, lists_of_rows_are_read,
-    no_cell_begins_another, no_image_begins_another, rows_are_read,
+    no_cell_is_prefix_of_another, no_image_is_prefix_of_another, rows_are_read,
 };
 pub use rows_consts::laws::{
     numbers_are_distinct, orders_are_of_numbers, transaction_numbers, worked_numbers,
 };
 pub use rows_decimal::laws::{
-    named_numbers, numbers_in_order, only_zero_groups_are_dropped, packed_forms_are_read_back,
-    packed_forms_are_uniquely_read, packed_forms_are_unpacked, texts_are_taken_back,
+    named_numbers, numbers_in_order, only_zero_groups_are_dropped, packed_bytes_are_read_back,
+    packed_bytes_are_uniquely_read, packed_bytes_are_unpacked, texts_are_parsed_back,
     worked_decimals, worked_unpacking,
 };
 pub use rows_events::laws::{equal_events_say_the_same, events_are_written_whole};
@@ -17,9 +17,9 @@ pub use rows_jsonb::laws::{
     diffs_are_read, lists_of_diffs_are_read, worked_budget, worked_depth, worked_objects,
     worked_pointer,
 };
-pub use rows_meta::laws::{equal_maps_say_the_same, maps_are_written_whole};
-pub use rows_optional::laws::{entries_are_read, lists_are_read};
-pub use rows_times::laws::{fields_stand_at_their_places, times_by_cases, worked_time};
+pub use rows_meta::laws::{equal_maps_have_equal_contents, maps_are_written_completely};
+pub use rows_optional::laws::{entries_are_read, equal_fields_are_the_same, lists_are_read};
+pub use rows_times::laws::{packed_fields_are_read_back, times_by_cases, worked_time};
 pub use rows_values::laws::{
     equal_columns_and_times_are_the_same, equal_rows_are_the_same, equal_values_are_the_same,
     worked_bits, worked_time_values,

@@ -1,12 +1,11 @@
-//! The rows of MySQL's binary logs: the constants that speak of them, the times, decimals and values
-//! that their cells hold, columns and bits, table maps, rows events, and the rows in these.
+//! The rows of MySQL's binary logs: their constants; the times, decimals and values in their cells; columns and bits; table maps
+//! and rows events.
 //!
-//! Each thing is made in a part of its own, which is re-exported whole: `rows_consts` and `rows_flags` have
-//! the constants, `rows_times` the faults of rows and packed times, `rows_values` values, columns, rows and bits,
-//! `rows_decimal` the decimals, `rows_jsonb` JSON documents, whose values are `jsonb::Value`, `rows_cells` the cells
-//! of columns, the images of rows, and rows, `rows_optional` the optional metadata of table maps, `rows_meta` table
-//! maps, `rows_images` the plan of a table's columns and rows in memory of their own, and `rows_events` rows events.
-//! The parts stand on those of `mysql_wire`.
+//! Each part is a crate, which is re-exported completely: `rows_consts` and `rows_flags` have the constants, `rows_times` the
+//! errors of rows and packed times, `rows_values` values, columns, rows and bits, `rows_decimal` decimals, `rows_jsonb` JSON
+//! documents, whose values are `jsonb::Value`, `rows_cells` the cells of columns, the images of rows, and rows, `rows_optional`
+//! the optional metadata of table maps, `rows_meta` table maps, `rows_images` the plan of a table's columns and owned rows, and
+//! `rows_events` rows events. The parts use those of `mysql_wire`.
 #![tactic(auto)]
 
 pub mod laws;
@@ -14,7 +13,7 @@ pub mod laws;
 pub use rows_cells::BinlogValue;
 pub use rows_cells::BinlogValueCtx;
 pub use rows_cells::BinlogValueToValueError;
-pub use rows_cells::CellForm;
+pub use rows_cells::CellFormat;
 pub use rows_cells::CellRef;
 pub use rows_cells::ImageCells;
 pub use rows_cells::ImageColumn;
@@ -24,14 +23,14 @@ pub use rows_cells::RowPart;
 pub use rows_cells::RowPlan;
 pub use rows_cells::RowsCursor;
 pub use rows_cells::Width;
-pub use rows_cells::bytes_front;
-pub use rows_cells::cell_front;
-pub use rows_cells::datetime_front;
-pub use rows_cells::decimal_front;
-pub use rows_cells::few_bytes_front;
-pub use rows_cells::signed_front;
-pub use rows_cells::time_front;
-pub use rows_cells::unsigned_front;
+pub use rows_cells::read_bytes;
+pub use rows_cells::read_cell;
+pub use rows_cells::read_datetime;
+pub use rows_cells::read_few_bytes;
+pub use rows_cells::read_signed;
+pub use rows_cells::read_time;
+pub use rows_cells::read_unsigned;
+pub use rows_cells::split_decimal;
 pub use rows_consts::BINLOG_CHECKSUM_ALG_DESC_LEN;
 pub use rows_consts::BINLOG_CHECKSUM_LEN;
 pub use rows_consts::BinlogChecksumAlg;

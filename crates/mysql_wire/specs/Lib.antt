@@ -1,9 +1,9 @@
-pub use Rattle.wire_buf.specs.Spelling
+pub use Rattle.wire_buf.specs.Encoding
 pub use Rattle.wire_buf.specs.Eating
 pub use Rattle.wire_buf.specs.Numbers
 pub use Rattle.wire_buf.specs.Writing
-pub use Rattle.wire_buf.specs.Fronts
-pub use Rattle.wire_buf.specs.Refusals
+pub use Rattle.wire_buf.specs.LenencSplit
+pub use Rattle.wire_buf.specs.ReadErrors
 pub use Rattle.wire_ints.specs.Ints
 pub use Rattle.wire_ints.specs.Faults
 pub use Rattle.wire_ints.specs.Strings
@@ -28,10 +28,10 @@ pub use Rattle.wire_seqs.specs.Sequences
 pub use Rattle.wire_seqs.specs.Counts
 pub use Rattle.wire_packets.specs.Framing
 pub use Rattle.wire_packets.specs.Reading
-pub use Rattle.wire_packets.specs.Front
+pub use Rattle.wire_packets.specs.NextChunk
 pub use Rattle.wire_packets.specs.Chunks
 pub use Rattle.wire_packets.specs.Packets
-pub use Rattle.wire_packets.specs.Standing
+pub use Rattle.wire_packets.specs.CodecState
 pub use Rattle.wire_packets.specs.Pieces
 pub use Rattle.wire_packets.specs.Laws
 pub use Rattle.wire_packets.specs.Version

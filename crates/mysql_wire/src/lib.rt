@@ -1,8 +1,8 @@
-//! The wire of MySQL's protocol: buffers, numbers, raw forms of fields, constants, and packets.
+//! MySQL's wire format: buffers, integers, fields, constants, and packets.
 //!
-//! Each stands in a part of its own, which is re-exported whole. `laws` has what holds of framings and packets themselves
-//! and of the representations of numbers and strings. `Watched` is a reader or a writer of which it is known whether it
-//! failed.
+//! Each is a crate of its own, and all of its items are re-exported here. `laws` has the theorems about
+//! framings, packets, and the representations of integers and strings. `Watched` is a reader or a writer that
+//! remembers whether it failed.
 #![tactic(auto)]
 
 pub mod laws;
@@ -21,7 +21,7 @@ pub use wire_buf::WireFault;
 pub use wire_buf::WireSize;
 pub use wire_buf::read_exact;
 pub use wire_buf::read_more;
-pub use wire_buf::whole_or_none;
+pub use wire_buf::truncate_on_error;
 pub use wire_buf::write_all;
 pub use wire_consts::ColumnFlags;
 pub use wire_consts::ColumnType;

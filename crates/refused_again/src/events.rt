@@ -1,5 +1,5 @@
-//! Lists the events of a binary log, a line for each: the number of its type, the position after it in its log, and its size
-//! in bytes. Where memory is refused to `EventStreamReader`, the event is read again.
+//! Lists the events of a binary log, a line for each: the number of its type, the position after it in its log, and its size in
+//! bytes. If `EventStreamReader` runs out of memory, the event is read again.
 
 use events_frames::{BinlogFileHeader, EventError};
 use events_stream::{Event, EventStreamReader};
@@ -8,10 +8,10 @@ use std::alloc::Global;
 use std::io::{self, Write};
 use wire_buf::Watched;
 
-/// Table maps are compared of the ids below this.
+/// Table maps are compared for the ids below this.
 const IDS: u64 = 1000;
 
-/// What a fault is called on standard error.
+/// The name of a fault on standard error.
 fn name_of(fault: EventError) -> &'static str {
     match fault {
         EventError::Memory => "Memory",
@@ -21,12 +21,12 @@ fn name_of(fault: EventError) -> &'static str {
     }
 }
 
-/// Two readers of one log. The other takes each event after the first, so that it knows what the first knew before it.
+/// Two readers of one log. The other takes each event after the first, so that it has the state that the first had before it.
 #[derive(Drop)]
 struct Readers {
     first: EventStreamReader,
     other: EventStreamReader,
-    was_refused: bool,
+    was_failed: bool,
 }
 
 impl Readers {
@@ -35,7 +35,7 @@ impl Readers {
         Ok(Readers {
             first: EventStreamReader::new(alloc, BinlogVersion::Version4)?,
             other: EventStreamReader::new(alloc, BinlogVersion::Version4)?,
-            was_refused: false,
+            was_failed: false,
         })
     }
 
@@ -45,7 +45,7 @@ impl Readers {
             && (0..IDS).all(|id| self.first.get_tme(id) == self.other.get_tme(id))
     }
 
-    /// The first reads the event at the front of the bytes; where it is refused memory, once more.
+    /// The first reader reads the event at the start of the bytes; once more if it runs out of memory.
     fn read_first(&mut self, bytes: &[u8]) -> Result<Option<Event<'static>>, &'static str> {
         match self.first.read(&mut Watched::new(bytes)) {
             Ok(event) => return Ok(event),
@@ -55,11 +55,11 @@ impl Readers {
         if !self.are_alike() {
             return Err("Changed");
         }
-        self.was_refused = true;
+        self.was_failed = true;
         self.first.read(&mut Watched::new(bytes)).map_err(name_of)
     }
 
-    /// So does the other.
+    /// The same for the other reader.
     fn read_other(&mut self, bytes: &[u8]) -> Result<(), &'static str> {
         for _ in 0..2 {
             match self.other.read(&mut Watched::new(bytes)) {
@@ -90,23 +90,23 @@ fn put_line(event: &Event<'_>, lines: &mut Vec<u8>) -> Result<(), &'static str> 
     Ok(())
 }
 
-/// Appends the lines of the events of a log, up to the first fault; answers whether a reader was refused memory.
+/// Appends the lines of the events of a log, up to the first fault; returns whether a reader ran out of memory.
 fn put_lines(alloc: Global, log: &[u8], lines: &mut Vec<u8>) -> Result<bool, &'static str> {
     let mut readers = Readers::new(alloc).map_err(name_of)?;
     let mut rest = log.get(BinlogFileHeader::LEN..).unwrap_or(&[]);
     for _ in 0..u64::MAX {
         let Some(event) = readers.read_first(rest)? else {
-            return Ok(readers.was_refused);
+            return Ok(readers.was_failed);
         };
         readers.read_other(rest)?;
         put_line(&event, lines)?;
         let size = event.header().event_size() as usize;
         rest = rest.get(size..).unwrap_or(&[]);
     }
-    Ok(readers.was_refused)
+    Ok(readers.was_failed)
 }
 
-/// Prints the events of a log; answers whether a reader was refused memory, and knew the same after it.
+/// Prints the events of a log; returns whether a reader ran out of memory and had the same state after it.
 pub(crate) fn print_events(rt: &HostRuntime, log: &[u8]) -> Result<bool, &'static str> {
     let alloc = rt.alloc();
     let mut lines = Vec::new(alloc);

@@ -1,11 +1,11 @@
-//! Goes on where memory was refused: `events` lists the events of the binary log on standard input by `EventStreamReader`,
-//! `follower` asks by `Follower::again` for what follows an answer, whose first bytes are on standard input, and `follower
-//! rest` feeds the rest of the answer before it asks once more. Without words it lists the events of a log that it carries
-//! with it, and then follows.
+//! Calls the library again after it ran out of memory. `events` lists the events of the binary log on standard input with
+//! `EventStreamReader`. `follower` follows the first bytes of the answer on standard input, and then asks with `Follower::again`
+//! for what follows them; `follower rest` feeds the rest of the answer before it asks once more. Without arguments the program
+//! lists the events of a built-in log, and then follows.
 //!
-//! `Unchanged` on standard error says that a reader was refused memory, and that the description in force and the table maps
-//! were as before; `Changed` is a fault. `Refused` says that memory was refused to the first call of `again`. A fault is named
-//! there too, and the status is 1.
+//! On standard error, `Unchanged` means that a reader ran out of memory, and that the description in force and the table maps
+//! were as before; `Changed` is a fault. `Refused` means that the first call of `again` ran out of memory. A fault is named there
+//! too, and the status is 1.
 #![tactic(auto)]
 
 mod events;
@@ -32,7 +32,7 @@ const ONE_INSERT: [u8; 142] = [
     0x8e, 0x00, 0x00, 0x00, 0x00, 0x00, 0x0b, 0x00, 0x00, 0x00, 0x00, 0x00, 0x00, 0x00,
 ];
 
-/// All that a reader gives, or `Read` or `Memory`.
+/// Reads all of a reader's bytes. The error is `Read` or `Memory`.
 fn whole<R: Read + Drop>(alloc: Global, mut reader: R) -> Result<Vec<u8>, &'static str> {
     let mut bytes = Vec::new(alloc);
     match reader.read_to_end(&mut bytes) {
@@ -42,7 +42,7 @@ fn whole<R: Read + Drop>(alloc: Global, mut reader: R) -> Result<Vec<u8>, &'stat
     }
 }
 
-/// The words of the command, or `Memory` or `Usage`.
+/// The arguments of the program. The error is `Memory` or `Usage`.
 fn words_of(rt: &HostRuntime) -> Result<Vec<String>, &'static str> {
     match env::args(rt) {
         Ok(words) => words.skip(1).collect(rt.alloc()).map_err(|_| "Memory"),
@@ -51,18 +51,18 @@ fn words_of(rt: &HostRuntime) -> Result<Vec<String>, &'static str> {
     }
 }
 
-/// Lists events; `Unchanged` where memory was refused.
+/// Lists events; returns `Unchanged` if a reader ran out of memory.
 fn list(rt: &HostRuntime, log: &[u8]) -> Result<Option<&'static str>, &'static str> {
     Ok(print_events(rt, log)?.then_some("Unchanged"))
 }
 
-/// Follows an answer; `Refused` where memory was refused.
+/// Follows an answer; returns `Refused` if `again` ran out of memory.
 fn follow(rt: &HostRuntime, takes_rest: bool) -> Result<Option<&'static str>, &'static str> {
     let answer = whole(rt.alloc(), rt.reader())?;
     Ok(print_request(rt, &answer, takes_rest)?.then_some("Refused"))
 }
 
-/// Does what the words ask for, and answers what it says on standard error, if anything.
+/// Runs what the arguments ask for, and returns what to print on standard error, if anything.
 fn run(rt: &HostRuntime) -> Result<Option<&'static str>, &'static str> {
     let words = words_of(rt)?;
     let Some((what, words)) = words.split_first() else {

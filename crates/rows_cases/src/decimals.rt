@@ -1,6 +1,6 @@
 //! Decimals.
 
-use crate::words::{Fault, byte_of, bytes_of, done, put_bytes, put_fault, put_text};
+use crate::words::{Fault, byte_of, bytes_of, done, put_bytes, put_error, put_rest, put_text};
 use feed_text::put_decimal;
 use rows_decimal::{Decimal, ParseDecimalError, decimal_numbers, put_decimal_text};
 use rows_times::RowsError;
@@ -8,7 +8,7 @@ use std::alloc::Global;
 use std::io::Write;
 use std::str;
 
-/// Appends the text of the decimal, by its copy; `append_text` and `to_string` give one text.
+/// Appends the text of the decimal, from its copy; `append_text` and `to_string` must give the same text.
 fn put_shown(alloc: Global, decimal: &Decimal, out: &mut Vec<u8>) -> Result<(), Fault> {
     let copy = decimal.clone(alloc)?;
     let shown = copy.to_string(alloc)?;
@@ -21,7 +21,7 @@ fn put_shown(alloc: Global, decimal: &Decimal, out: &mut Vec<u8>) -> Result<(), 
     Ok(())
 }
 
-/// The decimal of a text, by the call.
+/// The decimal of a text, parsed by the call.
 fn parsed(alloc: Global, call: &str, text: &[u8]) -> Result<Decimal, ParseDecimalError> {
     match call {
         "parse_bytes" => Decimal::parse_bytes(alloc, text),
@@ -33,22 +33,22 @@ fn parsed(alloc: Global, call: &str, text: &[u8]) -> Result<Decimal, ParseDecima
     }
 }
 
-/// `from_str TEXT`, `parse_bytes TEXT`, `parse_str_bytes TEXT`: the text of the decimal that the text is.
+/// `from_str TEXT`, `parse_bytes TEXT`, `parse_str_bytes TEXT`: the text of the decimal that is parsed.
 pub(crate) fn put_parsed(
     alloc: Global,
     call: &str,
-    given: &[&str],
+    arguments: &[&str],
     out: &mut Vec<u8>,
 ) -> Result<(), Fault> {
-    let [text] = given else {
+    let [text] = arguments else {
         return Err(Fault::NoCase);
     };
     put_shown(alloc, &parsed(alloc, call, &bytes_of(alloc, text)?)?, out)
 }
 
 /// The precision, the scale and the bytes of a case.
-fn shape_and_bytes(alloc: Global, given: &[&str]) -> Result<(u8, u8, Vec<u8>), Fault> {
-    let [precision, scale, bytes] = given else {
+fn shape_and_bytes(alloc: Global, arguments: &[&str]) -> Result<(u8, u8, Vec<u8>), Fault> {
+    let [precision, scale, bytes] = arguments else {
         return Err(Fault::NoCase);
     };
     Ok((
@@ -58,7 +58,8 @@ fn shape_and_bytes(alloc: Global, given: &[&str]) -> Result<(u8, u8, Vec<u8>), F
     ))
 }
 
-/// Whether the decimal that the bytes pack, with its zeros, is written as they stand. That of no digits has one.
+/// Whether the decimal that the bytes pack, with its leading zeros, is written as the same bytes. A decimal of no digits is
+/// written as one digit.
 fn is_written_back(alloc: Global, precision: u8, scale: u8, bytes: &[u8]) -> bool {
     if precision == 0 {
         return true;
@@ -76,7 +77,7 @@ fn is_written_back(alloc: Global, precision: u8, scale: u8, bytes: &[u8]) -> boo
     }
 }
 
-/// Whether `put_decimal_text` writes this text of the bytes, or none where there is none.
+/// Whether `put_decimal_text` writes this text for the bytes, or returns an error if there is none.
 fn is_put(precision: u8, scale: u8, bytes: &[u8], wanted: Option<&[u8]>) -> bool {
     if precision > 65 {
         return true;
@@ -95,7 +96,7 @@ fn is_put(precision: u8, scale: u8, bytes: &[u8], wanted: Option<&[u8]>) -> bool
     }
 }
 
-/// Whether `feed_text::put_decimal` appends this text, quoted, or returns an error where there is none.
+/// Whether `feed_text::put_decimal` appends this text, quoted, or returns an error if there is none.
 fn is_quoted(alloc: Global, shape: (u8, u8), bytes: &[u8], wanted: Option<&[u8]>) -> bool {
     let mut out = Vec::new(alloc);
     let put = put_decimal(bytes, shape.0, shape.1, &mut out);
@@ -115,9 +116,13 @@ fn unpacked_text(alloc: Global, shape: (u8, u8), bytes: &[u8]) -> Result<Vec<u8>
 }
 
 /// `from_bin PRECISION SCALE BYTES`: the text of the decimal that the bytes pack, by `from_bin`, `put_decimal_text` and
-/// `put_decimal`, with a remark for each that has another; the decimal must be written as the same bytes.
-pub(crate) fn put_from_bin(alloc: Global, given: &[&str], out: &mut Vec<u8>) -> Result<(), Fault> {
-    let (precision, scale, bytes) = shape_and_bytes(alloc, given)?;
+/// `put_decimal`, with a remark for each that differs; the decimal must be written as the same bytes.
+pub(crate) fn put_from_bin(
+    alloc: Global,
+    arguments: &[&str],
+    out: &mut Vec<u8>,
+) -> Result<(), Fault> {
+    let (precision, scale, bytes) = shape_and_bytes(alloc, arguments)?;
     let read = unpacked_text(alloc, (precision, scale), &bytes);
     let text = match &read {
         Ok(text) => Some(text.as_slice()),
@@ -134,13 +139,17 @@ pub(crate) fn put_from_bin(alloc: Global, given: &[&str], out: &mut Vec<u8>) -> 
     }
     match read {
         Ok(text) => Ok(out.extend_from_slice(&text)?),
-        Err(fault) => put_fault(fault, out),
+        Err(fault) => put_error(fault, out),
     }
 }
 
-/// `read_bin PRECISION SCALE BYTES`: the text of the decimal, or the fault, and the bytes that are left then, if any.
-pub(crate) fn put_read_bin(alloc: Global, given: &[&str], out: &mut Vec<u8>) -> Result<(), Fault> {
-    let (precision, scale, bytes) = shape_and_bytes(alloc, given)?;
+/// `read_bin PRECISION SCALE BYTES`: the text of the decimal, or the error, and the bytes that remain then, if any.
+pub(crate) fn put_read_bin(
+    alloc: Global,
+    arguments: &[&str],
+    out: &mut Vec<u8>,
+) -> Result<(), Fault> {
+    let (precision, scale, bytes) = shape_and_bytes(alloc, arguments)?;
     let mut input = bytes.as_slice();
     match Decimal::read_bin(
         alloc,
@@ -150,22 +159,18 @@ pub(crate) fn put_read_bin(alloc: Global, given: &[&str], out: &mut Vec<u8>) -> 
         false,
     ) {
         Ok(decimal) => put_shown(alloc, &decimal, out)?,
-        Err(fault) => put_fault(Fault::Rows(fault), out)?,
+        Err(fault) => put_error(Fault::Rows(fault), out)?,
     }
-    if !input.is_empty() {
-        put_text(" before ", out)?;
-        put_bytes(input, out)?;
-    }
-    Ok(())
+    put_rest(input, out)
 }
 
-/// `from_packed BYTES`: the text of the decimal of a document, by `from_packed` and `read_packed`.
+/// `from_packed BYTES`: the text of a decimal as packed in a JSON document, by `from_packed` and `read_packed`.
 pub(crate) fn put_from_packed(
     alloc: Global,
-    given: &[&str],
+    arguments: &[&str],
     out: &mut Vec<u8>,
 ) -> Result<(), Fault> {
-    let [bytes] = given else {
+    let [bytes] = arguments else {
         return Err(Fault::NoCase);
     };
     let bytes = bytes_of(alloc, bytes)?;
@@ -177,9 +182,13 @@ pub(crate) fn put_from_packed(
     put_shown(alloc, &decimal, out)
 }
 
-/// `write_bin TEXT`: the packed form of the decimal of a text, in hexadecimal, as long as `bin_size` says.
-pub(crate) fn put_written(alloc: Global, given: &[&str], out: &mut Vec<u8>) -> Result<(), Fault> {
-    let [text] = given else {
+/// `write_bin TEXT`: the packed bytes of the decimal of a text, in hexadecimal, as many as `bin_size` returns.
+pub(crate) fn put_written(
+    alloc: Global,
+    arguments: &[&str],
+    out: &mut Vec<u8>,
+) -> Result<(), Fault> {
+    let [text] = arguments else {
         return Err(Fault::NoCase);
     };
     let decimal = parsed(alloc, "parse_bytes", &bytes_of(alloc, text)?)?;
@@ -190,9 +199,13 @@ pub(crate) fn put_written(alloc: Global, given: &[&str], out: &mut Vec<u8>) -> R
     put_bytes(&packed, out)
 }
 
-/// `decimal_numbers PRECISION SCALE BYTES`: the sign, the number before the point and that after it, or `none`.
-pub(crate) fn put_numbers(alloc: Global, given: &[&str], out: &mut Vec<u8>) -> Result<(), Fault> {
-    let (precision, scale, bytes) = shape_and_bytes(alloc, given)?;
+/// `decimal_numbers PRECISION SCALE BYTES`: the sign, the number before the point and the number after it, or `none`.
+pub(crate) fn put_numbers(
+    alloc: Global,
+    arguments: &[&str],
+    out: &mut Vec<u8>,
+) -> Result<(), Fault> {
+    let (precision, scale, bytes) = shape_and_bytes(alloc, arguments)?;
     let written = match decimal_numbers(usize::from(precision), usize::from(scale), &bytes) {
         Some(it) => write!(
             out,
@@ -207,8 +220,8 @@ pub(crate) fn put_numbers(alloc: Global, given: &[&str], out: &mut Vec<u8>) -> R
 }
 
 /// `cmp TEXT TEXT`: the order of the decimals of two texts.
-pub(crate) fn put_order(alloc: Global, given: &[&str], out: &mut Vec<u8>) -> Result<(), Fault> {
-    let [one, other] = given else {
+pub(crate) fn put_order(alloc: Global, arguments: &[&str], out: &mut Vec<u8>) -> Result<(), Fault> {
+    let [one, other] = arguments else {
         return Err(Fault::NoCase);
     };
     let one = parsed(alloc, "from_str", &bytes_of(alloc, one)?)?;

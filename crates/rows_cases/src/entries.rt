@@ -1,6 +1,6 @@
-//! The parts of the optional metadata as fields: read, and written in their shortest form.
+//! The parts of the optional metadata as fields: read, and written in their shortest encoding.
 
-use crate::words::{Fault, bytes_of, put_bytes, put_number, put_text};
+use crate::words::{Fault, bytes_of, put_bytes, put_rest};
 use rows_optional::{
     ColumnCharsets, ColumnName, ColumnNames, DefaultCharset, EnumStrValue, EnumStrValues,
     EnumsStrValues, GeometryTypes, NonDefaultCharset, PrimaryKeyWithPrefix, PrimaryKeysWithPrefix,
@@ -10,7 +10,7 @@ use rows_times::RowsError;
 use std::alloc::Global;
 use wire_buf::{MyDeserialize, MySerialize, ParseBuf};
 
-/// Appends what is written of the value that the bytes begin with, and the number of the bytes after it.
+/// Appends what is written for the value that the bytes begin with, and the bytes after it.
 fn put_written<'a, T: MyDeserialize<'a, Ctx = (), Fault = RowsError> + MySerialize + Drop>(
     alloc: Global,
     bytes: &'a [u8],
@@ -21,16 +21,12 @@ fn put_written<'a, T: MyDeserialize<'a, Ctx = (), Fault = RowsError> + MySeriali
     let mut written = Vec::new(alloc);
     value.serialize(&mut written)?;
     put_bytes(&written, out)?;
-    if !buf.is_empty() {
-        put_text(" before ", out)?;
-        put_number(buf.len() as u64, out)?;
-    }
-    Ok(())
+    put_rest(buf.0, out)
 }
 
-/// `entry TYPE BYTES`: what is written of a value of this type that the bytes begin with, and the number of the bytes after it.
-pub(crate) fn put_entry(alloc: Global, given: &[&str], out: &mut Vec<u8>) -> Result<(), Fault> {
-    let [name, bytes] = given else {
+/// `entry TYPE BYTES`: what is written for the value of this type that the bytes begin with, and the bytes after it.
+pub(crate) fn put_entry(alloc: Global, arguments: &[&str], out: &mut Vec<u8>) -> Result<(), Fault> {
+    let [name, bytes] = arguments else {
         return Err(Fault::NoCase);
     };
     let bytes = bytes_of(alloc, bytes)?;

@@ -1,4 +1,4 @@
-//! Constants, and the numbers that they are.
+//! Constants and their numbers.
 
 use crate::words::{Fault, done, number_of, put_number, put_text};
 use rows_consts::{
@@ -11,7 +11,7 @@ use std::fmt::{Debug, Display};
 use std::io::Write;
 use wire_consts::Constant;
 
-/// Appends the name of the constant that a number is, or the text of the error; returns whether it is a constant.
+/// Appends the name of the constant with this number, or the text of the error; returns whether there is such a constant.
 fn put_constant<P: PartialEq + Drop, C: Constant<P> + Debug, E: Display + Drop>(
     number: P,
     constant: Result<C, E>,
@@ -32,7 +32,7 @@ fn put_constant<P: PartialEq + Drop, C: Constant<P> + Debug, E: Display + Drop>(
     }
 }
 
-/// Appends the constant of a kind whose numbers are bytes.
+/// Appends the constant of a kind with one-byte numbers.
 fn put_byte(kind: &str, number: u8, out: &mut Vec<u8>) -> Result<bool, Fault> {
     match kind {
         "BinlogChecksumAlg" => put_constant(number, BinlogChecksumAlg::try_from(number), out),
@@ -56,7 +56,7 @@ fn put_byte(kind: &str, number: u8, out: &mut Vec<u8>) -> Result<bool, Fault> {
     }
 }
 
-/// Appends the constant of a kind whose numbers have two bytes.
+/// Appends the constant of a kind with two-byte numbers.
 fn put_two_bytes(kind: &str, number: u16, out: &mut Vec<u8>) -> Result<bool, Fault> {
     match kind {
         "BinlogVersion" => put_constant(number, BinlogVersion::try_from(number), out),
@@ -79,7 +79,7 @@ fn put_gno(number: u64, out: &mut Vec<u8>) -> Result<bool, Fault> {
     }
 }
 
-/// Appends the constant of a kind whose numbers have eight bytes.
+/// Appends the constant of a kind with eight-byte numbers.
 fn put_eight_bytes(kind: &str, number: u64, out: &mut Vec<u8>) -> Result<bool, Fault> {
     let byte = u8::try_from(number).unwrap_or(255);
     match kind {
@@ -101,7 +101,7 @@ fn put_eight_bytes(kind: &str, number: u64, out: &mut Vec<u8>) -> Result<bool, F
     }
 }
 
-/// Appends the constant of a kind that has the number, or the text of the error; returns whether there is one.
+/// Appends the constant of a kind with this number, or the text of the error; returns whether there is one.
 fn put_constant_of(kind: &str, number: u64, out: &mut Vec<u8>) -> Result<bool, Fault> {
     match kind {
         "BinlogVersion" | "IncidentType" => match u16::try_from(number) {
@@ -119,30 +119,34 @@ fn put_constant_of(kind: &str, number: u64, out: &mut Vec<u8>) -> Result<bool, F
     }
 }
 
-/// `number KIND NUMBER`: the name of the constant of this kind that has the number, or the text of the error. `long_` before
-/// the kind: by its number of eight bytes.
-pub(crate) fn put_named(given: &[&str], out: &mut Vec<u8>) -> Result<(), Fault> {
-    let [kind, number] = given else {
+/// `number KIND NUMBER`: the name of the constant of this kind with this number, or the text of the error. With `long_` before
+/// the kind: by its number in eight bytes.
+pub(crate) fn put_named(arguments: &[&str], out: &mut Vec<u8>) -> Result<(), Fault> {
+    let [kind, number] = arguments else {
         return Err(Fault::NoCase);
     };
     let _is_constant = put_constant_of(kind, number_of(number)?, out)?;
     Ok(())
 }
 
-/// Whether the constant's number is one of those of this kind; an error must name the number.
+/// Whether a constant of this kind has the number; an error must have the number.
 fn is_constant(alloc: Global, kind: &str, number: u64, out: &mut Vec<u8>) -> Result<bool, Fault> {
-    let (mut answer, mut digits) = (Vec::new(alloc), Vec::new(alloc));
+    let (mut result_of, mut digits) = (Vec::new(alloc), Vec::new(alloc));
     put_number(number, &mut digits)?;
-    let is_constant = put_constant_of(kind, number, &mut answer)?;
-    if !is_constant && !answer.ends_with(&digits) {
+    let is_constant = put_constant_of(kind, number, &mut result_of)?;
+    if !is_constant && !result_of.ends_with(&digits) {
         put_text(" another error", out)?;
     }
     Ok(is_constant)
 }
 
 /// `numbers KIND`: which of the numbers below 256 are constants of this kind: `0..3` are 0, 1 and 2.
-pub(crate) fn put_numbers(alloc: Global, given: &[&str], out: &mut Vec<u8>) -> Result<(), Fault> {
-    let [kind] = given else {
+pub(crate) fn put_numbers(
+    alloc: Global,
+    arguments: &[&str],
+    out: &mut Vec<u8>,
+) -> Result<(), Fault> {
+    let [kind] = arguments else {
         return Err(Fault::NoCase);
     };
     let mut ranges = Vec::new(alloc);

@@ -1,7 +1,7 @@
-//! The optional metadata of table maps: its fields, and what columns take from them.
+//! The optional metadata of table maps: its fields, and what columns use from them.
 
 use crate::words::{
-    Fault, bytes_of, done, put_bits, put_fault, put_item, put_name, put_number, put_text,
+    Fault, bytes_of, done, put_bits, put_error, put_item, put_name, put_number, put_text,
 };
 use rows_optional::{
     ColumnCharsets, ColumnName, ColumnNames, ColumnsStrValues, DefaultCharset, GeometryTypes,
@@ -14,13 +14,13 @@ use rows_values::Bits;
 use std::alloc::Global;
 use std::io::Write;
 
-/// Appends a space and the name of a fault.
-fn put_spaced_fault(fault: RowsError, out: &mut Vec<u8>) -> Result<(), Fault> {
+/// Appends a space and the name of an error.
+fn put_spaced_error(fault: RowsError, out: &mut Vec<u8>) -> Result<(), Fault> {
     out.push(b' ')?;
-    put_fault(Fault::Rows(fault), out)
+    put_error(Fault::Rows(fault), out)
 }
 
-/// Appends the name of a field, and ` 45` for its default character set with ` 2=33` for that of another column.
+/// Appends the name of a field, ` 45` for its default character set, and ` 2=33` for that of another column.
 fn put_default_charset(
     name: &str,
     charsets: DefaultCharset<'_>,
@@ -35,7 +35,7 @@ fn put_default_charset(
                 out.push(b'=')?;
                 put_number(u64::from(other.charset()), out)?;
             }
-            Err(fault) => put_spaced_fault(fault, out)?,
+            Err(fault) => put_spaced_error(fault, out)?,
         }
     }
     Ok(())
@@ -50,7 +50,7 @@ fn put_charsets(name: &str, charsets: ColumnCharsets<'_>, out: &mut Vec<u8>) -> 
     Ok(())
 }
 
-/// Appends a space and a column's name, in memory of its own.
+/// Appends a space and a column's name, owned.
 fn put_column_name(alloc: Global, name: ColumnName<'_>, out: &mut Vec<u8>) -> Result<(), Fault> {
     let owned = name.into_owned(alloc)?;
     let text = owned.name(alloc)?;
@@ -63,7 +63,7 @@ fn put_names(alloc: Global, names: IterNames<'_>, out: &mut Vec<u8>) -> Result<(
     for name in names {
         match name {
             Ok(name) => put_column_name(alloc, name, out)?,
-            Err(fault) => put_spaced_fault(fault, out)?,
+            Err(fault) => put_spaced_error(fault, out)?,
         }
     }
     Ok(())
@@ -95,7 +95,7 @@ fn put_columns_members(
     for members in columns.iter_values(alloc) {
         match members {
             Ok(members) => put_members(alloc, &members, out)?,
-            Err(fault) => put_spaced_fault(fault, out)?,
+            Err(fault) => put_spaced_error(fault, out)?,
         }
     }
     Ok(())
@@ -107,13 +107,13 @@ fn put_geometry_types(types: GeometryTypes<'_>, out: &mut Vec<u8>) -> Result<(),
     for geometry_type in types.iter_geometry_types() {
         match geometry_type {
             Ok(geometry_type) => done(write!(out, " {geometry_type:?}"))?,
-            Err(fault) => put_spaced_fault(fault, out)?,
+            Err(fault) => put_spaced_error(fault, out)?,
         }
     }
     Ok(())
 }
 
-/// Appends ` 2/5` for each column of a primary key with the length of its prefix.
+/// Appends ` 2/5` for each column of a primary key and the length of its prefix.
 fn put_prefixed_key(keys: PrimaryKeysWithPrefix<'_>, out: &mut Vec<u8>) -> Result<(), Fault> {
     put_text("PrimaryKeyWithPrefix", out)?;
     for key in keys.iter_keys() {
@@ -123,7 +123,7 @@ fn put_prefixed_key(keys: PrimaryKeysWithPrefix<'_>, out: &mut Vec<u8>) -> Resul
                 out.push(b'/')?;
                 put_number(key.prefix_length(), out)?;
             }
-            Err(fault) => put_spaced_fault(fault, out)?,
+            Err(fault) => put_spaced_error(fault, out)?,
         }
     }
     Ok(())
@@ -160,7 +160,7 @@ fn put_column_names(alloc: Global, names: ColumnNames<'_>, out: &mut Vec<u8>) ->
     put_names(alloc, names.iter_names(), out)
 }
 
-/// Appends a field: its name, and what it holds.
+/// Appends a field: its name and its contents.
 fn put_field(alloc: Global, field: Field<'_>, out: &mut Vec<u8>) -> Result<(), Fault> {
     match field {
         Field::Signedness(it) => put_bits_field("Signedness", it, out),
@@ -181,8 +181,8 @@ fn put_field(alloc: Global, field: Field<'_>, out: &mut Vec<u8>) -> Result<(), F
     }
 }
 
-/// Appends the fields, with `; ` between them, of at most so many bytes. Where a field can't be read that is its fault; after
-/// the last field there must be none.
+/// Appends the fields of optional metadata of at most `len` bytes, with `; ` between them. For a field that can't be read it
+/// appends the error; after the last field there must be none.
 pub(crate) fn put_fields(
     alloc: Global,
     fields: OptionalMetadataIter<'_>,
@@ -199,7 +199,7 @@ pub(crate) fn put_fields(
         }
         match field {
             Ok(field) => put_field(alloc, field, out)?,
-            Err(fault) => put_fault(Fault::Rows(fault), out)?,
+            Err(fault) => put_error(Fault::Rows(fault), out)?,
         }
     }
     if fields.next().is_some() {
@@ -209,8 +209,12 @@ pub(crate) fn put_fields(
 }
 
 /// `optional TYPES BYTES`: the fields of the optional metadata of a table with columns of these types.
-pub(crate) fn put_optional(alloc: Global, given: &[&str], out: &mut Vec<u8>) -> Result<(), Fault> {
-    let [types, bytes] = given else {
+pub(crate) fn put_optional(
+    alloc: Global,
+    arguments: &[&str],
+    out: &mut Vec<u8>,
+) -> Result<(), Fault> {
+    let [types, bytes] = arguments else {
         return Err(Fault::NoCase);
     };
     let (types, bytes) = (bytes_of(alloc, types)?, bytes_of(alloc, bytes)?);
@@ -222,7 +226,7 @@ pub(crate) fn put_optional(alloc: Global, given: &[&str], out: &mut Vec<u8>) -> 
     )
 }
 
-/// Appends a digit for each sign, where there are any.
+/// Appends a digit for each signedness bit, if there are any.
 fn put_signs(signs: IterSignedness<'_>, out: &mut Vec<u8>) -> Result<(), Fault> {
     let mut is_first = true;
     for is_unsigned in signs {
@@ -235,7 +239,7 @@ fn put_signs(signs: IterSignedness<'_>, out: &mut Vec<u8>) -> Result<(), Fault> 
     Ok(())
 }
 
-/// Appends ` 45 x300` for a character set that so many columns in sequence have; one has no count.
+/// Appends ` 45 x300` for a character set that this many consecutive columns have; without a count if it is one.
 fn put_run(
     charset: Option<Result<u16, RowsError>>,
     count: u64,
@@ -252,12 +256,12 @@ fn put_run(
     Ok(())
 }
 
-/// The character set of the next column. The sets of a default have no end.
+/// The character set of the next column. With a default character set they never end.
 fn next_charset(charsets: &mut IterCharset<'_>) -> Option<Result<u16, RowsError>> {
     charsets.next()
 }
 
-/// Appends the name and the character sets of the first 300 columns, where there are any.
+/// Appends the name and the character sets of the first 300 columns, if there are any.
 fn put_served_charsets(
     name: &str,
     charsets: IterCharset<'_>,
@@ -282,7 +286,7 @@ fn put_served_charsets(
     put_run(last, count, out)
 }
 
-/// Appends the columns of the primary key, where there are any; each is seen before it is taken.
+/// Appends the columns of the primary key, if there are any; each is peeked before it is taken.
 fn put_key(key: IterPrimaryKey<'_>, out: &mut Vec<u8>) -> Result<(), Fault> {
     let mut key = key;
     if key.peek().is_some() {
@@ -305,7 +309,7 @@ fn put_key(key: IterPrimaryKey<'_>, out: &mut Vec<u8>) -> Result<(), Fault> {
     Ok(())
 }
 
-/// Appends the names of columns, where there are any.
+/// Appends the names of columns, if there are any.
 fn put_taken_names(alloc: Global, names: IterNames<'_>, out: &mut Vec<u8>) -> Result<(), Fault> {
     let mut taken = Vec::new(alloc);
     put_names(alloc, names, &mut taken)?;
@@ -315,22 +319,22 @@ fn put_taken_names(alloc: Global, names: IterNames<'_>, out: &mut Vec<u8>) -> Re
     Ok(out.extend_from_slice(&taken)?)
 }
 
-/// `taken TYPES BYTES`: what the columns of a table with columns of these types take from its optional metadata.
-pub(crate) fn put_taken(alloc: Global, given: &[&str], out: &mut Vec<u8>) -> Result<(), Fault> {
-    let [types, bytes] = given else {
+/// `taken TYPES BYTES`: what the columns of a table with columns of these types use from its optional metadata.
+pub(crate) fn put_taken(alloc: Global, arguments: &[&str], out: &mut Vec<u8>) -> Result<(), Fault> {
+    let [types, bytes] = arguments else {
         return Err(Fault::NoCase);
     };
     let (types, bytes) = (bytes_of(alloc, types)?, bytes_of(alloc, bytes)?);
     let taken = OptionalMetaExtractor::new(OptionalMetadataIter::new(&types, &bytes))?;
-    let mut answer = Vec::new(alloc);
-    put_signs(taken.iter_signedness(), &mut answer)?;
-    put_served_charsets(" charsets", taken.iter_charset(), &mut answer)?;
+    let mut result_of = Vec::new(alloc);
+    put_signs(taken.iter_signedness(), &mut result_of)?;
+    put_served_charsets(" charsets", taken.iter_charset(), &mut result_of)?;
     put_served_charsets(
         " member charsets",
         taken.iter_enum_and_set_charset(),
-        &mut answer,
+        &mut result_of,
     )?;
-    put_key(taken.iter_primary_key(), &mut answer)?;
-    put_taken_names(alloc, taken.iter_column_name(), &mut answer)?;
-    Ok(out.extend_from_slice(answer.get(1..).unwrap_or(b""))?)
+    put_key(taken.iter_primary_key(), &mut result_of)?;
+    put_taken_names(alloc, taken.iter_column_name(), &mut result_of)?;
+    Ok(out.extend_from_slice(result_of.get(1..).unwrap_or(b""))?)
 }

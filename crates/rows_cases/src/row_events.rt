@@ -1,16 +1,17 @@
-//! Rows events: read and written.
+//! Rows events: reading and writing them.
 
 use crate::tables::{event_of, event_type_of};
 use crate::words::{
-    Fault, bytes_of, done, put_bits, put_bytes, put_number, put_text, small_len_of,
+    Fault, bytes_of, done, put_bits, put_bytes, put_number, put_text, put_written, small_len_of,
 };
 use rows_events::{RowsEvent, RowsEventType};
+use rows_times::RowsError;
 use rows_values::Bits;
 use std::alloc::Global;
 use std::io::Write;
 use wire_buf::MySerialize;
 
-/// Appends the event's type, and a remark where it isn't the one that it was read as.
+/// Appends the event's type, and a remark if it isn't the one that it was read as.
 fn put_type(event: &RowsEvent<'_>, wanted: RowsEventType, out: &mut Vec<u8>) -> Result<(), Fault> {
     let event_type = event.event_type();
     done(write!(out, "{event_type:?}"))?;
@@ -20,7 +21,7 @@ fn put_type(event: &RowsEvent<'_>, wanted: RowsEventType, out: &mut Vec<u8>) -> 
     Ok(())
 }
 
-/// Appends all flags, and those that are known, where others are set too.
+/// Appends all flags, and the known ones if others are set too.
 fn put_flags(event: &RowsEvent<'_>, out: &mut Vec<u8>) -> Result<(), Fault> {
     let known = u16::from(event.flags());
     put_text(" flags ", out)?;
@@ -32,7 +33,7 @@ fn put_flags(event: &RowsEvent<'_>, out: &mut Vec<u8>) -> Result<(), Fault> {
     Ok(())
 }
 
-/// Appends the name of an image and the bits of its columns, where the rows have it.
+/// Appends the name of an image and the bits of its columns, if the rows have it.
 fn put_image(name: &str, bits: Option<Bits<'_>>, out: &mut Vec<u8>) -> Result<(), Fault> {
     match bits {
         Some(bits) => {
@@ -43,27 +44,30 @@ fn put_image(name: &str, bits: Option<Bits<'_>>, out: &mut Vec<u8>) -> Result<()
     }
 }
 
-/// Appends what is written of the event in memory of its own, where these are other bytes than those that were read.
-fn put_written(
+/// The bytes that are written for an event.
+fn written(alloc: Global, event: &RowsEvent<'_>) -> Result<Vec<u8>, Fault> {
+    let mut bytes = Vec::new(alloc);
+    match event.serialize(&mut bytes) {
+        Ok(()) => Ok(bytes),
+        Err(fault) => Err(Fault::Wire(fault)),
+    }
+}
+
+/// Appends what is written for the owned event, if this differs from the bytes that were read.
+fn put_owned(
     alloc: Global,
-    event: RowsEvent<'_>,
+    event: &RowsEvent<'_>,
     bytes: &[u8],
     out: &mut Vec<u8>,
 ) -> Result<(), Fault> {
-    let owned = event.into_owned(alloc)?;
-    let mut written = Vec::new(alloc);
-    owned.serialize(&mut written)?;
-    if owned.len() != written.len() {
+    let written = written(alloc, event)?;
+    if event.len() != written.len() {
         put_text(" of another length", out)?;
     }
-    if written.as_slice() != bytes {
-        put_text(" written ", out)?;
-        put_bytes(&written, out)?;
-    }
-    Ok(())
+    put_written(&written, bytes, out)
 }
 
-/// Appends what the event holds.
+/// Appends the contents of the event.
 fn put_event(event: &RowsEvent<'_>, wanted: RowsEventType, out: &mut Vec<u8>) -> Result<(), Fault> {
     put_type(event, wanted, out)?;
     put_text(" table ", out)?;
@@ -77,20 +81,36 @@ fn put_event(event: &RowsEvent<'_>, wanted: RowsEventType, out: &mut Vec<u8>) ->
     put_bytes(event.rows_data(), out)
 }
 
-/// `rows_event TYPE LEN WRITE_LEN BYTES`: the rows event of this type that these bytes are, in a log with these post-header
-/// lengths of the type and of `WRITE_ROWS_EVENT`: what it holds, and what is written of it, where these are other bytes.
-pub(crate) fn put_rows_event(
+/// Appends the contents of the event, and what is written for it, if this differs from the bytes that were read.
+fn put_whole(
     alloc: Global,
-    given: &[&str],
+    event: RowsEvent<'_>,
+    wanted: RowsEventType,
+    bytes: &[u8],
     out: &mut Vec<u8>,
 ) -> Result<(), Fault> {
-    let [name, len, write_len, bytes] = given else {
+    put_event(&event, wanted, out)?;
+    match event.into_owned(alloc) {
+        Ok(owned) => put_owned(alloc, &owned, bytes, out),
+        Err(_) => Err(Fault::Rows(RowsError::Memory)),
+    }
+}
+
+/// `rows_event TYPE LEN WRITE_LEN BYTES`: the rows event of this type with these bytes, in a log with these post-header lengths
+/// for the type and for `WRITE_ROWS_EVENT`: its contents, and what is written for it, if this differs from the bytes.
+pub(crate) fn put_rows_event(
+    alloc: Global,
+    arguments: &[&str],
+    out: &mut Vec<u8>,
+) -> Result<(), Fault> {
+    let [name, len, write_len, bytes] = arguments else {
         return Err(Fault::NoCase);
     };
     let (len, write_len) = (small_len_of(len)?, small_len_of(write_len)?);
     let event_type = event_type_of(name)?;
     let bytes = bytes_of(alloc, bytes)?;
-    let event = event_of(alloc, name, len, write_len, &bytes)?;
-    put_event(&event, event_type, out)?;
-    put_written(alloc, event, &bytes, out)
+    match event_of(alloc, name, len, write_len, &bytes) {
+        Ok(event) => put_whole(alloc, event, event_type, &bytes, out),
+        Err(fault) => Err(fault),
+    }
 }

@@ -1,7 +1,7 @@
-//! The rows of an event, by each way to read them.
+//! The rows of an event, by each way of reading them.
 
-use crate::tables::{Table, event_bytes, event_of, map_bytes, map_of};
-use crate::words::{Fault, bytes_of, put_fault};
+use crate::tables::Table;
+use crate::words::{Fault, put_error};
 use feed_text::{TextBuffer, put_cell, put_cell_ref};
 use rows_cells::{ImageCells, ImagePlan, RowPart, RowPlan, RowsCursor};
 use rows_events::{EventColumns, RowsEvent, RowsEventRows};
@@ -17,11 +17,11 @@ type Pair = (Option<BinlogRow>, Option<BinlogRow>);
 /// The text of an event's rows, with a `;` after each.
 #[derive(Drop)]
 struct Rows {
-    /// The rows, and the cells before a fault.
+    /// The rows, and the cells before an error.
     text: Vec<u8>,
-    /// The length of the text of the whole rows.
+    /// The length of the text of the complete rows.
     whole: usize,
-    /// Why the rows end before the event does.
+    /// The error that ends the rows early.
     fault: Option<RowsError>,
 }
 
@@ -35,7 +35,7 @@ impl Rows {
         }
     }
 
-    /// No rows before these bytes, and why there are none.
+    /// No rows before these bytes, and the error.
     fn before(alloc: Global, bytes: &[u8], fault: RowsError) -> Rows {
         let mut rows = Rows::new(alloc);
         if !bytes.is_empty() {
@@ -50,11 +50,33 @@ impl Rows {
         self.whole = self.text.len();
         Ok(())
     }
+
+    /// Appends the text of a row.
+    fn put_row(&mut self, text: &[u8]) -> Result<(), RowsError> {
+        self.text.extend_from_slice(text)?;
+        self.end_row()
+    }
+
+    /// Keeps the error of a part or of a row, if it has one.
+    fn keep(&mut self, put: Result<(), RowsError>) {
+        if let Err(fault) = put {
+            self.fault = Some(fault);
+        }
+    }
+
+    /// Makes the rows differ from all other ones.
+    fn spoil(&mut self) {
+        self.whole = usize::MAX;
+    }
 }
 
-/// Whether both have the same whole rows and the same fault.
+/// Whether both have the same complete rows and the same error.
 fn are_same(one: &Rows, other: &Rows) -> bool {
-    one.text.get(..one.whole) == other.text.get(..other.whole) && one.fault == other.fault
+    one.fault == other.fault
+        && match (one.text.get(..one.whole), other.text.get(..other.whole)) {
+            (Some(text), Some(same)) => text == same,
+            _ => false,
+        }
 }
 
 /// Appends a part of a row.
@@ -66,34 +88,33 @@ fn put_part(alloc: Global, part: RowPart<'_>, rows: &mut Rows) -> Result<(), Row
     }
 }
 
-/// Keeps the fault, which the cursor must give again.
-fn put_end(
-    cursor: &mut RowsCursor<'_, '_>,
-    fault: RowsError,
-    rows: &mut Rows,
-) -> Result<(), RowsError> {
+/// Keeps the error of a cursor, which must return it again.
+fn keep_end(cursor: &mut RowsCursor<'_, '_>, fault: RowsError, rows: &mut Rows) {
     rows.fault = Some(fault);
     match cursor.next_part() {
-        Err(again) if again == fault => Ok(()),
-        _ => Ok(rows.text.extend_from_slice(b" and then not")?),
+        Err(again) if again == fault => {}
+        _ => rows.spoil(),
     }
 }
 
-/// The rows by a cursor over their parts.
-fn rows_by_parts(alloc: Global, cursor: RowsCursor<'_, '_>) -> Result<Rows, RowsError> {
+/// The rows, read part by part with a cursor.
+fn rows_by_parts(alloc: Global, cursor: RowsCursor<'_, '_>) -> Rows {
     let mut cursor = cursor;
     let mut rows = Rows::new(alloc);
     for _ in 0..u64::MAX {
         match cursor.next_part() {
-            Ok(Some(part)) => put_part(alloc, part, &mut rows)?,
-            Ok(None) => break,
-            Err(fault) => {
-                put_end(&mut cursor, fault, &mut rows)?;
-                break;
+            Ok(Some(part)) => {
+                let put = put_part(alloc, part, &mut rows);
+                rows.keep(put);
             }
+            Ok(None) => break,
+            Err(fault) => keep_end(&mut cursor, fault, &mut rows),
+        }
+        if rows.fault.is_some() {
+            break;
         }
     }
-    Ok(rows)
+    rows
 }
 
 /// Appends the cells of an image, and returns the bytes after it.
@@ -123,38 +144,38 @@ fn put_images<'a>(
     put_image(alloc, second, after_first, buffer)
 }
 
-/// The text of the row that the bytes begin with, and the bytes after it.
-fn row_text<'a>(
+/// Appends the row that the bytes begin with, and returns the bytes after it.
+fn put_next_row<'a>(
     alloc: Global,
     plan: RowPlan<'_>,
     bytes: &'a [u8],
-) -> Result<(TextBuffer<Global>, &'a [u8]), RowsError> {
+    rows: &mut Rows,
+) -> Result<&'a [u8], RowsError> {
     let mut buffer = TextBuffer::new(alloc);
-    let rest = put_images(alloc, plan, bytes, &mut buffer)?;
-    if rest.len() == bytes.len() {
-        return Err(RowsError::EmptyPair);
+    match put_images(alloc, plan, bytes, &mut buffer) {
+        Ok(rest) if rest.len() == bytes.len() => Err(RowsError::EmptyPair),
+        Ok(rest) => match rows.put_row(buffer.as_slice()) {
+            Ok(()) => Ok(rest),
+            Err(fault) => Err(fault),
+        },
+        Err(fault) => Err(fault),
     }
-    Ok((buffer, rest))
 }
 
-/// The rows image by image, each image's cells put into a buffer together.
-fn rows_by_images(alloc: Global, plan: RowPlan<'_>, bytes: &[u8]) -> Result<Rows, RowsError> {
+/// The rows image by image, with each image's cells appended to a buffer together.
+fn rows_by_images(alloc: Global, plan: RowPlan<'_>, bytes: &[u8]) -> Rows {
     let mut rows = Rows::new(alloc);
     let mut rest = bytes;
     for _ in 0..bytes.len() {
         if rest.is_empty() || rows.fault.is_some() {
             break;
         }
-        match row_text(alloc, plan, rest) {
-            Ok((text, after)) => {
-                rows.text.extend_from_slice(text.as_slice())?;
-                rows.end_row()?;
-                rest = after;
-            }
+        match put_next_row(alloc, plan, rest, &mut rows) {
+            Ok(after) => rest = after,
             Err(fault) => rows.fault = Some(fault),
         }
     }
-    Ok(rows)
+    rows
 }
 
 /// Appends the cells of a row.
@@ -198,58 +219,48 @@ fn has_columns(
     }
 }
 
-/// Appends a pair, and a remark where its columns are others than those of the event.
+/// Whether the columns of a pair are those of the event.
+fn have_columns(alloc: Global, plan: &ColumnPlan, event: &RowsEvent<'_>, pair: &Pair) -> bool {
+    has_columns(alloc, plan, event.columns_before_image(), pair.0.as_ref())
+        && has_columns(alloc, plan, event.columns_after_image(), pair.1.as_ref())
+}
+
+/// Appends a pair, or keeps its error. The columns of a pair must be those of the event.
 fn put_checked_pair(
     alloc: Global,
-    table: &Table<'_>,
+    plan: &ColumnPlan,
     event: &RowsEvent<'_>,
     pair: &Pair,
     rows: &mut Rows,
-) -> Result<(), RowsError> {
-    let (before, after) = (event.columns_before_image(), event.columns_after_image());
-    if !has_columns(alloc, &table.plan, before, pair.0.as_ref())
-        || !has_columns(alloc, &table.plan, after, pair.1.as_ref())
-    {
-        rows.text.extend_from_slice(b" of other columns")?;
+) {
+    let put = put_pair(alloc, pair, rows);
+    rows.keep(put);
+    if !have_columns(alloc, plan, event, pair) {
+        rows.spoil();
     }
-    put_pair(alloc, pair, rows)
 }
 
-/// The rows that an iterator gives in memory of their own. After a fault it must give nothing.
+/// The owned rows that an iterator returns. After an error it must return nothing.
 fn rows_in_memory(
     alloc: Global,
-    table: &Table<'_>,
+    plan: &ColumnPlan,
     event: &RowsEvent<'_>,
     pairs: RowsEventRows<'_>,
-) -> Result<Rows, RowsError> {
+) -> Rows {
     let mut rows = Rows::new(alloc);
     for pair in pairs {
         if rows.fault.is_some() {
-            rows.end_row()?;
+            rows.spoil();
         }
         match pair {
-            Ok(pair) => put_checked_pair(alloc, table, event, &pair, &mut rows)?,
+            Ok(pair) => put_checked_pair(alloc, plan, event, &pair, &mut rows),
             Err(fault) => rows.fault = Some(fault),
         }
     }
-    Ok(rows)
+    rows
 }
 
-/// The rows in memory of their own, by the plan of the table's columns.
-fn kept_by_plan(
-    alloc: Global,
-    table: &Table<'_>,
-    event: &RowsEvent<'_>,
-) -> Result<Rows, RowsError> {
-    rows_in_memory(alloc, table, event, event.rows_by(alloc, &table.plan))
-}
-
-/// The rows in memory of their own, by the table's map.
-fn kept_by_map(alloc: Global, table: &Table<'_>, event: &RowsEvent<'_>) -> Result<Rows, RowsError> {
-    rows_in_memory(alloc, table, event, event.rows(alloc, &table.map))
-}
-
-/// The row that is an image of these columns, or none where the event has no such image.
+/// The row of an image with these columns, or None if the event has no such image.
 fn row_of_image<'a>(
     alloc: Global,
     table: &'a Table<'a>,
@@ -266,7 +277,25 @@ fn row_of_image<'a>(
         has_shared_image,
         table_map: &table.map,
     };
-    Ok(Some(buf.parse::<BinlogRow>(alloc, ctx)?))
+    match buf.parse::<BinlogRow>(alloc, ctx) {
+        Ok(row) => Ok(Some(row)),
+        Err(fault) => Err(fault),
+    }
+}
+
+/// The next pair of the event, with this row before the change; the row after it is read as a field.
+fn pair_after<'a>(
+    alloc: Global,
+    table: &'a Table<'a>,
+    event: &'a RowsEvent<'a>,
+    before: Option<BinlogRow>,
+    buf: &mut ParseBuf<'a>,
+) -> Result<Pair, RowsError> {
+    let is_partial = event.images().has_partial_after();
+    match row_of_image(alloc, table, event.columns_after_image(), is_partial, buf) {
+        Ok(after) => Ok((before, after)),
+        Err(fault) => Err(fault),
+    }
 }
 
 /// The next pair of the event, each row read as a field.
@@ -276,18 +305,14 @@ fn next_pair<'a>(
     event: &'a RowsEvent<'a>,
     buf: &mut ParseBuf<'a>,
 ) -> Result<Pair, RowsError> {
-    let is_partial = event.images().has_partial_after();
-    let before = row_of_image(alloc, table, event.columns_before_image(), false, buf)?;
-    let after = row_of_image(alloc, table, event.columns_after_image(), is_partial, buf)?;
-    Ok((before, after))
+    match row_of_image(alloc, table, event.columns_before_image(), false, buf) {
+        Ok(before) => pair_after(alloc, table, event, before, buf),
+        Err(fault) => Err(fault),
+    }
 }
 
-/// The rows by their images, read one after the other as fields.
-fn rows_by_fields<'a>(
-    alloc: Global,
-    table: &'a Table<'a>,
-    event: &'a RowsEvent<'a>,
-) -> Result<Rows, RowsError> {
+/// The rows by their images, read as consecutive fields.
+fn rows_by_fields<'a>(alloc: Global, table: &'a Table<'a>, event: &'a RowsEvent<'a>) -> Rows {
     let mut rows = Rows::new(alloc);
     let mut buf = ParseBuf(event.rows_data());
     for _ in 0..event.rows_data().len() {
@@ -297,32 +322,24 @@ fn rows_by_fields<'a>(
         }
         match next_pair(alloc, table, event, &mut buf) {
             Ok(_) if buf.len() == left => rows.fault = Some(RowsError::EmptyPair),
-            Ok(pair) => put_checked_pair(alloc, table, event, &pair, &mut rows)?,
+            Ok(pair) => put_checked_pair(alloc, &table.plan, event, &pair, &mut rows),
             Err(fault) => rows.fault = Some(fault),
         }
     }
-    Ok(rows)
+    rows
 }
 
-/// Appends a remark where the rows by another call are others.
-fn put_other(
-    call: &str,
-    other: Result<Rows, RowsError>,
-    rows: &Rows,
-    out: &mut Vec<u8>,
-) -> Result<(), Fault> {
-    let other = other?;
+/// Appends a remark if the rows by another call differ.
+fn put_other(call: &[u8], other: Rows, rows: &Rows, out: &mut Vec<u8>) -> Result<(), Fault> {
     if are_same(&other, rows) {
         return Ok(());
     }
-    out.extend_from_slice(b"otherwise by ")?;
-    out.extend_from_slice(call.as_bytes())?;
-    out.push(b' ')?;
+    out.extend_from_slice(call)?;
     Ok(out.extend_from_slice(&other.text)?)
 }
 
-/// Appends the rows, and the fault that ends them.
-fn put_answer(rows: &Rows, out: &mut Vec<u8>) -> Result<(), Fault> {
+/// Appends the rows, and the error that ends them.
+fn put_result(rows: &Rows, out: &mut Vec<u8>) -> Result<(), Fault> {
     out.extend_from_slice(rows.text.get(1..).unwrap_or(b""))?;
     let Some(fault) = rows.fault else {
         return Ok(());
@@ -330,84 +347,69 @@ fn put_answer(rows: &Rows, out: &mut Vec<u8>) -> Result<(), Fault> {
     if !rows.text.is_empty() {
         out.push(b' ')?;
     }
-    put_fault(Fault::Rows(fault), out)
+    put_error(Fault::Rows(fault), out)
 }
 
-/// The rows by the plan of the table's columns. Where an event without rows has a column without a plan, that is no fault.
-fn rows_by_plan(
-    alloc: Global,
-    plan: &ColumnPlan,
-    event: &RowsEvent<'_>,
-) -> Result<Rows, RowsError> {
+/// The rows by the plan of the table's columns. For an event without rows, a column without a plan isn't an error.
+fn rows_by_plan(alloc: Global, plan: &ColumnPlan, event: &RowsEvent<'_>) -> Rows {
     let mut columns = EventColumns::new(alloc);
     match columns.fill(event, plan) {
         Ok(()) => rows_by_parts(alloc, event.cursor(&columns)),
-        Err(fault) => Ok(Rows::before(alloc, event.rows_data(), fault)),
+        Err(fault) => Rows::before(alloc, event.rows_data(), fault),
     }
 }
 
 /// The same rows borrowed from the event, as the feed reads them.
-fn borrowed_rows(alloc: Global, pairs: &RowsEventRows<'_>) -> Result<Rows, RowsError> {
+fn borrowed_rows(alloc: Global, pairs: &RowsEventRows<'_>) -> Rows {
     let mut columns = EventColumns::new(alloc);
     match pairs.images_in(&mut columns) {
         Ok(plan) => rows_by_images(alloc, plan, pairs.rest()),
-        Err(fault) => Ok(Rows::before(alloc, pairs.rest(), fault)),
+        Err(fault) => Rows::before(alloc, pairs.rest(), fault),
     }
 }
 
-/// The same rows, borrowed, by the plan of the table's columns.
-fn borrowed_by_plan(
+/// Appends a remark for each way of reading the rows by this iterator that gives other rows: borrowed and owned.
+fn put_others(
+    alloc: Global,
+    plan: &ColumnPlan,
+    event: &RowsEvent<'_>,
+    pairs: RowsEventRows<'_>,
+    rows: &Rows,
+    out: &mut Vec<u8>,
+) -> Result<(), Fault> {
+    put_other(
+        b"otherwise by images_in ",
+        borrowed_rows(alloc, &pairs),
+        rows,
+        out,
+    )?;
+    let owned = rows_in_memory(alloc, plan, event, pairs);
+    put_other(b"otherwise in memory ", owned, rows, out)
+}
+
+/// Appends the rows, and remarks for the other ways of reading them: by the plan, by the table map, and each image as a field.
+fn put_compared(
     alloc: Global,
     table: &Table<'_>,
     event: &RowsEvent<'_>,
-) -> Result<Rows, RowsError> {
-    borrowed_rows(alloc, &event.rows_by(alloc, &table.plan))
+    rows: &Rows,
+    out: &mut Vec<u8>,
+) -> Result<(), Fault> {
+    let plan = &table.plan;
+    put_others(alloc, plan, event, event.rows_by(alloc, plan), rows, out)?;
+    put_others(alloc, plan, event, event.rows(alloc, &table.map), rows, out)?;
+    let by_fields = rows_by_fields(alloc, table, event);
+    put_other(b"otherwise by fields ", by_fields, rows, out)?;
+    put_result(rows, out)
 }
 
-/// The same rows, borrowed, by the table's map.
-fn borrowed_by_map(
-    alloc: Global,
-    table: &Table<'_>,
-    event: &RowsEvent<'_>,
-) -> Result<Rows, RowsError> {
-    borrowed_rows(alloc, &event.rows(alloc, &table.map))
-}
-
-/// Appends the rows, and a remark for each other way to read them that gives other rows.
-fn put_all(
+/// Appends the rows of an event; the error of the first row that can't be read is after the cells before it.
+pub(crate) fn put_rows(
     alloc: Global,
     table: &Table<'_>,
     event: &RowsEvent<'_>,
     out: &mut Vec<u8>,
 ) -> Result<(), Fault> {
-    let rows = rows_by_plan(alloc, &table.plan, event)?;
-    put_other(
-        "images_in",
-        borrowed_by_plan(alloc, table, event),
-        &rows,
-        out,
-    )?;
-    put_other(
-        "images_in of rows",
-        borrowed_by_map(alloc, table, event),
-        &rows,
-        out,
-    )?;
-    put_other("rows_by", kept_by_plan(alloc, table, event), &rows, out)?;
-    put_other("rows", kept_by_map(alloc, table, event), &rows, out)?;
-    put_other("fields", rows_by_fields(alloc, table, event), &rows, out)?;
-    put_answer(&rows, out)
-}
-
-/// `rows TYPE TYPES METADATA OPTIONAL EVENT`: the rows of an event of this type, whose bytes are those after its flags and
-/// extra data, of a table with columns of these types, this metadata and this optional metadata; and the fault of the first
-/// row that can't be read, after its cells before it.
-pub(crate) fn put_rows(alloc: Global, given: &[&str], out: &mut Vec<u8>) -> Result<(), Fault> {
-    let [name, types, metadata, optional, event] = given else {
-        return Err(Fault::NoCase);
-    };
-    let map = map_bytes(alloc, types, metadata, optional)?;
-    let table = Table::of(alloc, map_of(alloc, &map)?)?;
-    let event = event_bytes(alloc, &bytes_of(alloc, event)?)?;
-    put_all(alloc, &table, &event_of(alloc, name, 10, 10, &event)?, out)
+    let rows = rows_by_plan(alloc, &table.plan, event);
+    put_compared(alloc, table, event, &rows, out)
 }

@@ -1,33 +1,34 @@
-//! Table maps: read and written, their columns, and the plans of the columns.
+//! Table maps: reading and writing them, their columns, and the plans of the columns.
 
 use crate::optional::put_fields;
-use crate::tables::{Table, event_bytes, event_of, map_bytes, map_of};
 use crate::words::{
-    Fault, bytes_of, done, put_bytes, put_name, put_number, put_text, put_type, small_len_of,
+    Fault, bytes_of, done, put_bytes, put_name, put_number, put_text, put_type, put_written,
+    small_len_of,
 };
 use feed_text::quote;
 use rows_events::RowsEvent;
 use rows_images::ColumnPlan;
 use rows_meta::TableMapEvent;
+use rows_times::RowsError;
 use rows_values::Column;
 use std::alloc::Global;
 use std::io::Write;
 use wire_buf::{MySerialize, ParseBuf};
 
-/// Appends the table map's number, flags and names.
+/// Appends the table id, the flags and the names of the table map.
 fn put_head(alloc: Global, map: &TableMapEvent<'_>, out: &mut Vec<u8>) -> Result<(), Fault> {
     put_text("table ", out)?;
     put_number(map.table_id(), out)?;
     put_text(" flags ", out)?;
     put_number(u64::from(map.flags()), out)?;
-    let (database, table) = (map.database_name(alloc)?, map.table_name(alloc)?);
     out.push(b' ')?;
+    let database = map.database_name(alloc)?;
     put_name(map.database_name_raw(), database, out)?;
     out.push(b' ')?;
-    put_name(map.table_name_raw(), table, out)
+    put_name(map.table_name_raw(), map.table_name(alloc)?, out)
 }
 
-/// Appends what the table map has of columns, as bytes.
+/// Appends the fields of the table map about columns, as bytes.
 fn put_columns_bytes(map: &TableMapEvent<'_>, out: &mut Vec<u8>) -> Result<(), Fault> {
     put_text(" types ", out)?;
     put_bytes(map.column_types_raw(), out)?;
@@ -40,7 +41,7 @@ fn put_columns_bytes(map: &TableMapEvent<'_>, out: &mut Vec<u8>) -> Result<(), F
     put_bytes(map.null_bitmask(), out)
 }
 
-/// Appends the number of JSON columns and the fields of the optional metadata, where there are any.
+/// Appends the number of JSON columns and the fields of the optional metadata, if there are any.
 fn put_tail(alloc: Global, map: &TableMapEvent<'_>, out: &mut Vec<u8>) -> Result<(), Fault> {
     if map.json_column_count() > 0 {
         put_text(" json ", out)?;
@@ -56,55 +57,71 @@ fn put_tail(alloc: Global, map: &TableMapEvent<'_>, out: &mut Vec<u8>) -> Result
     put_fields(alloc, map.iter_optional_meta(), optional.len(), out)
 }
 
-/// Appends what the table map holds.
+/// Appends the contents of the table map.
 fn put_map(alloc: Global, map: &TableMapEvent<'_>, out: &mut Vec<u8>) -> Result<(), Fault> {
     put_head(alloc, map, out)?;
     put_columns_bytes(map, out)?;
     put_tail(alloc, map, out)
 }
 
-/// Appends what is written of the table map in memory of its own, where these are other bytes than those that were read.
-fn put_written(
+/// The bytes that are written for a table map.
+fn written(alloc: Global, map: &TableMapEvent<'_>) -> Result<Vec<u8>, Fault> {
+    let mut bytes = Vec::new(alloc);
+    match map.serialize(&mut bytes) {
+        Ok(()) => Ok(bytes),
+        Err(fault) => Err(Fault::Wire(fault)),
+    }
+}
+
+/// Appends what is written for the owned table map, if this differs from the bytes that were read.
+fn put_owned(
+    alloc: Global,
+    map: &TableMapEvent<'_>,
+    bytes: &[u8],
+    out: &mut Vec<u8>,
+) -> Result<(), Fault> {
+    let written = written(alloc, map)?;
+    if map.len() != written.len() {
+        put_text(" of another length", out)?;
+    }
+    put_written(&written, bytes, out)
+}
+
+/// Appends the contents of a table map, and what is written for it, if this differs from the bytes that were read.
+fn put_whole(
     alloc: Global,
     map: TableMapEvent<'_>,
     bytes: &[u8],
     out: &mut Vec<u8>,
 ) -> Result<(), Fault> {
-    let len = map.len();
-    let owned = map.into_owned(alloc)?;
-    let mut written = Vec::new(alloc);
-    owned.serialize(&mut written)?;
-    if len != written.len() {
-        put_text(" of another length", out)?;
+    put_map(alloc, &map, out)?;
+    match map.into_owned(alloc) {
+        Ok(owned) => put_owned(alloc, &owned, bytes, out),
+        Err(_) => Err(Fault::Rows(RowsError::Memory)),
     }
-    if written.as_slice() != bytes {
-        put_text(" written ", out)?;
-        put_bytes(&written, out)?;
-    }
-    Ok(())
 }
 
-/// `table_map LEN BYTES`: the table map that these bytes are, by this post-header length: what it holds, and what is written
-/// of it, where these are other bytes.
-pub(crate) fn put_table_map(alloc: Global, given: &[&str], out: &mut Vec<u8>) -> Result<(), Fault> {
-    let [len, bytes] = given else {
+/// `table_map LEN BYTES`: the table map with these bytes, for this post-header length: its contents, and what is written for it,
+/// if this differs from the bytes.
+pub(crate) fn put_table_map(
+    alloc: Global,
+    arguments: &[&str],
+    out: &mut Vec<u8>,
+) -> Result<(), Fault> {
+    let [len, bytes] = arguments else {
         return Err(Fault::NoCase);
     };
     let (len, bytes) = (small_len_of(len)?, bytes_of(alloc, bytes)?);
-    let map = ParseBuf(&bytes).parse::<TableMapEvent<'_>>(alloc, len)?;
-    put_map(alloc, &map, out)?;
-    put_written(alloc, map, &bytes, out)
+    match ParseBuf(&bytes).parse::<TableMapEvent<'_>>(alloc, len) {
+        Ok(map) => put_whole(alloc, map, &bytes, out),
+        Err(fault) => Err(Fault::Wire(fault)),
+    }
 }
 
-/// Appends the real type of the column at the index, or why it has none, and its metadata.
-fn put_column(
-    alloc: Global,
-    map: &TableMapEvent<'_>,
-    index: usize,
-    out: &mut Vec<u8>,
-) -> Result<(), Fault> {
+/// Appends the real type of the column at the index, or the error, and its metadata.
+fn put_column(map: &TableMapEvent<'_>, index: usize, out: &mut Vec<u8>) -> Result<(), Fault> {
     match map.get_column_type(index) {
-        Ok(Some(column_type)) => put_type(alloc, column_type, out)?,
+        Ok(Some(column_type)) => put_type(column_type, out)?,
         Ok(None) => put_text("none", out)?,
         Err(bad) => done(write!(out, "{bad:?}"))?,
     }
@@ -118,14 +135,14 @@ fn put_column(
     }
 }
 
-/// Appends the columns of a table map. There is none after them.
-fn put_each_column(alloc: Global, map: &TableMapEvent<'_>, out: &mut Vec<u8>) -> Result<(), Fault> {
+/// Appends the columns of a table map. There must be none after them.
+pub(crate) fn put_each_column(map: &TableMapEvent<'_>, out: &mut Vec<u8>) -> Result<(), Fault> {
     let count = map.column_types_raw().len();
     for index in 0..count {
         if index > 0 {
             out.push(b' ')?;
         }
-        put_column(alloc, map, index, out)?;
+        put_column(map, index, out)?;
     }
     if map.get_column_metadata(count).is_some() || map.get_column_type(count) != Ok(None) {
         put_text(" and more", out)?;
@@ -133,18 +150,8 @@ fn put_each_column(alloc: Global, map: &TableMapEvent<'_>, out: &mut Vec<u8>) ->
     Ok(())
 }
 
-/// `columns TYPES METADATA`: the real type and the metadata of each column of a table.
-pub(crate) fn put_columns(alloc: Global, given: &[&str], out: &mut Vec<u8>) -> Result<(), Fault> {
-    let [types, metadata] = given else {
-        return Err(Fault::NoCase);
-    };
-    let bytes = map_bytes(alloc, types, metadata, "")?;
-    let map = map_of(alloc, &bytes)?;
-    put_each_column(alloc, &map, out)
-}
-
-/// Appends how many columns have a plan, and the number of JSON columns.
-fn put_reach(plan: &ColumnPlan, out: &mut Vec<u8>) -> Result<(), Fault> {
+/// Appends the number of columns that have a plan, and the number of JSON columns.
+pub(crate) fn put_reach(plan: &ColumnPlan, out: &mut Vec<u8>) -> Result<(), Fault> {
     match plan.reach() {
         Some(reach) => put_number(reach, out)?,
         None => put_text("none", out)?,
@@ -156,20 +163,9 @@ fn put_reach(plan: &ColumnPlan, out: &mut Vec<u8>) -> Result<(), Fault> {
     Ok(())
 }
 
-/// `plan TYPES METADATA OPTIONAL`: how many of a table's columns have a plan, or `none` where not even a table without
-/// columns has one; and the number of its JSON columns, if there are any.
-pub(crate) fn put_plan(alloc: Global, given: &[&str], out: &mut Vec<u8>) -> Result<(), Fault> {
-    let [types, metadata, optional] = given else {
-        return Err(Fault::NoCase);
-    };
-    let bytes = map_bytes(alloc, types, metadata, optional)?;
-    let table = Table::of(alloc, map_of(alloc, &bytes)?)?;
-    put_reach(&table.plan, out)
-}
-
-/// Appends the definition of a column: its type, its name, its flags and its character set, if it has any.
-fn put_definition(alloc: Global, column: &Column, out: &mut Vec<u8>) -> Result<(), Fault> {
-    put_type(alloc, column.column_type(), out)?;
+/// Appends the definition of a column: its type, its name, its flags and its character set, if it has these.
+fn put_definition(column: &Column, out: &mut Vec<u8>) -> Result<(), Fault> {
+    put_type(column.column_type(), out)?;
     out.push(b' ')?;
     quote(column.name_ref(), out)?;
     let flags = u16::from(column.flags());
@@ -192,43 +188,29 @@ fn put_definition(alloc: Global, column: &Column, out: &mut Vec<u8>) -> Result<(
     Ok(())
 }
 
-/// Appends definitions of columns.
-fn put_each_definition(alloc: Global, columns: &[Column], out: &mut Vec<u8>) -> Result<(), Fault> {
+/// Appends the definitions of columns.
+fn put_each_definition(columns: &[Column], out: &mut Vec<u8>) -> Result<(), Fault> {
     for (index, column) in columns.iter().enumerate() {
         if index > 0 {
             put_text(", ", out)?;
         }
-        put_definition(alloc, column, out)?;
+        put_definition(column, out)?;
     }
     Ok(())
 }
 
-/// Appends the definitions of the columns that the inserted rows have.
-fn put_definitions_by(
+/// Appends the definitions of the columns in the rows after the change.
+pub(crate) fn put_definitions(
     alloc: Global,
     plan: &ColumnPlan,
     event: &RowsEvent<'_>,
     out: &mut Vec<u8>,
 ) -> Result<(), Fault> {
     match event.columns_after_image() {
-        Some(bits) => put_each_definition(alloc, &plan.definitions(alloc, bits)?, out),
+        Some(bits) => match plan.definitions(alloc, bits) {
+            Ok(columns) => put_each_definition(&columns, out),
+            Err(fault) => Err(Fault::Rows(fault)),
+        },
         None => Err(Fault::NoCase),
     }
-}
-
-/// `definitions TYPES METADATA OPTIONAL EVENT`: the definitions of the columns that an inserted row has, whose event begins
-/// with its number of columns and their bits.
-pub(crate) fn put_definitions(
-    alloc: Global,
-    given: &[&str],
-    out: &mut Vec<u8>,
-) -> Result<(), Fault> {
-    let [types, metadata, optional, event] = given else {
-        return Err(Fault::NoCase);
-    };
-    let event = event_bytes(alloc, &bytes_of(alloc, event)?)?;
-    let map = map_bytes(alloc, types, metadata, optional)?;
-    let table = Table::of(alloc, map_of(alloc, &map)?)?;
-    let event = event_of(alloc, "WriteRows", 10, 10, &event)?;
-    put_definitions_by(alloc, &table.plan, &event, out)
 }

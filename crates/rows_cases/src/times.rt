@@ -1,6 +1,6 @@
 //! Packed times and dates.
 
-use crate::words::{Fault, byte_of, bytes_of, done, put_bytes, put_text};
+use crate::words::{Fault, byte_of, bytes_of, done, put_rest};
 use feed_text::put_value;
 use rows_times::{
     MysqlTime, my_datetime_packed_from_binary, my_time_packed_from_binary, my_timestamp_from_binary,
@@ -9,27 +9,18 @@ use rows_values::{datetime_from_packed, time_from_packed};
 use std::alloc::Global;
 use std::io::Write;
 
-/// The number of decimals and the bytes of a case.
-fn decimals_and_bytes(alloc: Global, given: &[&str]) -> Result<(u8, Vec<u8>), Fault> {
-    let [decimals, bytes] = given else {
+/// The number of fractional digits and the bytes of a case.
+fn decimals_and_bytes(alloc: Global, arguments: &[&str]) -> Result<(u8, Vec<u8>), Fault> {
+    let [decimals, bytes] = arguments else {
         return Err(Fault::NoCase);
     };
     Ok((byte_of(decimals)?, bytes_of(alloc, bytes)?))
 }
 
-/// Appends the bytes that are left, if there are any.
-fn put_left(left: &[u8], out: &mut Vec<u8>) -> Result<(), Fault> {
-    if left.is_empty() {
-        return Ok(());
-    }
-    put_text(" before ", out)?;
-    put_bytes(left, out)
-}
-
-/// `time2 DECIMALS BYTES`: the packed number of a span of time, its text as a value, and that of a `MysqlTime` with six digits of
-/// the microseconds and without.
-pub(crate) fn put_time(alloc: Global, given: &[&str], out: &mut Vec<u8>) -> Result<(), Fault> {
-    let (decimals, bytes) = decimals_and_bytes(alloc, given)?;
+/// `time2 DECIMALS BYTES`: the packed number of a TIME, its text as a value, and that of a `MysqlTime` with and without six
+/// digits of microseconds.
+pub(crate) fn put_time(alloc: Global, arguments: &[&str], out: &mut Vec<u8>) -> Result<(), Fault> {
+    let (decimals, bytes) = decimals_and_bytes(alloc, arguments)?;
     let mut input = bytes.as_slice();
     let packed = my_time_packed_from_binary(&mut input, u32::from(decimals))?;
     done(write!(out, "{packed} "))?;
@@ -37,13 +28,17 @@ pub(crate) fn put_time(alloc: Global, given: &[&str], out: &mut Vec<u8>) -> Resu
     let time = MysqlTime::from_int64_time_packed(packed);
     done(write!(out, " {time:.6}"))?;
     done(write!(out, " {time}"))?;
-    put_left(input, out)
+    put_rest(input, out)
 }
 
 /// `datetime2 DECIMALS BYTES`: the packed number of a date and time, its text as a value, and that of a `MysqlTime` with six
-/// digits of the microseconds, and of its date.
-pub(crate) fn put_datetime(alloc: Global, given: &[&str], out: &mut Vec<u8>) -> Result<(), Fault> {
-    let (decimals, bytes) = decimals_and_bytes(alloc, given)?;
+/// digits of microseconds, and that of its date.
+pub(crate) fn put_datetime(
+    alloc: Global,
+    arguments: &[&str],
+    out: &mut Vec<u8>,
+) -> Result<(), Fault> {
+    let (decimals, bytes) = decimals_and_bytes(alloc, arguments)?;
     let mut input = bytes.as_slice();
     let packed = my_datetime_packed_from_binary(&mut input, u32::from(decimals))?;
     done(write!(out, "{packed} "))?;
@@ -52,14 +47,18 @@ pub(crate) fn put_datetime(alloc: Global, given: &[&str], out: &mut Vec<u8>) -> 
     done(write!(out, " {time:.6}"))?;
     let date = MysqlTime::from_int64_date_packed(packed);
     done(write!(out, " {date}"))?;
-    put_left(input, out)
+    put_rest(input, out)
 }
 
-/// `timestamp2 DECIMALS BYTES`: the seconds and the microseconds of a point in time.
-pub(crate) fn put_timestamp(alloc: Global, given: &[&str], out: &mut Vec<u8>) -> Result<(), Fault> {
-    let (decimals, bytes) = decimals_and_bytes(alloc, given)?;
+/// `timestamp2 DECIMALS BYTES`: the seconds and the microseconds of a timestamp.
+pub(crate) fn put_timestamp(
+    alloc: Global,
+    arguments: &[&str],
+    out: &mut Vec<u8>,
+) -> Result<(), Fault> {
+    let (decimals, bytes) = decimals_and_bytes(alloc, arguments)?;
     let mut input = bytes.as_slice();
     let (seconds, micros) = my_timestamp_from_binary(&mut input, decimals)?;
     done(write!(out, "{seconds} {micros}"))?;
-    put_left(input, out)
+    put_rest(input, out)
 }

@@ -1,4 +1,4 @@
-//! The words of a case, the words of an answer, and the names of faults.
+//! The words of a case, the words of a result, and the names of errors.
 
 use feed_text::quote;
 use rows_decimal::ParseDecimalError;
@@ -10,16 +10,16 @@ use std::io::{self, Write};
 use wire_buf::WireFault;
 use wire_consts::ColumnType;
 
-/// Why a call has no answer.
+/// Why a call has no result.
 #[derive(Clone, Copy, Debug)]
 pub(crate) enum Fault {
-    /// A fault of rows, values and documents.
+    /// An error of rows, values and documents.
     Rows(RowsError),
-    /// A fault of a decimal's text.
+    /// An error in a decimal's text.
     Decimal(ParseDecimalError),
-    /// A fault of a field.
+    /// An error of a field.
     Wire(WireFault),
-    /// The line is no case.
+    /// The line isn't a case.
     NoCase,
 }
 
@@ -53,7 +53,7 @@ impl<T: Drop> From<AllocFailed<T>> for Fault {
     }
 }
 
-/// What `write!` into a `Vec` returns: only running out of memory can stop it.
+/// Converts the result of `write!` into a `Vec`: its only error is out of memory.
 pub(crate) fn done(written: io::Result<()>) -> Result<(), Fault> {
     match written {
         Ok(()) => Ok(()),
@@ -61,8 +61,8 @@ pub(crate) fn done(written: io::Result<()>) -> Result<(), Fault> {
     }
 }
 
-/// Appends the name of a fault.
-pub(crate) fn put_fault(fault: Fault, out: &mut Vec<u8>) -> Result<(), Fault> {
+/// Appends the name of an error.
+pub(crate) fn put_error(fault: Fault, out: &mut Vec<u8>) -> Result<(), Fault> {
     let written = match fault {
         Fault::Rows(fault) => write!(out, "{fault:?}"),
         Fault::Decimal(fault) => write!(out, "{fault:?}"),
@@ -82,16 +82,16 @@ pub(crate) fn put_number(number: u64, out: &mut Vec<u8>) -> Result<(), Fault> {
     done(write!(out, "{number}"))
 }
 
-/// Appends a space and a number, or the name of the fault in place of it.
+/// Appends a space and a number, or the name of the error.
 pub(crate) fn put_item(item: Result<u64, RowsError>, out: &mut Vec<u8>) -> Result<(), Fault> {
     out.push(b' ')?;
     match item {
         Ok(number) => put_number(number, out),
-        Err(fault) => put_fault(Fault::Rows(fault), out),
+        Err(fault) => put_error(Fault::Rows(fault), out),
     }
 }
 
-/// Appends a digit for each bit, or `''` where there are none.
+/// Appends a digit for each bit, or `''` if there are none.
 pub(crate) fn put_bits(bits: Bits<'_>, out: &mut Vec<u8>) -> Result<(), Fault> {
     if bits.is_empty() {
         return put_text("''", out);
@@ -102,7 +102,7 @@ pub(crate) fn put_bits(bits: Bits<'_>, out: &mut Vec<u8>) -> Result<(), Fault> {
     Ok(())
 }
 
-/// Appends bytes between quotes, and their text where it is another.
+/// Appends bytes between quotes, and their text if it differs.
 pub(crate) fn put_name(
     bytes: &[u8],
     text: CowStr<'_, Global>,
@@ -116,7 +116,7 @@ pub(crate) fn put_name(
     Ok(quote(text.as_str().as_bytes(), out)?)
 }
 
-/// The hexadecimal digits, by their numbers.
+/// The hexadecimal digits, by their values.
 const DIGITS: &[u8] = b"0123456789abcdef";
 
 /// The hexadecimal digit of a number below 16.
@@ -127,7 +127,7 @@ fn digit_of(number: u8) -> u8 {
     }
 }
 
-/// Appends the hexadecimal digits of bytes, or `''` where there are none.
+/// Appends the hexadecimal digits of bytes, or `''` if there are none.
 pub(crate) fn put_bytes(bytes: &[u8], out: &mut Vec<u8>) -> Result<(), Fault> {
     if bytes.is_empty() {
         return put_text("''", out);
@@ -139,37 +139,30 @@ pub(crate) fn put_bytes(bytes: &[u8], out: &mut Vec<u8>) -> Result<(), Fault> {
     Ok(())
 }
 
-/// The name of a column's type, without what all names begin with.
-fn type_name(alloc: Global, column_type: ColumnType) -> Result<String, AllocError> {
-    let whole = format!(in alloc; "{column_type:?}")?;
-    match whole.as_str().strip_prefix("MYSQL_TYPE_") {
-        Some(name) => String::from_str(alloc, name),
-        None => Ok(whole),
+/// Appends ` before ` and the hexadecimal digits of the remaining bytes, if there are any.
+pub(crate) fn put_rest(rest: &[u8], out: &mut Vec<u8>) -> Result<(), Fault> {
+    if rest.is_empty() {
+        return Ok(());
     }
+    put_text(" before ", out)?;
+    put_bytes(rest, out)
 }
 
-/// Appends the name of a column's type.
-pub(crate) fn put_type(
-    alloc: Global,
-    column_type: ColumnType,
-    out: &mut Vec<u8>,
-) -> Result<(), Fault> {
-    put_text(type_name(alloc, column_type)?.as_str(), out)
-}
-
-/// The column's type of this name.
-pub(crate) fn type_of(alloc: Global, name: &str) -> Result<ColumnType, Fault> {
-    for number in 0..=255u8 {
-        if let Ok(column_type) = ColumnType::try_from(number) {
-            if type_name(alloc, column_type)?.as_str() == name {
-                return Ok(column_type);
-            }
-        }
+/// Appends the bytes that were written, if they differ from those that were read.
+pub(crate) fn put_written(written: &[u8], bytes: &[u8], out: &mut Vec<u8>) -> Result<(), Fault> {
+    if written == bytes {
+        return Ok(());
     }
-    Err(Fault::NoCase)
+    put_text(" written ", out)?;
+    put_bytes(written, out)
 }
 
-/// The number of a hexadecimal digit.
+/// Appends the name of a column type.
+pub(crate) fn put_type(column_type: ColumnType, out: &mut Vec<u8>) -> Result<(), Fault> {
+    done(write!(out, "{column_type:?}"))
+}
+
+/// The value of a hexadecimal digit.
 fn digit(byte: u8) -> Option<u8> {
     match byte {
         b'0'..=b'9' => Some(byte - b'0'),
@@ -178,8 +171,8 @@ fn digit(byte: u8) -> Option<u8> {
     }
 }
 
-/// Appends the bytes that hexadecimal digits spell.
-fn put_spelled(digits: &[u8], out: &mut Vec<u8>) -> Result<(), Fault> {
+/// Appends the bytes of hexadecimal digits.
+fn put_hex_bytes(digits: &[u8], out: &mut Vec<u8>) -> Result<(), Fault> {
     for pair in digits.chunks(2) {
         let [high, low] = pair else {
             return Err(Fault::NoCase);
@@ -192,7 +185,7 @@ fn put_spelled(digits: &[u8], out: &mut Vec<u8>) -> Result<(), Fault> {
     Ok(())
 }
 
-/// The bytes that a word spells: hexadecimal digits, with plain text between quotes.
+/// The bytes of a word: hexadecimal digits, with plain text between quotes.
 pub(crate) fn bytes_of(alloc: Global, word: &str) -> Result<Vec<u8>, Fault> {
     let mut bytes = Vec::new(alloc);
     let mut is_text = false;
@@ -201,7 +194,7 @@ pub(crate) fn bytes_of(alloc: Global, word: &str) -> Result<Vec<u8>, Fault> {
             bytes.extend_from_slice(piece.as_bytes())?;
         } else {
             for digits in piece.split('_') {
-                put_spelled(digits.as_bytes(), &mut bytes)?;
+                put_hex_bytes(digits.as_bytes(), &mut bytes)?;
             }
         }
         is_text = !is_text;
@@ -209,7 +202,7 @@ pub(crate) fn bytes_of(alloc: Global, word: &str) -> Result<Vec<u8>, Fault> {
     Ok(bytes)
 }
 
-/// The number that a word spells in decimal digits.
+/// The number of a word in decimal digits.
 pub(crate) fn number_of(word: &str) -> Result<u64, Fault> {
     match word.parse::<u64>() {
         Ok(number) => Ok(number),
@@ -217,7 +210,7 @@ pub(crate) fn number_of(word: &str) -> Result<u64, Fault> {
     }
 }
 
-/// The number below 256 that a word spells in decimal digits.
+/// The number below 256 of a word in decimal digits.
 pub(crate) fn byte_of(word: &str) -> Result<u8, Fault> {
     match u8::try_from(number_of(word)?) {
         Ok(number) => Ok(number),
@@ -225,7 +218,7 @@ pub(crate) fn byte_of(word: &str) -> Result<u8, Fault> {
     }
 }
 
-/// The length below 256 that a word spells in decimal digits.
+/// The length below 256 of a word in decimal digits.
 pub(crate) fn small_len_of(word: &str) -> Result<usize, Fault> {
     Ok(usize::from(byte_of(word)?))
 }

@@ -1,42 +1,42 @@
--- Cells that are read are spelled so, and those that are spelled so are read.
+-- Cells that are read are what the bytes encode, and the other way round.
 use Rattle.std.proofs.Common.{◌≡◌, ℕ, Bool, true, false, List, [], ◌++◌, Ok, refl, sym, ap, ◌∙◌}
-use Rattle.rows_cells.specs.declared.form.CellForm.{CellForm}
-use Rattle.rows_cells.specs.CellForms.{Size, exactly, behind, nowhere, size_of}
+use Rattle.rows_cells.specs.declared.format.CellFormat.{CellFormat}
+use Rattle.rows_cells.specs.CellSizes.{Size, exactly, after_length, unreadable, cell_size}
 use Rattle.rows_cells.specs.CellValues.{CellValue, null}
-use Rattle.rows_cells.specs.Cells.{IsContent, plain, sized, IsCell, content_at, cell_at}
+use Rattle.rows_cells.specs.Cells.{IsCellContent, plain, sized, IsCell, content_at, cell_at}
 use Rattle.rows_cells.specs.Images.{IsField, field_at}
-use Rattle.rows_cells.proofs.FieldLemmas.{bind-ok, ok_pair, front-is, front-here, counted-is, counted-here}
+use Rattle.rows_cells.proofs.FieldLemmas.{bind-ok, ok_pair, at_width-is, at_width-here, counted_at-is, counted_at-here}
 
-content-is : (z : Size) (s : List ℕ) (x : List ℕ × List ℕ) → content_at z s ≡ Ok x → (bytes : List ℕ) × (s ≡ bytes ++ x.1) × IsContent z x.0 bytes
-content-is (exactly n) s x h = let f = front-is n s x h in (x.0, f.0, plain f.1)
-content-is (behind w) s x h = let c = counted-is w s x h in (c.0 ++ x.0, c.1, sized c.2)
-content-is (nowhere e) s x h = absurd cc
+content-is : (z : Size) (s : List ℕ) (x : List ℕ × List ℕ) → content_at z s ≡ Ok x → (bytes : List ℕ) × (s ≡ bytes ++ x.1) × IsCellContent z x.0 bytes
+content-is (exactly n) s x h = let f = at_width-is n s x h in (x.0, f.0, plain f.1)
+content-is (after_length w) s x h = let c = counted_at-is w s x h in (c.0 ++ x.0, c.1, sized c.2)
+content-is (unreadable e) s x h = absurd cc
 
-content-here : (z : Size) (content bytes r : List ℕ) → IsContent z content bytes → content_at z (bytes ++ r) ≡ Ok (content, r)
-content-here _ content _ r (plain {n = n} h) = front-here n content r h
-content-here _ _ _ r (sized {w = w} {content = content} {size = size} h) = counted-here w size content r h
+content-here : (z : Size) (content bytes r : List ℕ) → IsCellContent z content bytes → content_at z (bytes ++ r) ≡ Ok (content, r)
+content-here _ content _ r (plain {n = n} h) = at_width-here n content r h
+content-here _ _ _ r (sized {w = w} {content = content} {size = size} h) = counted_at-here w size content r h
 
-pub cell-is : (form : CellForm) (s : List ℕ) (v : CellValue) (r : List ℕ) → cell_at form s ≡ Ok (v, r) → (bytes : List ℕ) × (s ≡ bytes ++ r) × IsCell form v bytes
+pub cell-is : (format : CellFormat) (s : List ℕ) (v : CellValue) (r : List ℕ) → cell_at format s ≡ Ok (v, r) → (bytes : List ℕ) × (s ≡ bytes ++ r) × IsCell format v bytes
 unfolding cell_at
-cell-is form s v r h =
+cell-is format s v r h =
     let a = bind-ok _ _ _ h in
     let b = bind-ok _ _ _ a.2 in
     let p = ok_pair _ _ (v, r) b.2 in
-    let c = content-is (size_of form) s a.0 a.1 in
+    let c = content-is (cell_size format) s a.0 a.1 in
     (c.0, c.1 ∙ ap (λ (t : List ℕ). c.0 ++ t) p.1, record { content = a.0.0; content_is = c.2; value_is = b.1 ∙ ap (λ (w : CellValue). Ok w) p.0 })
 
-pub cell-here : (form : CellForm) (v : CellValue) (bytes r : List ℕ) → IsCell form v bytes → cell_at form (bytes ++ r) ≡ Ok (v, r)
+pub cell-here : (format : CellFormat) (v : CellValue) (bytes r : List ℕ) → IsCell format v bytes → cell_at format (bytes ++ r) ≡ Ok (v, r)
 unfolding cell_at
-cell-here form v bytes r h = rw (content-here (size_of form) h.content bytes r h.content_is, h.value_is) refl
+cell-here format v bytes r h = rw (content-here (cell_size format) h.content bytes r h.content_is, h.value_is) refl
 
--- no spelling of a cell begins another
-pub one_cell : (form : CellForm) (v w : CellValue) (a b x y : List ℕ) → IsCell form v a → IsCell form w b → a ++ x ≡ b ++ y → (v ≡ w) × (x ≡ y)
-one_cell form v w a b x y h i e = ok_pair v x (w, y) (sym (cell-here form v a x h) ∙ ap (cell_at form) e ∙ cell-here form w b y i)
+-- no encoding of a cell is a proper prefix of another
+pub one_cell : (format : CellFormat) (v w : CellValue) (a b x y : List ℕ) → IsCell format v a → IsCell format w b → a ++ x ≡ b ++ y → (v ≡ w) × (x ≡ y)
+one_cell format v w a b x y h i e = ok_pair v x (w, y) (sym (cell-here format v a x h) ∙ ap (cell_at format) e ∙ cell-here format w b y i)
 
-pub field-is : (b : Bool) (form : CellForm) (s : List ℕ) (x : CellValue × List ℕ) → field_at b form s ≡ Ok x → (bytes : List ℕ) × (s ≡ bytes ++ x.1) × IsField b form x.0 bytes
-field-is true form s x h = let p = ok_pair null s x h in ([], p.1, (sym p.0, refl))
-field-is false form s x h = cell-is form s x.0 x.1 h
+pub field-is : (b : Bool) (format : CellFormat) (s : List ℕ) (x : CellValue × List ℕ) → field_at b format s ≡ Ok x → (bytes : List ℕ) × (s ≡ bytes ++ x.1) × IsField b format x.0 bytes
+field-is true format s x h = let p = ok_pair null s x h in ([], p.1, (sym p.0, refl))
+field-is false format s x h = cell-is format s x.0 x.1 h
 
-pub field-here : (b : Bool) (form : CellForm) (v : CellValue) (bytes r : List ℕ) → IsField b form v bytes → field_at b form (bytes ++ r) ≡ Ok (v, r)
-field-here true form v bytes r h = rw (h.0, h.1) refl
-field-here false form v bytes r h = cell-here form v bytes r h
+pub field-here : (b : Bool) (format : CellFormat) (v : CellValue) (bytes r : List ℕ) → IsField b format v bytes → field_at b format (bytes ++ r) ≡ Ok (v, r)
+field-here true format v bytes r h = rw (h.0, h.1) refl
+field-here false format v bytes r h = cell-here format v bytes r h

@@ -1,4 +1,4 @@
--- The value of a cell as callers keep it: which bytes spell it, and what it is as a plain value.
+-- The value of a cell that a caller keeps: which bytes encode it, and its conversion to a plain value.
 use Rattle.std.specs.Prelude.{◌≡◌, ⊤, ℕ, List, map}
 use Rattle.std.specs.declared.result.Result.{Result}
 use Rattle.std.specs.declared.result.Result.TheVariants.{Ok, Err}
@@ -8,54 +8,54 @@ use Rattle.rows_jsonb.specs.JsonbViews.{jsonb_value}
 use Rattle.rows_jsonb.specs.Items.{items_at, all_found}
 use Rattle.rows_jsonb.specs.JsonDiffs.{Diff, diff_at}
 use Rattle.rows_jsonb.specs.JsonDiffViews.{diff_view}
-use Rattle.rows_cells.specs.declared.form.CellForm.{CellForm}
+use Rattle.rows_cells.specs.declared.format.CellFormat.{CellFormat}
 use Rattle.rows_cells.specs.declared.binlog_value.BinlogValue.{BinlogValue}
 use Rattle.rows_cells.specs.declared.binlog_value.BinlogValue.TheVariants as made
 use Rattle.rows_cells.specs.declared.conversions.BinlogValueToValueError.{BinlogValueToValueError}
-use Rattle.rows_cells.specs.declared.conversions.BinlogValueToValueError.TheVariants as refused
+use Rattle.rows_cells.specs.declared.conversions.BinlogValueToValueError.TheVariants as failed
 use Rattle.rows_cells.specs.declared.value_field.BinlogValueCtx.{BinlogValueCtx}
 use Rattle.rows_cells.specs.CellValues.{CellValue}
 use Rattle.rows_cells.specs.CellValues as cell
-use Rattle.rows_cells.specs.CellViews.{value_view}
-use Rattle.rows_cells.specs.ColumnForms.{column_form}
+use Rattle.rows_cells.specs.CellViews.{cell_value_of}
+use Rattle.rows_cells.specs.ColumnFormats.{column_format}
 use Rattle.rows_cells.specs.Cells.{IsCell}
-use Rattle.rows_cells.specs.Images.{form_by}
+use Rattle.rows_cells.specs.Images.{format_by}
 
--- what is kept of a cell: a value, what a document says, or changes of one
+-- what is kept of a cell: a value, a JSON document, or JSON diffs
 pub data Kept : Type 0 where
   value : CellValue → Kept
   json : JsonbValue → Kept
   json_diffs : List Diff → Kept
 
 abbrev pub kept_view : BinlogValue → Kept
-kept_view (made.Value w) = value (value_view w)
+kept_view (made.Value w) = value (cell_value_of w)
 kept_view (made.Jsonb d) = json (jsonb_value d)
 kept_view (made.JsonDiff ds) = json_diffs (map diff_view ds.items)
 
--- a value that isn't a document, nor changes of one
+-- a value that is neither a JSON document nor JSON diffs
 abbrev pub IsPlain : CellValue → Type 0
 IsPlain (cell.json b) = ⊥
 IsPlain (cell.json_diffs b) = ⊥
 IsPlain _ = ⊤
 
--- of a document and of changes what their bytes say is kept, else the value
-abbrev pub IsKept : CellValue → Kept → Type 0
-IsKept v (value w) = (v ≡ w) × IsPlain w
-IsKept v (json d) = (b : List ℕ) × (v ≡ cell.json b) × (document b ≡ Ok d)
-IsKept v (json_diffs ds) = (b : List ℕ) × (v ≡ cell.json_diffs b) × (items_at diff_at b ≡ all_found ds)
+-- documents and diffs are kept as their decoded contents, other values unchanged
+abbrev pub IsKeptOf : CellValue → Kept → Type 0
+IsKeptOf v (value w) = (v ≡ w) × IsPlain w
+IsKeptOf v (json d) = (b : List ℕ) × (v ≡ cell.json b) × (document b ≡ Ok d)
+IsKeptOf v (json_diffs ds) = (b : List ℕ) × (v ≡ cell.json_diffs b) × (items_at diff_at b ≡ all_found ds)
 
--- the bytes spell a cell of which this is kept
-pub record IsKeptCell (form : CellForm) (kept : Kept) (bytes : List ℕ) : Type 0 where
+-- the bytes encode a cell of which this is kept
+pub record IsKeptCell (format : CellFormat) (kept : Kept) (bytes : List ℕ) : Type 0 where
   pub seen : CellValue
-  pub cell_is : IsCell form seen bytes
-  pub kept_is : IsKept seen kept
+  pub cell_is : IsCell format seen bytes
+  pub kept_is : IsKeptOf seen kept
 
--- the form of the cells of a column: changes of documents where it is partial
-abbrev pub form_of_ctx : BinlogValueCtx → CellForm
-form_of_ctx c = form_by c.is_partial (column_form c.real_type c.metadata.now c.is_unsigned)
+-- the format of a column's cells: JSON diffs if the cell is partial
+abbrev pub format_of_ctx : BinlogValueCtx → CellFormat
+format_of_ctx c = format_by c.is_partial (column_format c.real_type c.metadata.now c.is_unsigned)
 
--- a plain value stays what it is; documents and changes are refused
+-- a plain value stays the same; documents and diffs are errors
 abbrev pub plain_value : BinlogValue → Result Value BinlogValueToValueError
 plain_value (made.Value w) = Ok w
-plain_value (made.Jsonb d) = Err refused.ToJson
-plain_value (made.JsonDiff ds) = Err refused.JsonDiff
+plain_value (made.Jsonb d) = Err failed.ToJson
+plain_value (made.JsonDiff ds) = Err failed.JsonDiff

@@ -1,6 +1,6 @@
 pub mod Fields
-pub mod CellForms
-pub mod ColumnForms
+pub mod CellSizes
+pub mod ColumnFormats
 pub mod CellValues
 pub mod CellViews
 pub mod Cells

@@ -1,10 +1,10 @@
-//! A cell that is borrowed from the bytes of a rows event.
+//! A cell that borrows from the bytes of a rows event.
 
-/// The value of a cell, as its bytes have it. What takes work, as the fields of a date or the digits of a
-/// decimal, is left to who wants it.
+/// The value of a cell, in the representation of its bytes. Slow conversions, such as the fields of a date or the digits of a
+/// decimal, are left to the caller.
 #[derive(Clone, Copy, Debug)]
 pub enum CellRef<'a> {
-    /// No value.
+    /// SQL NULL.
     Null,
     /// An integer of up to 8 bytes, or an unsigned one of up to 4.
     Int(i64),
@@ -16,24 +16,24 @@ pub enum CellRef<'a> {
     Double(u64),
     /// Bytes, or text.
     Bytes(&'a [u8]),
-    /// Years from 1900.
+    /// Years since 1900.
     Year(u8),
-    /// A date: the day in 5 bits, the month in 4, the year above them.
+    /// A NEWDATE: the day in 5 bits, the month in 4, the year above them.
     NewDate(u32),
-    /// The decimal digits `hhmmss` of a span of time, with its sign.
+    /// The decimal digits `hhmmss` of an old-format TIME, with its sign.
     OldTime(i32),
-    /// The decimal digits `YYYYMMDDhhmmss` of a date and time.
+    /// The decimal digits `YYYYMMDDhhmmss` of an old-format DATETIME.
     OldDatetime(u64),
-    /// Seconds since 1970, and microseconds.
+    /// Seconds since 1970 (UTC), and microseconds.
     Timestamp(i32, i32),
     /// A packed date and time.
     Datetime(i64),
-    /// A packed span of time.
+    /// A packed TIME.
     Time(i64),
-    /// A decimal: how many digits it has, how many of them stand after the point, and the bytes that pack it.
+    /// A decimal: its precision, its scale (digits after the point), and the bytes that pack it.
     Decimal(u8, u8, &'a [u8]),
     /// A JSON document.
     Json(&'a [u8]),
-    /// Changes of a JSON document, one after the other to the end.
+    /// JSON diffs, in sequence to the end of the bytes.
     JsonDiffs(&'a [u8]),
 }

@@ -1,4 +1,4 @@
-//! Kept values of cells in memory of their own, and as plain values.
+//! Conversions of cell values: to values that borrow nothing, and to plain values.
 
 ghost use Rattle.std.specs.Prelude.{◌≡◌, IfOk, map};
 ghost use Rattle.rows_jsonb.specs.JsonDiffViews.{diff_view};
@@ -11,7 +11,7 @@ use std::alloc::{AllocError, Global};
 use thiserror::Error;
 
 impl BinlogValue<'_> {
-    /// The same value, borrowed from nothing.
+    /// Returns the same value with bytes of its own.
     pub fn into_owned(self, alloc: Global) -> Result<BinlogValue<'static>, AllocError>
         ensures { IfOk result (λ v. kept_view v ≡ kept_view self.entry) }
     {
@@ -23,7 +23,7 @@ impl BinlogValue<'_> {
     }
 }
 
-/// The same changes, borrowed from nothing.
+/// Returns the same diffs with bytes of their own.
 fn owned_diffs(
     alloc: Global,
     diffs: Vec<JsonDiff<'_>>,
@@ -37,16 +37,16 @@ fn owned_diffs(
     Ok(owned)
 }
 
-/// Why a kept value is no plain value.
+/// Why a cell value has no conversion to a plain value.
 #[derive(Clone, Copy, Debug, PartialEq, Eq, Error)]
 pub enum BinlogValueToValueError {
-    /// It is a JSON document.
+    /// The value is a JSON document.
     #[error("a JSON document is no plain value")]
     ToJson,
-    /// It is changes of a JSON document.
+    /// The value consists of JSON diffs.
     #[error("changes of a JSON document are no plain value")]
     JsonDiff,
-    /// Memory was refused. Whole rows are refused for it, a value never.
+    /// Out of memory. Only the conversion of a whole row returns this, never that of a single value.
     #[error("out of memory")]
     Memory,
 }
@@ -56,7 +56,7 @@ impl<'a> TryFrom<BinlogValue<'a>> for Value {
 
     ghost try_from_gives = { λ kept result. result ≡ plain_value kept };
 
-    /// The plain value; `ToJson` for a document, and `JsonDiff` for changes of one.
+    /// Returns the plain value; `ToJson` for a JSON document, `JsonDiff` for JSON diffs.
     fn try_from(kept: BinlogValue<'a>) -> Result<Value, BinlogValueToValueError> {
         match kept {
             BinlogValue::Value(value) => Ok(value),

@@ -1,20 +1,20 @@
-//! Fields at the front of bytes, one after the other.
+//! Splitting fields off the start of bytes.
 
 ghost use Rattle.std.specs.Prelude.{◌≡◌, ◌≤◌, length};
 ghost use Rattle.byteorder.specs.Endian.{little_number};
 ghost use Rattle.wire_buf.specs.Numbers.{little_signed};
-ghost use Rattle.rows_times.specs.Readings.{shown};
-ghost use Rattle.rows_cells.specs.Fields.{front, counted};
-ghost use Rattle.rows_cells.specs.CellForms.{bytes_of};
+ghost use Rattle.rows_times.specs.Readings.{map_reading};
+ghost use Rattle.rows_cells.specs.Fields.{at_width, counted_at};
+ghost use Rattle.rows_cells.specs.CellSizes.{width_bytes};
 
-use crate::form::Width;
+use crate::format::Width;
 use byteorder::{ByteOrder, LittleEndian};
 use rows_times::RowsError;
 
-/// The first `len` bytes and what follows them; `EndOfBody` where fewer are there.
+/// Splits off the first `len` bytes, and returns them and the rest; `EndOfBody` if there are fewer.
 #[inline(always)]
-pub(crate) fn split_front(bytes: &[u8], len: usize) -> Result<(&[u8], &[u8]), RowsError>
-    ensures { shown (λ x. (x.0.now, x.1.now)) result ≡ front len bytes.now }
+pub(crate) fn split_prefix(bytes: &[u8], len: usize) -> Result<(&[u8], &[u8]), RowsError>
+    ensures { map_reading (λ x. (x.0.now, x.1.now)) result ≡ at_width len bytes.now }
 {
     if len <= bytes.len() {
         Ok(bytes.split_at(len))
@@ -23,12 +23,13 @@ pub(crate) fn split_front(bytes: &[u8], len: usize) -> Result<(&[u8], &[u8]), Ro
     }
 }
 
-/// A length of so many bytes, so many bytes, and what follows them; `EndOfBody` where fewer are there.
+/// Splits off a length field of this width and that many bytes, and returns these bytes and the rest; `EndOfBody` if there are
+/// fewer.
 #[inline(always)]
-pub(crate) fn counted_front(bytes: &[u8], width: Width) -> Result<(&[u8], &[u8]), RowsError>
-    ensures { shown (λ x. (x.0.now, x.1.now)) result ≡ counted (bytes_of width) bytes.now }
+pub(crate) fn split_counted(bytes: &[u8], width: Width) -> Result<(&[u8], &[u8]), RowsError>
+    ensures { map_reading (λ x. (x.0.now, x.1.now)) result ≡ counted_at (width_bytes width) bytes.now }
 {
-    let (size, rest) = split_front(bytes, width.bytes())?;
+    let (size, rest) = split_prefix(bytes, width.bytes())?;
     let len = unsigned(size, width);
     if len > rest.len() as u64 {
         return Err(RowsError::EndOfBody);
@@ -36,11 +37,11 @@ pub(crate) fn counted_front(bytes: &[u8], width: Width) -> Result<(&[u8], &[u8])
     Ok(rest.split_at(len as usize))
 }
 
-/// The unsigned number in the first bytes, the lowest first.
+/// Returns the unsigned number in the first bytes, in little-endian order.
 #[inline(always)]
 pub(crate) fn unsigned(bytes: &[u8], width: Width) -> u64
-    requires { bytes_of width ≤ length bytes.now }
-    ensures { result ≡ little_number (bytes_of width) bytes.now }
+    requires { width_bytes width ≤ length bytes.now }
+    ensures { result ≡ little_number (width_bytes width) bytes.now }
 {
     match width {
         Width::One => u64::from(bytes[0]),
@@ -51,11 +52,11 @@ pub(crate) fn unsigned(bytes: &[u8], width: Width) -> u64
     }
 }
 
-/// The signed number in the first bytes, the lowest first.
+/// Returns the signed number in the first bytes, in little-endian order.
 #[inline(always)]
 pub(crate) fn signed(bytes: &[u8], width: Width) -> i64
-    requires { bytes_of width ≤ length bytes.now }
-    ensures { result ≡ little_signed (bytes_of width) bytes.now }
+    requires { width_bytes width ≤ length bytes.now }
+    ensures { result ≡ little_signed (width_bytes width) bytes.now }
 {
     match width {
         Width::One => i64::from(bytes[0].cast_signed()),

@@ -1,53 +1,52 @@
-//! The image of a row: its null bits, and the cells of the columns in it, one at a time.
+//! The image of a row: its null bits and its cells, read one at a time.
 
 ghost use Rattle.std.specs.Prelude.{◌≡◌, ◌≤◌, ◌<◌, ◌*◌, ℕ, List, length, IfOk};
-ghost use Rattle.rows_times.specs.Readings.{shown};
+ghost use Rattle.rows_times.specs.Readings.{map_reading};
 ghost use Rattle.rows_cells.specs.CellViews.{cell_value, IsReadable};
-ghost use Rattle.rows_cells.specs.Images.{bit, form_in, field_at, lenenc_fault as fault_of_lenenc, lenenc_at, shared_at};
+ghost use Rattle.rows_cells.specs.Images.{bit, format_in, field_at, lenenc_error as fault_of_lenenc, lenenc_at, shared_at};
 
 use crate::cell::CellRef;
-use crate::fields::split_front;
-use crate::form::CellForm;
-use crate::front::cell_front;
+use crate::cell_reading::read_cell;
+use crate::fields::split_prefix;
+use crate::format::CellFormat;
 use rows_times::RowsError;
 use wire_buf::ParseBuf;
 
-/// A column that is in an image.
+/// A column in an image.
 #[derive(Clone, Copy, Debug, PartialEq, Eq)]
 pub struct ImageColumn {
-    /// Its place in the table, from 0.
-    pub place: u32,
-    /// How its cells stand in bytes.
-    pub form: CellForm,
-    /// How many JSON columns stand before it in the table: a JSON column's place among the partial bits.
-    pub json_index: u32,
+    /// Its index in the table, from 0.
+    pub column: u32,
+    /// The format of its cells.
+    pub format: CellFormat,
+    /// The number of JSON columns before it in the table, which is a JSON column's index in the partial bits.
+    pub json_column: u32,
 }
 
-/// What an image has.
+/// The layout of an image.
 #[derive(Clone, Copy, Debug)]
 pub struct ImagePlan<'p> {
-    /// The columns in it, in the order of the table.
+    /// The columns in the image, in the order of the table.
     pub columns: &'p [ImageColumn],
-    /// For the after image of a partial update, which begins with a part that its cells share, how many JSON
-    /// columns the table has.
+    /// The number of JSON columns in the table, for the after image of a partial update, which begins with a part that its cells
+    /// share; otherwise None.
     pub json_columns: Option<u32>,
 }
 
-/// What is known of a cell before it is read.
+/// The description of a cell before it is read.
 #[derive(Clone, Copy, Debug)]
 pub struct ImageField<'a> {
-    /// Its column's place in the table, from 0.
-    pub place: u32,
+    /// Its column's index in the table, from 0.
+    pub column: u32,
     /// Whether it is NULL, which takes no bytes.
     pub is_null: bool,
-    /// How it stands in bytes, where it isn't NULL.
-    pub form: CellForm,
-    /// The bytes that begin with it.
+    /// The format of the cell, if it isn't NULL.
+    pub format: CellFormat,
+    /// The bytes that begin with the cell.
     pub bytes: &'a [u8],
 }
 
-/// The cells of an image that are still to come, borrowed from the bytes of the rows event. It takes no
-/// memory.
+/// The remaining cells of an image, borrowed from the bytes of the rows event. It takes no memory.
 #[derive(Clone, Copy)]
 pub struct ImageCells<'p, 'a> {
     columns: &'p [ImageColumn],
@@ -62,21 +61,21 @@ pub struct ImageCells<'p, 'a> {
 impl<'p, 'a> ImageCells<'p, 'a> {
     ghost use Rattle.std.specs.Prelude.{IfOk, IfErr, IfSome, IfNone, Ok, Err, []};
     ghost use Rattle.rows_cells.specs.Images.{image_at};
-    ghost use Rattle.rows_cells.specs.ImageViews.{image_shape, cells_left, cells_count, TakesCell, IsNextField, PassesField};
+    ghost use Rattle.rows_cells.specs.ImageViews.{image_shape, remaining_cells, cells_count, ReturnsCell, IsNextField, SkipsField};
 
-    /// The cells of the image at the front of the bytes, in order.
+    /// Returns the cells of the image that the bytes begin with, in order.
     ///
-    /// `EndOfBody` where the null bits, or what stands before them, aren't whole; `UnknownNumber` where the
-    /// options of a partial update are no length-encoded number.
+    /// - `EndOfBody`: the null bits, or the part before them, are incomplete.
+    /// - `UnknownNumber`: the options of a partial update aren't a length-encoded integer.
     #[tactic(auto, unfolding(crate::specs::Images::image_at))]
     pub fn of(plan: ImagePlan<'p>, bytes: &'a [u8]) -> Result<ImageCells<'p, 'a>, RowsError>
-        ensures ok { IfOk result (λ cells. cells_left cells ≡ image_at (image_shape plan.entry) bytes.entry.now) }
+        ensures ok { IfOk result (λ cells. remaining_cells cells ≡ image_at (image_shape plan.entry) bytes.entry.now) }
         ensures count { IfOk result (λ cells. cells_count cells ≡ length plan.entry.columns.now) }
         ensures err { IfErr result (λ e. image_at (image_shape plan.entry) bytes.entry.now ≡ Err e) }
     {
         let columns = plan.columns;
-        let (bits, rest) = shared_front(plan.json_columns, bytes)?;
-        let (nulls, rest) = split_front(rest, columns.len().div_ceil(8))?;
+        let (bits, rest) = split_shared(plan.json_columns, bytes)?;
+        let (nulls, rest) = split_prefix(rest, columns.len().div_ceil(8))?;
         Ok(ImageCells {
             columns,
             bits,
@@ -86,7 +85,7 @@ impl<'p, 'a> ImageCells<'p, 'a> {
         })
     }
 
-    /// No cells, before these bytes.
+    /// Returns no cells, followed by these bytes.
     pub(crate) fn before(bytes: &'a [u8]) -> ImageCells<'p, 'a>
         ensures { result.rest ≡ bytes.entry }
     {
@@ -99,28 +98,28 @@ impl<'p, 'a> ImageCells<'p, 'a> {
         }
     }
 
-    /// The next cell, with its column's place in the table; none once all were given. Where it can't be read,
-    /// the refusal of `cell_front`, now and from then on.
+    /// Returns the next cell with its column's index in the table, or None after the last. If it can't be read, returns the error
+    /// of `read_cell`, now and on later calls.
     #[inline(always)]
     pub fn next_cell(&mut self) -> Result<Option<(u32, CellRef<'a>)>, RowsError>
-        ensures { TakesCell self.old result self.new }
+        ensures { ReturnsCell self.old result self.new }
     {
         if self.index >= self.columns.len() {
             return Ok(None);
         }
-        let column = self.columns[self.index];
+        let image_column = self.columns[self.index];
         let is_null = bit_at(self.nulls, self.index);
-        match field_front(is_null, form_of(self.bits, column), self.rest) {
+        match read_field(is_null, format_of(self.bits, image_column), self.rest) {
             Ok((cell, rest)) => {
                 self.index += 1;
                 self.rest = rest;
-                Ok(Some((column.place, cell)))
+                Ok(Some((image_column.column, cell)))
             }
             Err(fault) => Err(fault),
         }
     }
 
-    /// The next field; none once all cells were given.
+    /// Returns the description of the next cell, or None after the last.
     #[inline(always)]
     pub fn next_field(&self) -> Option<ImageField<'a>>
         ensures none { IfNone result (length self.now.columns.now ≤ self.now.index) }
@@ -129,26 +128,26 @@ impl<'p, 'a> ImageCells<'p, 'a> {
         if self.index >= self.columns.len() {
             return None;
         }
-        let column = self.columns[self.index];
+        let image_column = self.columns[self.index];
         Some(ImageField {
-            place: column.place,
+            column: image_column.column,
             is_null: bit_at(self.nulls, self.index),
-            form: form_of(self.bits, column),
+            format: format_of(self.bits, image_column),
             bytes: self.rest,
         })
     }
 
-    /// Goes behind the next field, which `rest` follows.
+    /// Skips the next cell, after which `rest` follows.
     #[inline(always)]
-    pub fn pass_field(&mut self, rest: &'a [u8])
+    pub fn skip_field(&mut self, rest: &'a [u8])
         requires { self.now.index < length self.now.columns.now }
-        ensures { PassesField self.old rest.entry.now self.new }
+        ensures { SkipsField self.old rest.entry.now self.new }
     {
         self.index += 1;
         self.rest = rest;
     }
 
-    /// How many cells are still to come.
+    /// Returns the number of remaining cells.
     #[inline(always)]
     pub fn len(&self) -> usize
         ensures { result ≡ cells_count self.now }
@@ -156,7 +155,7 @@ impl<'p, 'a> ImageCells<'p, 'a> {
         self.columns.len() - self.index
     }
 
-    /// The bytes behind the cells that were given.
+    /// Returns the bytes after the cells that were returned.
     pub fn rest(&self) -> &'a [u8]
         ensures { result ≡ self.now.rest }
     {
@@ -164,9 +163,9 @@ impl<'p, 'a> ImageCells<'p, 'a> {
     }
 }
 
-/// The length-encoded number at the front, and what follows it.
-fn lenenc_front(bytes: &[u8]) -> Result<(u64, &[u8]), RowsError>
-    ensures { shown (λ x. (x.0, x.1.now)) result ≡ lenenc_at bytes.now }
+/// Reads a length-encoded integer; returns it and the bytes after it.
+fn split_lenenc(bytes: &[u8]) -> Result<(u64, &[u8]), RowsError>
+    ensures { map_reading (λ x. (x.0, x.1.now)) result ≡ lenenc_at bytes.now }
 {
     let mut rest = ParseBuf(bytes);
     match rest.checked_eat_lenenc_int() {
@@ -175,7 +174,7 @@ fn lenenc_front(bytes: &[u8]) -> Result<(u64, &[u8]), RowsError>
     }
 }
 
-/// Why no length-encoded number stands at the front.
+/// Returns why the bytes don't begin with a length-encoded integer.
 fn lenenc_fault(bytes: &[u8]) -> RowsError
     ensures { result ≡ fault_of_lenenc bytes.now }
 {
@@ -185,57 +184,57 @@ fn lenenc_fault(bytes: &[u8]) -> RowsError
     }
 }
 
-/// The partial bits, and what follows them, of an image of a table with so many JSON columns; none of them
-/// where the image isn't one of a partial update, or its options have no partial bits.
+/// Returns the partial bits of an image and the bytes after them, for a table with this many JSON columns. There are no bits if
+/// the image isn't that of a partial update, or its options don't announce partial bits.
 #[inline(always)]
-fn shared_front(json_columns: Option<u32>, bytes: &[u8]) -> Result<(&[u8], &[u8]), RowsError>
-    ensures { shown (λ x. (x.0.now, x.1.now)) result ≡ shared_at json_columns bytes.now }
+fn split_shared(json_columns: Option<u32>, bytes: &[u8]) -> Result<(&[u8], &[u8]), RowsError>
+    ensures { map_reading (λ x. (x.0.now, x.1.now)) result ≡ shared_at json_columns bytes.now }
 {
     let Some(json_columns) = json_columns else {
         return Ok((&[], bytes));
     };
-    let (options, rest) = lenenc_front(bytes)?;
+    let (options, rest) = split_lenenc(bytes)?;
     if options % 2 == 1 {
-        split_front(rest, json_columns.div_ceil(8) as usize)
+        split_prefix(rest, json_columns.div_ceil(8) as usize)
     } else {
         Ok((&[], rest))
     }
 }
 
-/// The form of a column's cell: changes of a document where its partial bit is set.
+/// Returns the format of a column's cell: JSON diffs if its partial bit is set.
 #[inline(always)]
-fn form_of(bits: &[u8], column: ImageColumn) -> CellForm
-    ensures { result ≡ form_in bits.now column }
+fn format_of(bits: &[u8], image_column: ImageColumn) -> CellFormat
+    ensures { result ≡ format_in bits.now image_column }
 {
-    match column.form {
-        CellForm::Json => {
-            if has_bit(bits, column.json_index as usize) {
-                CellForm::JsonDiffs
+    match image_column.format {
+        CellFormat::Json => {
+            if has_bit(bits, image_column.json_column as usize) {
+                CellFormat::JsonDiffs
             } else {
-                CellForm::Json
+                CellFormat::Json
             }
         }
-        form => form,
+        format => format,
     }
 }
 
-/// The cell at the front and what follows it: NULL, which takes no bytes, where the null bit is set.
+/// Returns the cell that the bytes begin with and the bytes after it; NULL, which takes no bytes, if the null bit is set.
 #[inline(always)]
-fn field_front(
+fn read_field(
     is_null: bool,
-    form: CellForm,
+    format: CellFormat,
     bytes: &[u8],
 ) -> Result<(CellRef<'_>, &[u8]), RowsError>
-    ensures value { shown (λ x. (cell_value x.0, x.1.now)) result ≡ field_at is_null form bytes.now }
+    ensures value { map_reading (λ x. (cell_value x.0, x.1.now)) result ≡ field_at is_null format bytes.now }
     ensures readable { IfOk result (λ x. IsReadable x.0) }
 {
     if is_null {
         return Ok((CellRef::Null, bytes));
     }
-    cell_front(form, bytes)
+    read_cell(format, bytes)
 }
 
-/// A bit of bytes, from the lowest bit of the first byte on.
+/// Returns a bit of bytes, from the lowest bit of the first byte.
 #[inline(always)]
 fn bit_at(bytes: &[u8], index: usize) -> bool
     requires { index < 8 * length bytes.now }
@@ -244,7 +243,7 @@ fn bit_at(bytes: &[u8], index: usize) -> bool
     (bytes[index / 8] >> (index % 8)) & 1 == 1
 }
 
-/// The same, of any number: bits past the end aren't set.
+/// Returns a bit of bytes; bits past the end are clear.
 #[inline(always)]
 fn has_bit(bytes: &[u8], index: usize) -> bool
     ensures { result ≡ bit bytes.now index }

@@ -1,18 +1,17 @@
-//! The cells of rows, as the rows of a binary log have them: what the cells of a column look like, by its type
-//! and metadata, and one cell, borrowed from the bytes of a rows event.
+//! The cells of rows in a binary log: the format of a column's cells, by its type and metadata, and the cell itself, borrowed
+//! from the bytes of a rows event.
 //!
-//! `specs/ColumnForms.antt` says which form the cells of a column have, `specs/CellForms.antt` how many bytes
-//! they take, `specs/CellValues.antt` what these are worth, and `specs/Cells.antt` which bytes spell a cell;
-//! `specs/BinlogValues.antt` says what callers keep of it.
+//! `specs/ColumnFormats.antt` defines the format of a column's cells, `specs/CellFormats.antt` their size, `specs/CellValues.antt`
+//! their values, `specs/Cells.antt` which bytes encode a cell, and `specs/BinlogValues.antt` what callers keep of it.
 #![tactic(auto)]
 
 mod binlog_value;
 mod cell;
-mod column_form;
+mod cell_reading;
+mod column_format;
 mod conversions;
 mod fields;
-mod form;
-mod front;
+mod format;
 mod image;
 pub mod laws;
 mod owned;
@@ -21,12 +20,12 @@ mod value_field;
 
 pub use binlog_value::BinlogValue;
 pub use cell::CellRef;
-pub use conversions::BinlogValueToValueError;
-pub use form::{CellForm, Width};
-pub use front::{
-    bytes_front, cell_front, datetime_front, decimal_front, few_bytes_front, signed_front,
-    time_front, unsigned_front,
+pub use cell_reading::{
+    read_bytes, read_cell, read_datetime, read_few_bytes, read_signed, read_time, read_unsigned,
+    split_decimal,
 };
+pub use conversions::BinlogValueToValueError;
+pub use format::{CellFormat, Width};
 pub use image::{ImageCells, ImageColumn, ImageField, ImagePlan};
 pub use rows::{RowPart, RowPlan, RowsCursor};
 pub use value_field::BinlogValueCtx;

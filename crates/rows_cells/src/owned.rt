@@ -1,11 +1,11 @@
-//! Borrowed cells as values in memory of their own.
+//! Conversion of borrowed cells to owned values.
 
 ghost use Rattle.std.specs.Prelude.{◌≡◌, ◌≤◌, ◌+◌, ◌++◌, ◌⊎◌, IfOk, IfErr, OnOk, Some, None};
 ghost use Rattle.std.specs.Fmt.{decimal};
-ghost use Rattle.rows_times.specs.TimeTexts.{padded};
+ghost use Rattle.rows_times.specs.TimeTexts.{padded_decimal};
 ghost use Rattle.rows_decimal.specs.Unpacked.{packed_text};
-ghost use Rattle.rows_cells.specs.CellValues.{new_date as new_date_value, old_time as old_time_value, old_datetime as old_datetime_value, timestamp_text as timestamp_text_of, micros_text};
-ghost use Rattle.rows_cells.specs.CellViews.{cell_value, value_view, Holds, IsRefused, IsReadable};
+ghost use Rattle.rows_cells.specs.CellValues.{new_date as new_date_value, old_time as old_time_value, old_datetime as old_datetime_value, timestamp_text as timestamp_text_of, cell_micros_text};
+ghost use Rattle.rows_cells.specs.CellViews.{cell_value, cell_value_of, Holds, HasNoValue, IsReadable};
 ghost use Rattle.rows_times.specs.declared.fault.RowsError.TheVariants.{Memory, Decimal as BadDecimal};
 
 use crate::binlog_value::BinlogValue;
@@ -19,14 +19,15 @@ use std::alloc::{AllocError, Global};
 use wire_buf::ParseBuf;
 
 impl<'a> CellRef<'a> {
-    /// The value in memory of its own; a document stays borrowed.
+    /// Returns the value with bytes of its own; a JSON document stays borrowed.
     ///
-    /// Want of memory is `Memory`. A cell that was read is refused for nothing else; one that was made of bytes
-    /// that pack no decimal is `Decimal`, and of bytes that are no document, or no changes of one, `Jsonb`.
+    /// - `Memory`: out of memory; the only error for a cell that was read from bytes.
+    /// - `Decimal`: the cell was built from bytes that pack no decimal.
+    /// - `Jsonb`: the cell was built from bytes that aren't a JSON document or JSON diffs.
     pub fn to_value(self, alloc: Global) -> Result<BinlogValue<'a>, RowsError>
         ensures ok { IfOk result (λ v. Holds (cell_value self.entry) v) }
         ensures readable { IfOk result (λ v. IsReadable self.entry) }
-        ensures err { IfErr result (λ e. e ≡ Memory ⊎ IsRefused self.entry e) }
+        ensures err { IfErr result (λ e. e ≡ Memory ⊎ HasNoValue self.entry e) }
     {
         let value = match self {
             CellRef::Null => Value::NULL,
@@ -59,7 +60,7 @@ impl<'a> CellRef<'a> {
     }
 }
 
-/// A year in decimal.
+/// Returns a year in decimal.
 fn year_text(alloc: Global, years: u8) -> Result<Vec<u8>, AllocError>
     ensures { IfOk result (λ text. text.items ≡ decimal (1900 + years)) }
 {
@@ -68,17 +69,17 @@ fn year_text(alloc: Global, years: u8) -> Result<Vec<u8>, AllocError>
     Vec::from_slice(alloc, text.as_bytes())
 }
 
-/// A date of three bytes.
+/// Converts a NEWDATE, a date of three bytes.
 fn new_date(bits: u32) -> Value
-    ensures { value_view result ≡ new_date_value bits }
+    ensures { cell_value_of result ≡ new_date_value bits }
 {
     let (year, month, day) = (bits / 512 % 65_536, bits / 32 % 16, bits % 32);
     Value::Date(year as u16, month as u8, day as u8, 0, 0, 0, 0)
 }
 
-/// A span of time of three bytes.
+/// Converts an old-format TIME of three bytes.
 fn old_time(digits: i32) -> Value
-    ensures { value_view result ≡ old_time_value digits }
+    ensures { cell_value_of result ≡ old_time_value digits }
 {
     let size = digits.unsigned_abs();
     let (hours, minutes, seconds) = (size / 10_000, size / 100 % 100, size % 100);
@@ -93,9 +94,9 @@ fn old_time(digits: i32) -> Value
     )
 }
 
-/// A date and a time of eight bytes.
+/// Converts an old-format DATETIME of eight bytes.
 fn old_datetime(digits: u64) -> Value
-    ensures { value_view result ≡ old_datetime_value digits }
+    ensures { cell_value_of result ≡ old_datetime_value digits }
 {
     Value::Date(
         (digits / 10_000_000_000 % 65_536) as u16,
@@ -108,7 +109,7 @@ fn old_datetime(digits: u64) -> Value
     )
 }
 
-/// Seconds, and a point and microseconds where there are any.
+/// Returns the seconds, and a point and the microseconds if these aren't zero.
 #[tactic(auto, unfolding(crate::specs::CellValues::timestamp_text))]
 fn timestamp_text(alloc: Global, seconds: i32, micros: i32) -> Result<Vec<u8>, AllocError>
     ensures { IfOk result (λ text. text.items ≡ timestamp_text_of (seconds, micros)) }
@@ -119,9 +120,9 @@ fn timestamp_text(alloc: Global, seconds: i32, micros: i32) -> Result<Vec<u8>, A
     Ok(text)
 }
 
-/// A point and microseconds, where there are any: six characters, in which a sign counts.
+/// Appends a point and the microseconds, if they aren't zero, padded with zeros to six characters, which include a sign.
 fn append_micros(micros: i32, text: &mut Vec<u8>) -> Result<(), AllocError>
-    ensures { OnOk result (text.new.items ≡ text.old.items ++ micros_text micros) }
+    ensures { OnOk result (text.new.items ≡ text.old.items ++ cell_micros_text micros) }
 {
     let size = micros.unsigned_abs();
     if size == 0 {
@@ -135,11 +136,11 @@ fn append_micros(micros: i32, text: &mut Vec<u8>) -> Result<(), AllocError>
     append_padded(6, size, text)
 }
 
-/// A number with zeros before it up to a least width.
-#[tactic(auto, unfolding(rows_times::specs::TimeTexts::padded))]
+/// Appends a number, padded with zeros to a minimum width.
+#[tactic(auto, unfolding(rows_times::specs::TimeTexts::padded_decimal))]
 fn append_padded(width: usize, number: u32, text: &mut Vec<u8>) -> Result<(), AllocError>
     requires { width ≤ 20 }
-    ensures { OnOk result (text.new.items ≡ text.old.items ++ padded width number) }
+    ensures { OnOk result (text.new.items ≡ text.old.items ++ padded_decimal width number) }
 {
     let mut buffer = Buffer::new();
     let digits = buffer.format(number);
@@ -148,7 +149,7 @@ fn append_padded(width: usize, number: u32, text: &mut Vec<u8>) -> Result<(), Al
     Ok(())
 }
 
-/// The text of a packed decimal.
+/// Returns the text of a packed decimal.
 fn decimal_text(alloc: Global, precision: u8, scale: u8, bytes: &[u8]) -> Result<Vec<u8>, RowsError>
     ensures ok { IfOk result (λ text. packed_text precision scale bytes.now ≡ Some text.items) }
     ensures err { IfErr result (λ e. e ≡ Memory ⊎ ((e ≡ BadDecimal) × (packed_text precision scale bytes.now ≡ None))) }

@@ -1,4 +1,4 @@
-//! The rows of an event, one part after the other.
+//! The rows of an event, read part by part.
 
 ghost use Rattle.std.specs.Prelude.{◌≡◌, ◌<◌, ◌-◌, ◌*◌, length, Some};
 ghost use Rattle.rows_cells.specs.declared.rows.Stage.TheVariants.{Start, First};
@@ -7,7 +7,7 @@ use crate::cell::CellRef;
 use crate::image::{ImageCells, ImagePlan};
 use rows_times::RowsError;
 
-/// What a row of an event has: the image before the change, the one after it, or both.
+/// The layout of an event's rows: the image before the change, the one after it, or both.
 #[derive(Clone, Copy, Debug)]
 pub struct RowPlan<'p> {
     /// The first image of a row.
@@ -16,21 +16,21 @@ pub struct RowPlan<'p> {
     pub second: Option<ImagePlan<'p>>,
 }
 
-/// A part of a row, in the order in which they stand there.
+/// A part of a row; parts come in the order of the row's bytes.
 #[derive(Clone, Copy, Debug)]
 pub enum RowPart<'a> {
-    /// The next cell of the image: its column's place in the table, from 0, and its value.
+    /// The next cell of the image: its column's index in the table, from 0, and its value.
     Cell(u32, CellRef<'a>),
-    /// The first image is done, and the second begins.
+    /// The first image has ended, and the second begins.
     NextImage,
-    /// The row is done.
+    /// The row has ended.
     EndOfRow,
 }
 
-/// Where in a row the next part is.
+/// The position of the next part within a row.
 #[derive(Clone, Copy, Debug, PartialEq, Eq)]
 enum Stage {
-    /// At the beginning of a row, or behind the last.
+    /// At the beginning of a row, or after the last row.
     Start,
     /// In the first image.
     First,
@@ -38,25 +38,24 @@ enum Stage {
     Second,
 }
 
-/// The rows that are still to come, borrowed from the bytes of the rows event, and part by part of the row
-/// that was begun. It takes no memory.
+/// The remaining rows of an event, borrowed from its bytes, and the remaining parts of the current row. It takes no memory.
 #[derive(Clone, Copy)]
 pub struct RowsCursor<'p, 'a> {
     plan: RowPlan<'p>,
     stage: Stage,
-    /// How many bytes were left where the row began.
+    /// The number of bytes that remained at the beginning of the row.
     row_len: usize,
-    /// The cells of the image; at the beginning of a row none, before the row's bytes.
+    /// The remaining cells of the image; at the beginning of a row none, followed by the row's bytes.
     cells: ImageCells<'p, 'a>,
 }
 
 impl<'p, 'a> RowsCursor<'p, 'a> {
-    ghost use Rattle.rows_cells.specs.RowViews.{IsBetween, TakesPart};
+    ghost use Rattle.rows_cells.specs.RowViews.{IsBetweenRows, ReturnsPart};
 
-    /// The rows that these bytes are.
+    /// Returns a cursor over the rows in these bytes.
     pub fn of(plan: RowPlan<'p>, rows_data: &'a [u8]) -> RowsCursor<'p, 'a>
         ensures plan { result.plan ≡ plan.entry }
-        ensures rows { IsBetween result rows_data.entry.now }
+        ensures rows { IsBetweenRows result rows_data.entry.now }
     {
         RowsCursor {
             plan,
@@ -66,13 +65,15 @@ impl<'p, 'a> RowsCursor<'p, 'a> {
         }
     }
 
-    /// The next part; none once all rows were given.
+    /// Returns the next part, or None after the last row.
     ///
-    /// Where the row can't be read, the refusal of `ImageCells::of` or of `cell_front`, and `EmptyPair` where
-    /// it takes no bytes, since rows would never end: now and from then on.
+    /// If the row can't be read, returns the following, now and on later calls:
+    ///
+    /// - the errors of `ImageCells::of` and of `read_cell`;
+    /// - `EmptyPair`: the row takes no bytes, so that rows would never end.
     #[inline(always)]
     pub fn next_part(&mut self) -> Result<Option<RowPart<'a>>, RowsError>
-        ensures { TakesPart self.old result self.new }
+        ensures { ReturnsPart self.old result self.new }
     {
         if self.stage == Stage::Start {
             if self.cells.rest().is_empty() {
@@ -84,7 +85,7 @@ impl<'p, 'a> RowsCursor<'p, 'a> {
             }
         }
         match self.cells.next_cell() {
-            Ok(Some((place, cell))) => Ok(Some(RowPart::Cell(place, cell))),
+            Ok(Some((column, cell))) => Ok(Some(RowPart::Cell(column, cell))),
             Ok(None) => match self.end_image() {
                 Ok(part) => Ok(Some(part)),
                 Err(fault) => Err(fault),
@@ -96,15 +97,15 @@ impl<'p, 'a> RowsCursor<'p, 'a> {
 
 impl<'p, 'a> RowsCursor<'p, 'a> {
     ghost use Rattle.std.specs.Prelude.{OnOk, IfErr, Ok, Err, []};
-    ghost use Rattle.rows_cells.specs.ImageViews.{cells_left, cells_count};
-    ghost use Rattle.rows_cells.specs.RowViews.{begun_row, row_left, IsInRow, row_parts, parts_left, BeginsRow, EndsImage};
+    ghost use Rattle.rows_cells.specs.ImageViews.{remaining_cells, cells_count};
+    ghost use Rattle.rows_cells.specs.RowViews.{rest_of_row, remaining_row, IsInRow, row_parts, remaining_parts, BeginsRow, EndsImage};
 
-    /// Goes to the first image of the row at the front.
+    /// Begins the first image of the next row.
     fn begin_row(&mut self) -> Result<(), RowsError>
         requires stage { self.now.stage ≡ Start }
         requires some { 0 < length self.now.cells.rest.now }
         ensures ok { OnOk result (BeginsRow self.old self.new) }
-        ensures err { IfErr result (λ e. (row_left self.old ≡ Err e) × (self.new ≡ self.old)) }
+        ensures err { IfErr result (λ e. (remaining_row self.old ≡ Err e) × (self.new ≡ self.old)) }
     {
         let bytes = self.cells.rest();
         match ImageCells::of(self.plan.first, bytes) {
@@ -118,10 +119,10 @@ impl<'p, 'a> RowsCursor<'p, 'a> {
         }
     }
 
-    /// Goes from the end of an image to the next one, or to the end of the row.
+    /// Goes from the end of an image to the next image, or to the end of the row.
     fn end_image(&mut self) -> Result<RowPart<'a>, RowsError>
         requires stage { IsInRow self.now }
-        requires none { cells_left self.now.cells ≡ Ok ([], self.now.cells.rest.now) }
+        requires none { remaining_cells self.now.cells ≡ Ok ([], self.now.cells.rest.now) }
         requires count { cells_count self.now.cells ≡ 0 }
         ensures { EndsImage self.old result self.new }
     {
@@ -136,9 +137,9 @@ impl<'p, 'a> RowsCursor<'p, 'a> {
 
     /// Goes from the end of the last image to the end of the row.
     fn end_row(&mut self) -> Result<RowPart<'a>, RowsError>
-        requires none { cells_left self.now.cells ≡ Ok ([], self.now.cells.rest.now) }
-        requires left { row_left self.now ≡ begun_row [] self.now }
-        requires parts { (self.now.row_len - 1) * row_parts self.now.plan < parts_left self.now }
+        requires none { remaining_cells self.now.cells ≡ Ok ([], self.now.cells.rest.now) }
+        requires left { remaining_row self.now ≡ rest_of_row [] self.now }
+        requires parts { (self.now.row_len - 1) * row_parts self.now.plan < remaining_parts self.now }
         ensures { EndsImage self.old result self.new }
     {
         if self.cells.rest().len() >= self.row_len {
@@ -148,11 +149,11 @@ impl<'p, 'a> RowsCursor<'p, 'a> {
         Ok(RowPart::EndOfRow)
     }
 
-    /// Goes to the second image.
+    /// Begins the second image.
     fn begin_second(&mut self, plan: ImagePlan<'p>) -> Result<RowPart<'a>, RowsError>
         requires stage { self.now.stage ≡ First }
         requires second { self.now.plan.second ≡ Some plan }
-        requires none { cells_left self.now.cells ≡ Ok ([], self.now.cells.rest.now) }
+        requires none { remaining_cells self.now.cells ≡ Ok ([], self.now.cells.rest.now) }
         requires count { cells_count self.now.cells ≡ 0 }
         ensures { EndsImage self.old result self.new }
     {

@@ -1,55 +1,57 @@
-//! The value of a cell as a field of what is read.
+//! Reading the value of a cell as a field.
 
 ghost use Rattle.std.specs.Prelude.{◌≡◌, ◌⊎◌, Err};
-ghost use Rattle.wire_buf.specs.Spelling.{Alone};
+ghost use Rattle.wire_buf.specs.Encoding.{Alone};
 ghost use Rattle.rows_times.specs.declared.fault.RowsError.TheVariants.{Memory};
 ghost use Rattle.rows_cells.specs.Cells.{cell_at};
-ghost use Rattle.rows_cells.specs.BinlogValues.{Kept, kept_view, IsKeptCell, form_of_ctx};
+ghost use Rattle.rows_cells.specs.BinlogValues.{Kept, kept_view, IsKeptCell, format_of_ctx};
 
 use crate::binlog_value::BinlogValue;
-use crate::form::CellForm;
-use crate::front::cell_front;
+use crate::cell_reading::read_cell;
+use crate::format::CellFormat;
 use rows_times::RowsError;
 use std::alloc::Global;
 use wire_buf::{AnySize, MyDeserialize, ParseBuf};
 use wire_consts::ColumnType;
 
-/// What a table map says of the column of a cell, and a rows event of the cell.
+/// What a table map has about a cell's column, and a rows event about the cell.
 #[derive(Clone, Copy, Debug)]
 pub struct BinlogValueCtx<'a> {
     /// The column's real type.
     pub real_type: ColumnType,
-    /// What the type says further.
+    /// The column's metadata.
     pub metadata: &'a [u8],
     /// Whether the column is numeric and unsigned.
     pub is_unsigned: bool,
-    /// Whether a JSON column's cell has changes of its document.
+    /// Whether the cell of a JSON column has JSON diffs.
     pub is_partial: bool,
 }
 
 impl BinlogValueCtx<'_> {
-    /// The form of the column's cells.
-    pub fn form(&self) -> CellForm
-        ensures { result ≡ form_of_ctx self.now }
+    /// Returns the format of the column's cells.
+    pub fn format(&self) -> CellFormat
+        ensures { result ≡ format_of_ctx self.now }
     {
-        match CellForm::of_column(self.real_type, self.metadata, self.is_unsigned) {
-            CellForm::Json => {
+        match CellFormat::of_column(self.real_type, self.metadata, self.is_unsigned) {
+            CellFormat::Json => {
                 if self.is_partial {
-                    CellForm::JsonDiffs
+                    CellFormat::JsonDiffs
                 } else {
-                    CellForm::Json
+                    CellFormat::Json
                 }
             }
-            form => form,
+            format => format,
         }
     }
 }
 
-/// A cell of the column that the context describes, as `cell_front` and `CellRef::to_value` read it.
+/// Reads a cell of the column that the context describes, as `read_cell` and `CellRef::to_value` do.
 ///
-/// `EndOfBody` where the bytes end within the cell; `Metadata` and `Cell` where the column has no cells that
-/// can be read; `Decimal` where the bytes pack none; `Jsonb` where a document, or a change of one, can't be
-/// read; `Memory` where memory was refused.
+/// - `EndOfBody`: the bytes end within the cell.
+/// - `Metadata`, `Cell`: the column has no cells that can be read.
+/// - `Decimal`: the bytes pack no decimal.
+/// - `Jsonb`: a JSON document or diff can't be read.
+/// - `Memory`: out of memory.
 impl<'de> MyDeserialize<'de> for BinlogValue<'de> {
     const SIZE: Option<usize> = None;
 
@@ -63,16 +65,16 @@ impl<'de> MyDeserialize<'de> for BinlogValue<'de> {
 
     ghost view = { kept_view };
 
-    ghost spells = { λ ctx. Alone (IsKeptCell (form_of_ctx ctx)) };
+    ghost encodes = { λ ctx. Alone (IsKeptCell (format_of_ctx ctx)) };
 
-    ghost refusal = { λ ctx x e. (e ≡ Memory) ⊎ (cell_at (form_of_ctx ctx) x ≡ Err e) };
+    ghost fails_with = { λ ctx x e. (e ≡ Memory) ⊎ (cell_at (format_of_ctx ctx) x ≡ Err e) };
 
     fn deserialize(
         alloc: Global,
         ctx: BinlogValueCtx<'de>,
         buf: &mut ParseBuf<'de>,
     ) -> Result<BinlogValue<'de>, RowsError> {
-        match cell_front(ctx.form(), buf.0) {
+        match read_cell(ctx.format(), buf.0) {
             Ok((cell, rest)) => match cell.to_value(alloc) {
                 Ok(value) => {
                     buf.0 = rest;

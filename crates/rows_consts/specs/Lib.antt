@@ -2,4 +2,4 @@ pub mod EventTypes
 pub mod StatusVarKeys
 pub mod MetadataTypes
 pub mod Constants
-pub mod Refusals
+pub mod Conversions

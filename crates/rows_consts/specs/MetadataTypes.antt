@@ -1,4 +1,4 @@
--- The types of the fields of a table map's optional metadata.
+-- The types of the fields in a table map's optional metadata (MySQL's `Table_map_event::Optional_metadata_field_type`).
 use Rattle.std.specs.Prelude.{ℕ}
 use Rattle.rows_consts.specs.declared.optional_metadata_field_type.OptionalMetadataFieldType.{OptionalMetadataFieldType}
 use Rattle.rows_consts.specs.declared.optional_metadata_field_type.OptionalMetadataFieldType.TheVariants.{SIGNEDNESS, DEFAULT_CHARSET, COLUMN_CHARSET, COLUMN_NAME, SET_STR_VALUE, ENUM_STR_VALUE, GEOMETRY_TYPE, SIMPLE_PRIMARY_KEY, PRIMARY_KEY_WITH_PREFIX, ENUM_AND_SET_DEFAULT_CHARSET, ENUM_AND_SET_COLUMN_CHARSET, COLUMN_VISIBILITY, VECTOR_DIMENSIONALITY}

@@ -1,4 +1,4 @@
--- The keys of a query event's status variables.
+-- The keys of a query event's status variables (MySQL's `Query_event::Query_event_status_vars`).
 use Rattle.std.specs.Prelude.{ℕ}
 use Rattle.rows_consts.specs.declared.status_var_key.StatusVarKey.{StatusVarKey}
 use Rattle.rows_consts.specs.declared.status_var_key.StatusVarKey.TheVariants.{Flags2, SqlMode, Catalog, AutoIncrement, Charset, TimeZone, CatalogNz, LcTimeNames, CharsetDatabase, TableMapForUpdate, MasterDataWritten, Invoker, UpdatedDbNames, Microseconds, CommitTs, CommitTs2, ExplicitDefaultsForTimestamp, DdlLoggedWithXid, DefaultCollationForUtf8mb4, SqlRequirePrimaryKey, DefaultTableEncryption}

@@ -6,7 +6,7 @@ ghost use Rattle.rows_consts.specs.Constants.{binlog_checksum_alg_number};
 use thiserror::Error;
 use wire_consts::Constant;
 
-/// The algorithm of the checksums of a log, as its description says it.
+/// The checksum algorithm of a log, from its format description. MySQL's source: `enum_binlog_checksum_alg`.
 #[derive(Clone, Copy, Debug, PartialEq, Eq, Hash)]
 pub enum BinlogChecksumAlg {
     /// Events have no checksum.
@@ -15,7 +15,7 @@ pub enum BinlogChecksumAlg {
     BINLOG_CHECKSUM_ALG_CRC32 = 1,
 }
 
-/// A number that stands for no algorithm of checksums.
+/// A number that no checksum algorithm has.
 #[derive(Clone, Copy, Debug, PartialEq, Eq, Hash, Error)]
 #[error("Unknown checksum algorithm {0}")]
 pub struct UnknownChecksumAlg(pub u8);
@@ -25,7 +25,7 @@ impl TryFrom<u8> for BinlogChecksumAlg {
 
     ghost try_from_gives = { IsConstantOf binlog_checksum_alg_number (λ unknown. unknown.0) };
 
-    /// The algorithm of a number; refused from 2 on.
+    /// Returns the algorithm with this number. Returns an error from 2 on.
     fn try_from(number: u8) -> Result<BinlogChecksumAlg, UnknownChecksumAlg> {
         match number {
             0 => Ok(BinlogChecksumAlg::BINLOG_CHECKSUM_ALG_OFF),
@@ -38,14 +38,14 @@ impl TryFrom<u8> for BinlogChecksumAlg {
 impl Constant<u8> for BinlogChecksumAlg {
     ghost number = { binlog_checksum_alg_number };
 
-    /// The number of the constant.
+    /// Returns the constant's number.
     fn to_number(self) -> u8 {
         self as u8
     }
 
     ghost takes = { λ n v h. h };
 
-    ghost refuses = { λ n e h. h.1 };
+    ghost fails = { λ n e h. h.1 };
 
     ghost its_own = { Prim.search rules };
 }
@@ -53,7 +53,7 @@ impl Constant<u8> for BinlogChecksumAlg {
 impl From<UnknownChecksumAlg> for u8 {
     ghost from_gives = { λ unknown number. number ≡ unknown.0 };
 
-    /// The number that was refused.
+    /// Returns the unknown number.
     fn from(unknown: UnknownChecksumAlg) -> u8 {
         unknown.0
     }

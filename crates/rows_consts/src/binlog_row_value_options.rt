@@ -6,14 +6,15 @@ ghost use Rattle.rows_consts.specs.Constants.{binlog_row_value_options_number};
 use thiserror::Error;
 use wire_consts::Constant;
 
-/// How JSON documents stand in updated rows: a bit of the options in a row's shared part.
+/// The options of updated rows, from a bit set in a row's shared part. MySQL's system variable
+/// `binlog_row_value_options`.
 #[derive(Clone, Copy, Debug, PartialEq, Eq, Hash)]
 pub enum BinlogRowValueOptions {
-    /// Documents may stand as their changes.
+    /// JSON documents may be stored as their changes.
     PARTIAL_JSON_UPDATES = 1,
 }
 
-/// A number that stands for no such option.
+/// A number that no such option has.
 #[derive(Clone, Copy, Debug, PartialEq, Eq, Hash, Error)]
 #[error("Unknown binlog row value options {0}")]
 pub struct UnknownBinlogRowValueOptions(pub u64);
@@ -23,7 +24,7 @@ impl TryFrom<u64> for BinlogRowValueOptions {
 
     ghost try_from_gives = { IsConstantOf binlog_row_value_options_number (λ unknown. unknown.0) };
 
-    /// The option of a number; all but 1 are refused.
+    /// Returns the option with this number. Returns an error for all numbers but 1.
     fn try_from(number: u64) -> Result<BinlogRowValueOptions, UnknownBinlogRowValueOptions> {
         match number {
             1 => Ok(BinlogRowValueOptions::PARTIAL_JSON_UPDATES),
@@ -35,14 +36,14 @@ impl TryFrom<u64> for BinlogRowValueOptions {
 impl Constant<u64> for BinlogRowValueOptions {
     ghost number = { binlog_row_value_options_number };
 
-    /// The number of the constant.
+    /// Returns the constant's number.
     fn to_number(self) -> u64 {
         self as u64
     }
 
     ghost takes = { λ n v h. h };
 
-    ghost refuses = { λ n e h. h.1 };
+    ghost fails = { λ n e h. h.1 };
 
     ghost its_own = { Prim.search rules };
 }
@@ -50,7 +51,7 @@ impl Constant<u64> for BinlogRowValueOptions {
 impl From<UnknownBinlogRowValueOptions> for u64 {
     ghost from_gives = { λ unknown number. number ≡ unknown.0 };
 
-    /// The number that was refused.
+    /// Returns the unknown number.
     fn from(unknown: UnknownBinlogRowValueOptions) -> u64 {
         unknown.0
     }

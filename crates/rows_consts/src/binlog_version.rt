@@ -6,12 +6,12 @@ ghost use Rattle.rows_consts.specs.Constants.{binlog_version_number};
 use thiserror::Error;
 use wire_consts::Constant;
 
-/// The version of the format of a binary log, as its description says it.
+/// The version of the binary log format, from the format description.
 #[derive(Clone, Copy, Debug, PartialEq, Eq, PartialOrd, Ord, Hash)]
 pub enum BinlogVersion {
     /// The format of servers before 4.0.
     Version1 = 1,
-    /// The format of 4.0.0 and 4.0.1; no log was written in it.
+    /// The format of 4.0.0 and 4.0.1.
     Version2 = 2,
     /// The format of 4.0.2 to 4.1.
     Version3 = 3,
@@ -19,7 +19,7 @@ pub enum BinlogVersion {
     Version4 = 4,
 }
 
-/// A number that stands for no version of the format.
+/// A number that no version has.
 #[derive(Clone, Copy, Debug, PartialEq, Eq, Hash, Error)]
 #[error("Unknown binlog version {0}")]
 pub struct UnknownBinlogVersion(pub u16);
@@ -29,7 +29,7 @@ impl TryFrom<u16> for BinlogVersion {
 
     ghost try_from_gives = { IsConstantOf binlog_version_number (λ unknown. unknown.0) };
 
-    /// The version of a number; 0 is refused, and all from 5 on.
+    /// Returns the version with this number. Returns an error for 0 and from 5 on.
     fn try_from(number: u16) -> Result<BinlogVersion, UnknownBinlogVersion> {
         match number {
             1 => Ok(BinlogVersion::Version1),
@@ -44,14 +44,14 @@ impl TryFrom<u16> for BinlogVersion {
 impl Constant<u16> for BinlogVersion {
     ghost number = { binlog_version_number };
 
-    /// The number of the constant.
+    /// Returns the constant's number.
     fn to_number(self) -> u16 {
         self as u16
     }
 
     ghost takes = { λ n v h. h };
 
-    ghost refuses = { λ n e h. h.1 };
+    ghost fails = { λ n e h. h.1 };
 
     ghost its_own = { Prim.search rules };
 }
@@ -59,7 +59,7 @@ impl Constant<u16> for BinlogVersion {
 impl From<BinlogVersion> for u16 {
     ghost from_gives = { λ binlog_version number. number ≡ binlog_version_number binlog_version };
 
-    /// The number of the version.
+    /// Returns the version's number.
     fn from(binlog_version: BinlogVersion) -> u16 {
         binlog_version as u16
     }
@@ -68,7 +68,7 @@ impl From<BinlogVersion> for u16 {
 impl From<UnknownBinlogVersion> for u16 {
     ghost from_gives = { λ unknown number. number ≡ unknown.0 };
 
-    /// The number that was refused.
+    /// Returns the unknown number.
     fn from(unknown: UnknownBinlogVersion) -> u16 {
         unknown.0
     }

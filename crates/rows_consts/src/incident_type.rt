@@ -6,16 +6,16 @@ ghost use Rattle.rows_consts.specs.Constants.{incident_type_number};
 use thiserror::Error;
 use wire_consts::Constant;
 
-/// What went wrong in the source of a log.
+/// The kind of an error on the source of a log, from an incident event.
 #[derive(Clone, Copy, Debug, PartialEq, Eq, Hash)]
 pub enum IncidentType {
-    /// Nothing.
+    /// No incident.
     INCIDENT_NONE = 0,
-    /// Events were lost, so that a replica no longer has the same data.
+    /// Events were lost, so that a replica may not have the same data any more.
     INCIDENT_LOST_EVENTS = 1,
 }
 
-/// A number that stands for no incident.
+/// A number that no incident has.
 #[derive(Clone, Copy, Debug, PartialEq, Eq, Hash, Error)]
 #[error("Unknown item incident type {0}")]
 pub struct UnknownIncidentType(pub u16);
@@ -25,7 +25,7 @@ impl TryFrom<u16> for IncidentType {
 
     ghost try_from_gives = { IsConstantOf incident_type_number (λ unknown. unknown.0) };
 
-    /// The incident of a number; refused from 2 on.
+    /// Returns the incident with this number. Returns an error from 2 on.
     fn try_from(number: u16) -> Result<IncidentType, UnknownIncidentType> {
         match number {
             0 => Ok(IncidentType::INCIDENT_NONE),
@@ -38,14 +38,14 @@ impl TryFrom<u16> for IncidentType {
 impl Constant<u16> for IncidentType {
     ghost number = { incident_type_number };
 
-    /// The number of the constant.
+    /// Returns the constant's number.
     fn to_number(self) -> u16 {
         self as u16
     }
 
     ghost takes = { λ n v h. h };
 
-    ghost refuses = { λ n e h. h.1 };
+    ghost fails = { λ n e h. h.1 };
 
     ghost its_own = { Prim.search rules };
 }
@@ -53,7 +53,7 @@ impl Constant<u16> for IncidentType {
 impl From<IncidentType> for u16 {
     ghost from_gives = { λ incident_type number. number ≡ incident_type_number incident_type };
 
-    /// The number of the incident.
+    /// Returns the incident's number.
     fn from(incident_type: IncidentType) -> u16 {
         incident_type as u16
     }
@@ -62,7 +62,7 @@ impl From<IncidentType> for u16 {
 impl From<UnknownIncidentType> for u16 {
     ghost from_gives = { λ unknown number. number ≡ unknown.0 };
 
-    /// The number that was refused.
+    /// Returns the unknown number.
     fn from(unknown: UnknownIncidentType) -> u16 {
         unknown.0
     }

@@ -6,18 +6,18 @@ ghost use Rattle.rows_consts.specs.Constants.{intvar_event_type_number};
 use thiserror::Error;
 use wire_consts::Constant;
 
-/// Which number an integer variable event holds.
+/// Which variable an integer variable event sets.
 #[derive(Clone, Copy, Debug, PartialEq, Eq, Hash)]
 pub enum IntvarEventType {
     /// None.
     INVALID_INT_EVENT = 0,
-    /// What `LAST_INSERT_ID()` gives in the next statement.
+    /// The value of `LAST_INSERT_ID()` in the next statement.
     LAST_INSERT_ID_EVENT = 1,
-    /// What the next statement gives to `AUTO_INCREMENT`.
+    /// The `AUTO_INCREMENT` value that the next statement inserts.
     INSERT_ID_EVENT = 2,
 }
 
-/// A number that stands for no integer variable.
+/// A number that no integer variable has.
 #[derive(Clone, Copy, Debug, PartialEq, Eq, Hash, Error)]
 #[error("Unknown intvar event type {0}")]
 pub struct UnknownIntvarEventType(pub u8);
@@ -27,7 +27,7 @@ impl TryFrom<u8> for IntvarEventType {
 
     ghost try_from_gives = { IsConstantOf intvar_event_type_number (λ unknown. unknown.0) };
 
-    /// The variable of a number; refused from 3 on.
+    /// Returns the variable with this number. Returns an error from 3 on.
     fn try_from(number: u8) -> Result<IntvarEventType, UnknownIntvarEventType> {
         match number {
             0 => Ok(IntvarEventType::INVALID_INT_EVENT),
@@ -41,14 +41,14 @@ impl TryFrom<u8> for IntvarEventType {
 impl Constant<u8> for IntvarEventType {
     ghost number = { intvar_event_type_number };
 
-    /// The number of the constant.
+    /// Returns the constant's number.
     fn to_number(self) -> u8 {
         self as u8
     }
 
     ghost takes = { λ n v h. h };
 
-    ghost refuses = { λ n e h. h.1 };
+    ghost fails = { λ n e h. h.1 };
 
     ghost its_own = { Prim.search rules };
 }
@@ -56,7 +56,7 @@ impl Constant<u8> for IntvarEventType {
 impl From<IntvarEventType> for u8 {
     ghost from_gives = { λ intvar_event_type number. number ≡ intvar_event_type_number intvar_event_type };
 
-    /// The number of the variable.
+    /// Returns the variable's number.
     fn from(intvar_event_type: IntvarEventType) -> u8 {
         intvar_event_type as u8
     }
@@ -65,7 +65,7 @@ impl From<IntvarEventType> for u8 {
 impl From<UnknownIntvarEventType> for u8 {
     ghost from_gives = { λ unknown number. number ≡ unknown.0 };
 
-    /// The number that was refused.
+    /// Returns the unknown number.
     fn from(unknown: UnknownIntvarEventType) -> u8 {
         unknown.0
     }

@@ -1,7 +1,7 @@
-//! The numbers of MySQL's binary logs that have names, and their conversions.
+//! The named numbers of MySQL's binary logs, and their conversions.
 //!
-//! `specs/` has the number of each constant. How numbers are taken as constants, and when they are
-//! refused, is said once for all of them in `wire_consts`. The sets of flags stand in `rows_flags`.
+//! `specs/` has the number of each constant. `wire_consts` specifies, once for all types, how a number is
+//! converted to a constant and when that is an error. The flag sets are in `rows_flags`.
 #![tactic(auto)]
 
 mod binlog_checksum_alg;

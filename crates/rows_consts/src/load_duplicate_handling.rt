@@ -6,18 +6,18 @@ ghost use Rattle.rows_consts.specs.Constants.{load_duplicate_handling_number};
 use thiserror::Error;
 use wire_consts::Constant;
 
-/// What `LOAD DATA` does with a row whose key stands in the table.
+/// What `LOAD DATA` does with a row whose key is already in the table.
 #[derive(Clone, Copy, Debug, PartialEq, Eq, Hash)]
 pub enum LoadDuplicateHandling {
     /// It fails.
     LOAD_DUP_ERROR = 0,
-    /// It passes the row by.
+    /// It skips the row.
     LOAD_DUP_IGNORE = 1,
-    /// It replaces the row that stands there.
+    /// It replaces the existing row.
     LOAD_DUP_REPLACE = 2,
 }
 
-/// A number that stands for no handling of duplicates.
+/// A number that no duplicate handling has.
 #[derive(Clone, Copy, Debug, PartialEq, Eq, Hash, Error)]
 #[error("Unknown duplicate handling variant {0}")]
 pub struct UnknownDuplicateHandling(pub u8);
@@ -27,7 +27,7 @@ impl TryFrom<u8> for LoadDuplicateHandling {
 
     ghost try_from_gives = { IsConstantOf load_duplicate_handling_number (λ unknown. unknown.0) };
 
-    /// The handling of a number; refused from 3 on.
+    /// Returns the handling with this number. Returns an error from 3 on.
     fn try_from(number: u8) -> Result<LoadDuplicateHandling, UnknownDuplicateHandling> {
         match number {
             0 => Ok(LoadDuplicateHandling::LOAD_DUP_ERROR),
@@ -41,14 +41,14 @@ impl TryFrom<u8> for LoadDuplicateHandling {
 impl Constant<u8> for LoadDuplicateHandling {
     ghost number = { load_duplicate_handling_number };
 
-    /// The number of the constant.
+    /// Returns the constant's number.
     fn to_number(self) -> u8 {
         self as u8
     }
 
     ghost takes = { λ n v h. h };
 
-    ghost refuses = { λ n e h. h.1 };
+    ghost fails = { λ n e h. h.1 };
 
     ghost its_own = { Prim.search rules };
 }
@@ -56,7 +56,7 @@ impl Constant<u8> for LoadDuplicateHandling {
 impl From<LoadDuplicateHandling> for u8 {
     ghost from_gives = { λ handling number. number ≡ load_duplicate_handling_number handling };
 
-    /// The number of the handling.
+    /// Returns the handling's number.
     fn from(load_duplicate_handling: LoadDuplicateHandling) -> u8 {
         load_duplicate_handling as u8
     }
@@ -65,7 +65,7 @@ impl From<LoadDuplicateHandling> for u8 {
 impl From<UnknownDuplicateHandling> for u8 {
     ghost from_gives = { λ unknown number. number ≡ unknown.0 };
 
-    /// The number that was refused.
+    /// Returns the unknown number.
     fn from(unknown: UnknownDuplicateHandling) -> u8 {
         unknown.0
     }

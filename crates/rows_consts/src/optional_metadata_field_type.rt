@@ -6,12 +6,13 @@ ghost use Rattle.rows_consts.specs.MetadataTypes.{optional_metadata_field_type_n
 use thiserror::Error;
 use wire_consts::Constant;
 
-/// The type of a field of the optional metadata of a table map.
+/// The type of a field in the optional metadata of a table map. MySQL's source:
+/// `Table_map_event::Optional_metadata_field_type`.
 #[derive(Clone, Copy, Debug, PartialEq, Eq, Hash)]
 pub enum OptionalMetadataFieldType {
     /// Which numeric columns are unsigned.
     SIGNEDNESS = 1,
-    /// The character set of most character columns, and those of the others.
+    /// The default character set of the character columns, and the columns with another one.
     DEFAULT_CHARSET = 2,
     /// The character set of each character column.
     COLUMN_CHARSET = 3,
@@ -21,15 +22,15 @@ pub enum OptionalMetadataFieldType {
     SET_STR_VALUE = 5,
     /// The strings of each `ENUM` column.
     ENUM_STR_VALUE = 6,
-    /// The real type of each geometry column.
+    /// The geometry type of each geometry column.
     GEOMETRY_TYPE = 7,
-    /// The columns of a primary key over whole columns.
+    /// The columns of a primary key without prefixes.
     SIMPLE_PRIMARY_KEY = 8,
-    /// The columns of a primary key over prefixes, with their lengths.
+    /// The columns of a primary key with prefixes, and the prefix lengths.
     PRIMARY_KEY_WITH_PREFIX = 9,
-    /// As `DEFAULT_CHARSET`, of `ENUM` and `SET` columns.
+    /// `DEFAULT_CHARSET` for `ENUM` and `SET` columns.
     ENUM_AND_SET_DEFAULT_CHARSET = 10,
-    /// As `COLUMN_CHARSET`, of `ENUM` and `SET` columns.
+    /// `COLUMN_CHARSET` for `ENUM` and `SET` columns.
     ENUM_AND_SET_COLUMN_CHARSET = 11,
     /// Which columns are visible.
     COLUMN_VISIBILITY = 12,
@@ -37,7 +38,7 @@ pub enum OptionalMetadataFieldType {
     VECTOR_DIMENSIONALITY = 13,
 }
 
-/// A number that stands for no type of optional metadata.
+/// A number that no such type has.
 #[derive(Clone, Copy, Debug, PartialEq, Eq, Error)]
 #[error("Unknown optional metadata field type {0}")]
 pub struct UnknownOptionalMetadataFieldType(pub u8);
@@ -47,7 +48,7 @@ impl TryFrom<u8> for OptionalMetadataFieldType {
 
     ghost try_from_gives = { IsConstantOf optional_metadata_field_type_number (λ unknown. unknown.0) };
 
-    /// The type of a number; 0 is refused, and all from 14 on.
+    /// Returns the type with this number. Returns an error for 0 and from 14 on.
     fn try_from(number: u8) -> Result<OptionalMetadataFieldType, UnknownOptionalMetadataFieldType> {
         match number {
             1 => Ok(OptionalMetadataFieldType::SIGNEDNESS),
@@ -71,14 +72,14 @@ impl TryFrom<u8> for OptionalMetadataFieldType {
 impl Constant<u8> for OptionalMetadataFieldType {
     ghost number = { optional_metadata_field_type_number };
 
-    /// The number of the constant.
+    /// Returns the constant's number.
     fn to_number(self) -> u8 {
         self as u8
     }
 
     ghost takes = { λ n v h. h };
 
-    ghost refuses = { λ n e h. h.1 };
+    ghost fails = { λ n e h. h.1 };
 
     ghost its_own = { Prim.search rules };
 }
@@ -86,7 +87,7 @@ impl Constant<u8> for OptionalMetadataFieldType {
 impl From<UnknownOptionalMetadataFieldType> for u8 {
     ghost from_gives = { λ unknown number. number ≡ unknown.0 };
 
-    /// The number that was refused.
+    /// Returns the unknown number.
     fn from(unknown: UnknownOptionalMetadataFieldType) -> u8 {
         unknown.0
     }

@@ -5,24 +5,24 @@ ghost use Rattle.rows_consts.specs.StatusVarKeys.{status_var_key_number};
 use thiserror::Error;
 use wire_consts::Constant;
 
-/// The key of a status variable of a query event.
+/// The key of a status variable of a query event. MySQL's source: `Query_event::Query_event_status_vars`.
 #[derive(Clone, Copy, Debug, PartialEq, Eq, Hash)]
 pub enum StatusVarKey {
     /// Options of the session, 4 bytes.
     Flags2 = 0,
     /// The SQL mode, 8 bytes.
     SqlMode = 1,
-    /// The catalog of servers from 5.0.0 to 5.0.3: a length, text and a zero.
+    /// The catalog, of servers from 5.0.0 to 5.0.3: a length, text and a zero byte.
     Catalog = 2,
     /// Increment and offset of `AUTO_INCREMENT`, 2 bytes each.
     AutoIncrement = 3,
     /// The character sets of client, connection and server, 2 bytes each.
     Charset = 4,
-    /// The time zone, a length and text.
+    /// The time zone: a length and text.
     TimeZone = 5,
-    /// The catalog, a length and text.
+    /// The catalog: a length and text.
     CatalogNz = 6,
-    /// The locale of names of months and days, 2 bytes.
+    /// The locale of month and day names, 2 bytes.
     LcTimeNames = 7,
     /// The character set of the default schema, 2 bytes.
     CharsetDatabase = 8,
@@ -30,29 +30,29 @@ pub enum StatusVarKey {
     TableMapForUpdate = 9,
     /// The length of the event at its source, 4 bytes.
     MasterDataWritten = 10,
-    /// User and host of the invoker, each a length and text.
+    /// User and host of the invoker: each a length and text.
     Invoker = 11,
-    /// A count and the names of the schemas that a statement updates, each ended by a zero.
+    /// The schemas that a statement updates: a count, then null-terminated names.
     UpdatedDbNames = 12,
-    /// The microseconds of the statement's start, 3 bytes.
+    /// The microseconds of the statement's start time, 3 bytes.
     Microseconds = 13,
     /// Never written.
     CommitTs = 14,
     /// Never written.
     CommitTs2 = 15,
-    /// The option of this name, 1 byte.
+    /// The variable `explicit_defaults_for_timestamp`, 1 byte.
     ExplicitDefaultsForTimestamp = 16,
-    /// The number of the transaction of a statement that defines data, 8 bytes.
+    /// The XID of a DDL statement, 8 bytes.
     DdlLoggedWithXid = 17,
     /// The default collation of `utf8mb4`, 2 bytes.
     DefaultCollationForUtf8mb4 = 18,
-    /// The option of this name, 1 byte.
+    /// The variable `sql_require_primary_key`, 1 byte.
     SqlRequirePrimaryKey = 19,
-    /// The option of this name, 1 byte.
+    /// The variable `default_table_encryption`, 1 byte.
     DefaultTableEncryption = 20,
 }
 
-/// A number that is the key of no status variable.
+/// A number that no status variable key has.
 #[derive(Clone, Copy, Debug, PartialEq, Eq, Hash, Error)]
 #[error("Unknown status var key {0}")]
 pub struct UnknownStatusVarKey(pub u8);
@@ -62,7 +62,7 @@ impl TryFrom<u8> for StatusVarKey {
 
     ghost try_from_gives = { IsConstantOf status_var_key_number (λ unknown. unknown.0) };
 
-    /// The key of a number; refused from 21 on.
+    /// Returns the key with this number. Returns an error from 21 on.
     fn try_from(number: u8) -> Result<StatusVarKey, UnknownStatusVarKey> {
         match number {
             0 => Ok(StatusVarKey::Flags2),
@@ -94,14 +94,14 @@ impl TryFrom<u8> for StatusVarKey {
 impl Constant<u8> for StatusVarKey {
     ghost number = { status_var_key_number };
 
-    /// The number of the constant.
+    /// Returns the constant's number.
     fn to_number(self) -> u8 {
         self as u8
     }
 
     ghost takes = { λ n v h. h };
 
-    ghost refuses = { λ n e h. h.1 };
+    ghost fails = { λ n e h. h.1 };
 
     ghost its_own = { Prim.search rules };
 }

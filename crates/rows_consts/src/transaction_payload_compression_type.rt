@@ -1,21 +1,21 @@
 ghost use Rattle.std.proofs.Common.{rules};
 ghost use Rattle.wire_consts.specs.Numbering.{IsConstantOf};
 ghost use Rattle.rows_consts.specs.Constants.{transaction_payload_compression_type_number};
-ghost use Rattle.rows_consts.specs.Refusals.{IsByteConstantOf};
+ghost use Rattle.rows_consts.specs.Conversions.{IsByteConstantOf};
 
 use thiserror::Error;
 use wire_consts::Constant;
 
-/// How the payload of a transaction payload event is compressed.
+/// The compression of a transaction payload event.
 #[derive(Clone, Copy, Debug, PartialEq, Eq, Hash)]
 pub enum TransactionPayloadCompressionType {
-    /// By Zstandard.
+    /// Zstandard.
     ZSTD = 0,
-    /// Not at all.
+    /// No compression.
     NONE = 255,
 }
 
-/// A number that stands for no compression; 255 for all numbers past a byte.
+/// A number that no compression has; 255 for all numbers above 255.
 #[derive(Clone, Copy, Debug, PartialEq, Eq, Hash, Error)]
 #[error("Unknown TransactionPayloadCompressionType {0}")]
 pub struct UnknownTransactionPayloadCompressionType(pub u8);
@@ -25,7 +25,7 @@ impl TryFrom<u8> for TransactionPayloadCompressionType {
 
     ghost try_from_gives = { IsConstantOf transaction_payload_compression_type_number (λ unknown. unknown.0) };
 
-    /// The compression of a number; refused from 1 to 254.
+    /// Returns the compression with this number. Returns an error from 1 to 254.
     fn try_from(
         number: u8,
     ) -> Result<TransactionPayloadCompressionType, UnknownTransactionPayloadCompressionType> {
@@ -40,14 +40,14 @@ impl TryFrom<u8> for TransactionPayloadCompressionType {
 impl Constant<u8> for TransactionPayloadCompressionType {
     ghost number = { transaction_payload_compression_type_number };
 
-    /// The number of the constant.
+    /// Returns the constant's number.
     fn to_number(self) -> u8 {
         self as u8
     }
 
     ghost takes = { λ n v h. h };
 
-    ghost refuses = { λ n e h. h.1 };
+    ghost fails = { λ n e h. h.1 };
 
     ghost its_own = { Prim.search rules };
 }
@@ -57,7 +57,8 @@ impl TryFrom<u64> for TransactionPayloadCompressionType {
 
     ghost try_from_gives = { IsByteConstantOf transaction_payload_compression_type_number (λ unknown. unknown.0) };
 
-    /// The compression of a number; refused from 1 to 254. Past a byte the refusal holds 255.
+    /// Returns the compression with this number. Returns an error from 1 to 254 and above 255; above 255 the
+    /// error holds 255.
     fn try_from(
         number: u64,
     ) -> Result<TransactionPayloadCompressionType, UnknownTransactionPayloadCompressionType> {

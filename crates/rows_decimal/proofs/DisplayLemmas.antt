@@ -6,7 +6,7 @@ use Rattle.std.specs.declared.fmt.Formatter.{Formatter}
 use Rattle.std.specs.Fmt.{HasWrittenStyled}
 use Rattle.rows_decimal.specs.Texts.{glyphs}
 
--- the characters of the first digits were written, and these are left
+-- the characters of the first digits were written, and these digits remain
 pub record Shows {W : Type 0} (took : W → List ℕ → W → Type 0) (f : Formatter W) (digits rest : List ℕ) (g : Formatter W) : Type 0 where
   pub shown : List ℕ
   pub whole : digits ≡ shown ++ rest
@@ -14,8 +14,8 @@ pub record Shows {W : Type 0} (took : W → List ℕ → W → Type 0) (f : Form
 
 pub shows_more : {W : Type 0} (took : W → List ℕ → W → Type 0) (f g h : Formatter W) (digits rest run more : List ℕ) (n : ℕ) → run ≡ take n rest → more ≡ drop n rest
     → Shows took f digits rest g → HasWrittenStyled took g (glyphs run) h → Shows took f digits more h
-shows_more took f g h digits rest run more n front back s wrote =
-    let parts : rest ≡ run ++ more = sym (ap (λ l. l ++ more) front ∙ ap (λ l. take n rest ++ l) back ∙ take-append-drop n rest) in
+shows_more took f g h digits rest run more n prefix back s wrote =
+    let parts : rest ≡ run ++ more = sym (ap (λ l. l ++ more) prefix ∙ ap (λ l. take n rest ++ l) back ∙ take-append-drop n rest) in
     record {
       shown = s.shown ++ run;
       whole = s.whole ∙ ap (λ l. s.shown ++ l) parts ∙ sym (append_assoc s.shown run more);

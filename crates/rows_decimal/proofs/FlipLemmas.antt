@@ -1,4 +1,4 @@
--- The order of flipped bytes.
+-- The order of inverted bytes.
 use Rattle.std.proofs.Common.{◌≡◌, ◌≢◌, ◌<◌, ◌+◌, ◌-◌, ◌%◌, Bool, true, false, ℕ, List, [], ◌∷◌, map, get_or, inl, inr, arith, refl, sym, ap, ◌∙◌, Ordering}
 use Rattle.std.proofs.lemmas.Bool.{true≢false}
 use mathlib.Core.Bool.{beq, not}
@@ -6,19 +6,19 @@ use Rattle.std.specs.Ordering.{nat_cmp, ordering_then}
 use Rattle.std.specs.declared.cmp.Ordering.TheVariants.{Less, Equal, Greater}
 use Rattle.std.specs.Cmp.Lexicographic.{slice_cmp}
 use Rattle.rows_decimal.specs.Digits.{top_flipped, signed}
-use Rattle.rows_decimal.specs.Decimals.{decimal_parts, packed_form_of}
+use Rattle.rows_decimal.specs.Decimals.{decimal_parts, pack_decimal}
 use Rattle.rows_decimal.specs.Steps.{sides_bytes}
 use Rattle.rows_decimal.specs.declared.fields.Decimal.{Decimal}
 use Rattle.rows_decimal.proofs.OrderLemmas.{self_equal}
 use Rattle.rows_decimal.proofs.UnpackLemmas.{sides_low}
 use Rattle.rows_decimal.proofs.NumericLemmas.{less, greater, shift_cmp, flip_cmp, three, mixed_less, mixed_greater, sides_some}
 
--- equal bytes in front don't matter
-pub same_front : (n : Bool) (b c : ℕ) (x y : List ℕ) → b ≡ c → slice_cmp nat_cmp (signed n (b ∷ x)) (signed n (c ∷ y)) ≡ slice_cmp nat_cmp (signed n x) (signed n y)
-same_front true b c x y e =
+-- equal first bytes don't matter
+pub same_prefix : (n : Bool) (b c : ℕ) (x y : List ℕ) → b ≡ c → slice_cmp nat_cmp (signed n (b ∷ x)) (signed n (c ∷ y)) ≡ slice_cmp nat_cmp (signed n x) (signed n y)
+same_prefix true b c x y e =
     ap (λ k. ordering_then (nat_cmp (255 - b) (255 - k)) (slice_cmp nat_cmp (map (λ d. 255 - d) x) (map (λ d. 255 - d) y))) (sym e)
     ∙ ap (λ (o : Ordering). ordering_then o (slice_cmp nat_cmp (map (λ d. 255 - d) x) (map (λ d. 255 - d) y))) (self_equal (255 - b))
-same_front false b c x y e = ap (λ k. ordering_then (nat_cmp b k) (slice_cmp nat_cmp x y)) (sym e) ∙ ap (λ (o : Ordering). ordering_then o (slice_cmp nat_cmp x y)) (self_equal b)
+same_prefix false b c x y e = ap (λ k. ordering_then (nat_cmp b k) (slice_cmp nat_cmp x y)) (sym e) ∙ ap (λ (o : Ordering). ordering_then o (slice_cmp nat_cmp x y)) (self_equal b)
 
 -- bytes that differ decide
 decided : (b c : ℕ) (o : Ordering) → b ≢ c → ordering_then (nat_cmp b c) o ≡ nat_cmp b c
@@ -30,15 +30,15 @@ decided b c o apart = elim (three b c) [
   ]
 ]
 
-pub plain_front : (b c : ℕ) (x y : List ℕ) → b ≢ c → nat_cmp b c ≡ slice_cmp nat_cmp (signed false (b ∷ x)) (signed false (c ∷ y))
-plain_front b c x y apart = sym (decided b c (slice_cmp nat_cmp x y) apart)
+pub plain_prefix : (b c : ℕ) (x y : List ℕ) → b ≢ c → nat_cmp b c ≡ slice_cmp nat_cmp (signed false (b ∷ x)) (signed false (c ∷ y))
+plain_prefix b c x y apart = sym (decided b c (slice_cmp nat_cmp x y) apart)
 
-pub minus_front : (b c : ℕ) (x y : List ℕ) → b < 256 → c < 256 → b ≢ c → nat_cmp c b ≡ slice_cmp nat_cmp (signed true (b ∷ x)) (signed true (c ∷ y))
-minus_front b c x y h g apart =
+pub minus_prefix : (b c : ℕ) (x y : List ℕ) → b < 256 → c < 256 → b ≢ c → nat_cmp c b ≡ slice_cmp nat_cmp (signed true (b ∷ x)) (signed true (c ∷ y))
+minus_prefix b c x y h g apart =
     let rest = slice_cmp nat_cmp (map (λ d. 255 - d) x) (map (λ d. 255 - d) y) in
     sym (ap (λ (o : Ordering). ordering_then o rest) (flip_cmp b c h g) ∙ decided c b rest (λ e. apart (sym e)))
 
--- what ends first stands before
+-- a list is less than one that begins with it
 pub ends_less : (n : Bool) (c : ℕ) (y : List ℕ) → Less ≡ slice_cmp nat_cmp (signed n []) (signed n (c ∷ y))
 ends_less true c y = refl
 ends_less false c y = refl
@@ -51,7 +51,7 @@ pub ends_equal : (n : Bool) → Equal ≡ slice_cmp nat_cmp (signed n []) (signe
 ends_equal true = refl
 ends_equal false = refl
 
--- the top bits don't matter where they are those of one sign
+-- the top bits don't matter if they are those of the same sign
 pub top_same : (n : Bool) (y z : List ℕ) → get_or y 0 0 < 128 → get_or z 0 0 < 128 → slice_cmp nat_cmp (signed n y) (signed n z) ≡ slice_cmp nat_cmp (signed n (top_flipped y)) (signed n (top_flipped z))
 top_same true [] [] h g = refl
 top_same true [] (c ∷ z) h g = refl
@@ -71,10 +71,10 @@ top_same false (b ∷ y) (c ∷ z) h g =
     let two : (c + 128) % 256 ≡ 128 + c = omega (arith, g) in
     ap (λ (o : Ordering). ordering_then o (slice_cmp nat_cmp y z)) (sym (shift_cmp 128 b c) ∙ ap (λ k. nat_cmp k (128 + c)) (sym one) ∙ ap (nat_cmp ((b + 128) % 256)) (sym two))
 
--- ---- packed forms
+-- ---- the packed format
 
 pub one_sign : (n : Bool) (a b : Decimal) (x y : List ℕ) (o : Ordering) → a.negative ≡ n → b.negative ≡ n → x ≡ sides_bytes a.before.items a.after.items → y ≡ sides_bytes b.before.items b.after.items
-    → o ≡ slice_cmp nat_cmp (signed n x) (signed n y) → o ≡ slice_cmp nat_cmp (packed_form_of a) (packed_form_of b)
+    → o ≡ slice_cmp nat_cmp (signed n x) (signed n y) → o ≡ slice_cmp nat_cmp (pack_decimal a) (pack_decimal b)
 one_sign n a b x y o first second left right is =
     let v = sides_bytes a.before.items a.after.items in
     let w = sides_bytes b.before.items b.after.items in
@@ -83,7 +83,7 @@ one_sign n a b x y o first second left right is =
     ∙ ap (λ (m : Bool). slice_cmp nat_cmp (signed m (top_flipped v)) (signed n (top_flipped w))) (sym first)
     ∙ ap (λ (m : Bool). slice_cmp nat_cmp (signed a.negative (top_flipped v)) (signed m (top_flipped w))) (sym second)
 
-pub minus_less : (a b : Decimal) → a.negative ≡ true → b.negative ≡ false → Less ≡ slice_cmp nat_cmp (packed_form_of a) (packed_form_of b)
+pub minus_less : (a b : Decimal) → a.negative ≡ true → b.negative ≡ false → Less ≡ slice_cmp nat_cmp (pack_decimal a) (pack_decimal b)
 minus_less a b first second =
     let v = sides_bytes a.before.items a.after.items in
     let w = sides_bytes b.before.items b.after.items in
@@ -91,7 +91,7 @@ minus_less a b first second =
     ∙ ap (λ (m : Bool). slice_cmp nat_cmp (signed m (top_flipped v)) (top_flipped w)) (sym first)
     ∙ ap (λ (m : Bool). slice_cmp nat_cmp (signed a.negative (top_flipped v)) (signed m (top_flipped w))) (sym second)
 
-pub plus_greater : (a b : Decimal) → a.negative ≡ false → b.negative ≡ true → Greater ≡ slice_cmp nat_cmp (packed_form_of a) (packed_form_of b)
+pub plus_greater : (a b : Decimal) → a.negative ≡ false → b.negative ≡ true → Greater ≡ slice_cmp nat_cmp (pack_decimal a) (pack_decimal b)
 plus_greater a b first second =
     let v = sides_bytes a.before.items a.after.items in
     let w = sides_bytes b.before.items b.after.items in

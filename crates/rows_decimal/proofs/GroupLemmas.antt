@@ -1,4 +1,4 @@
--- Digits, their groups, and the bytes of these.
+-- Digits, their groups, and the bytes of the groups.
 use Rattle.std.proofs.Common.{◌≡◌, ◌≤◌, ◌<◌, ◌+◌, ◌*◌, ◌-◌, ◌^◌, ◌++◌, ℕ, zero, suc, List, [], ◌∷◌, length, take, drop, map, get_or, eqb, ltb, true, false, inl, inr, arith, refl, sym, ap, ◌∙◌}
 use Rattle.std.proofs.Math.Nat.{pow-le-pow_right}
 use Rattle.std.proofs.Math.Seq.{take-length}
@@ -14,7 +14,7 @@ use Rattle.std.specs.Prelude.{not, ◌&&◌}
 use Rattle.std.specs.Char.{is_ascii_digit}
 use Rattle.std.specs.Int.{bytes_high_first}
 use Rattle.std.specs.Int.Digits.{number_from_digits, AllBelowBase}
-use Rattle.rows_decimal.specs.Texts.{digits_of, is_spelled}
+use Rattle.rows_decimal.specs.Texts.{digits_of, has_only_digits}
 use Rattle.rows_decimal.specs.Digits.{AreDigits, group_size, group_bytes, nines_bytes}
 
 pub below_base : (ds : List ℕ) → AreDigits ds → AllBelowBase 10 ds
@@ -63,12 +63,12 @@ last_bytes (suc (suc (suc zero))) n room = refl
 last_bytes (suc (suc (suc (suc zero)))) n room = refl
 last_bytes (suc (suc (suc (suc (suc s))))) n room = absurd (omega (arith, room))
 
--- one group more
+-- one more group
 pub nines_more : (n : ℕ) (ds : List ℕ) → nines_bytes (n + 1) ds ≡ nines_bytes n ds ++ group_bytes (take 9 (drop (9 * n) ds))
 unfolding nines_bytes
 nines_more n ds = let e : n + 1 ≡ suc n = omega arith in rw e refl
 
--- the groups don't look at what follows them
+-- the groups don't depend on the digits after them
 pub nines_append : (n : ℕ) (ds es : List ℕ) → 9 * n ≤ length ds → nines_bytes n (ds ++ es) ≡ nines_bytes n ds
 unfolding nines_bytes
 nines_append zero ds es room = refl
@@ -88,7 +88,7 @@ leading_is x xs n room before at = sym (prefix_len_is (λ y. eqb y x) xs n 0 roo
     other : (get_or xs n 0 ≡ x → ⊥) → eqb (get_or xs n 0) x ≡ false
     other differs = elim (eqb_tells (get_or xs n 0) x) [ inl t ↦ absurd (differs t.1) | inr t ↦ t.0 ]
 
--- what stands before the first point
+-- the text before the first point
 pub point_is : (xs : List ℕ) (n : ℕ) → n ≤ length xs → ((k : ℕ) → k < n → get_or xs k 0 ≡ 46 → ⊥) → (n < length xs → get_or xs n 0 ≡ 46) → position_or_len (λ c. eqb c 46) xs ≡ n
 point_is xs n room before at = prefix_len_is (λ c. not (eqb c 46)) xs n 0 room (λ k h. other k (before k h)) (λ h. point (at h))
   where
@@ -104,16 +104,16 @@ drop_past [] (suc n) room = refl
 drop_past (x ∷ xs) zero room = absurd (omega (arith, room))
 drop_past (x ∷ xs) (suc n) room = drop_past xs n (omega (arith, room))
 
--- what characters of digits stand for are digits
+-- the values of digit characters are digits
 digit_below : (c : ℕ) → is_ascii_digit c ≡ true → c - 48 < 10
 digit_below c h = grind (arith, nat_tests)
 
-pub spelled_digits : (t : List ℕ) → list_all is_ascii_digit t ≡ true → AreDigits (map (λ c. c - 48) t)
-spelled_digits [] h k = omega arith
-spelled_digits (c ∷ t) h zero = digit_below c (and_parts (is_ascii_digit c) (list_all is_ascii_digit t) h).0
-spelled_digits (c ∷ t) h (suc k) = spelled_digits t (and_parts (is_ascii_digit c) (list_all is_ascii_digit t) h).1 k
+pub sequence_digits : (t : List ℕ) → list_all is_ascii_digit t ≡ true → AreDigits (map (λ c. c - 48) t)
+sequence_digits [] h k = omega arith
+sequence_digits (c ∷ t) h zero = digit_below c (and_parts (is_ascii_digit c) (list_all is_ascii_digit t) h).0
+sequence_digits (c ∷ t) h (suc k) = sequence_digits t (and_parts (is_ascii_digit c) (list_all is_ascii_digit t) h).1 k
 
--- the digits of a group that were passed make a number of at most eight digits
+-- the digits of a group that were read make a number of at most eight digits
 pub number_room : (ds : List ℕ) (i : ℕ) → i < length ds → length ds ≤ 9 → AreDigits ds → number_from_digits 10 (take i ds) < 100000000
 number_room ds i below few are =
     let bound = number_bound (take i ds) (take_digits i ds are) in
@@ -122,14 +122,14 @@ number_room ds i below few are =
     let ten : 0 < 10 = omega arith in
     omega (arith, bound, pow-le-pow_right {n = 10} ten most)
 
--- what spells a decimal makes digits, and at least one
-pub spelled_facts : (a b : List ℕ) → is_spelled a b ≡ true → AreDigits (digits_of a) × AreDigits (digits_of b) × (0 < length (digits_of a) + length (digits_of b))
-unfolding is_spelled
-spelled_facts a b h =
+-- the characters of a decimal give digits, and at least one
+pub sequence_facts : (a b : List ℕ) → has_only_digits a b ≡ true → AreDigits (digits_of a) × AreDigits (digits_of b) × (0 < length (digits_of a) + length (digits_of b))
+unfolding has_only_digits
+sequence_facts a b h =
     let parts = and_parts (ltb 0 (length a + length b)) (list_all is_ascii_digit a && list_all is_ascii_digit b) h in
     let both = and_parts (list_all is_ascii_digit a) (list_all is_ascii_digit b) parts.1 in
     let some : 0 < length a + length b = ltb-true 0 (length a + length b) parts.0 in
-    (spelled_digits a both.0, spelled_digits b both.1, omega (arith, some, length-map a (λ c. c - 48), length-map b (λ c. c - 48)))
+    (sequence_digits a both.0, sequence_digits b both.1, omega (arith, some, length-map a (λ c. c - 48), length-map b (λ c. c - 48)))
 
 pub to_end : (xs : List ℕ) (n : ℕ) → take (length xs - n) (drop n xs) ≡ drop n xs
 to_end xs n = ap (λ k. take k (drop n xs)) (sym (length-drop n xs)) ∙ take-length (drop n xs)

@@ -1,5 +1,5 @@
 pub mod GroupLemmas
-pub mod TakingLemmas
+pub mod UnpackDigitsLemmas
 pub mod ZeroLemmas
 pub mod UnpackLemmas
 pub mod ReadingLemmas
@@ -7,14 +7,14 @@ pub mod OrderLemmas
 pub mod NumericLemmas
 pub mod ReadBackLemmas
 pub mod DisplayLemmas
-pub mod GroupFrontLemmas
+pub mod FirstGroupLemmas
 pub mod FlipLemmas
 pub mod TextLemmas
 pub mod UnpackedLemmas
-pub mod PlaceLemmas
-pub mod TurnLemmas
+pub mod DigitTextLemmas
+pub mod FlipBackLemmas
 pub mod WriteLemmas
-pub mod PackedFrontLemmas
+pub mod PackedPrefixLemmas
 pub mod Computed
 pub mod CheckLemmas
 pub mod NumberLemmas

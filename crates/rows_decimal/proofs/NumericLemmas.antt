@@ -1,4 +1,4 @@
--- Packed bytes of as many digits are in the order of the numbers.
+-- Packed bytes with the same number of digits are ordered as the numbers.
 use Rattle.std.proofs.Common.{◌≡◌, ◌≢◌, ◌≤◌, ◌<◌, ◌+◌, ◌*◌, ◌-◌, ◌/◌, ◌%◌, ◌^◌, ◌++◌, ◌⊎◌, Bool, true, false, ℕ, zero, suc, List, [], ◌∷◌, length, take, drop, map, get_or, inl, inr, arith, refl, sym, ap, subst, ◌∙◌, Ordering}
 use Rattle.std.specs.Ordering.{nat_cmp, ordering_then}
 use Rattle.std.specs.declared.cmp.Ordering.TheVariants.{Less, Equal, Greater}
@@ -10,11 +10,11 @@ use Rattle.std.proofs.lemmas.Bool.Decides.{leb_tells, eqb_tells}
 use Rattle.std.proofs.lemmas.List.{length-append, length-drop, length-take-le, take-append-drop}
 use Rattle.byteorder.specs.Endian.{big_from}
 use Rattle.byteorder.specs.Numbers.{big_from-cons, big_from-lt}
-use Rattle.wire_buf.specs.Spelling.{AreBytes}
+use Rattle.wire_buf.specs.Encoding.{AreBytes}
 use Rattle.rows_decimal.specs.Digits.{AreDigits, group_size, side_size, group_bytes, nines_bytes, before_bytes, after_bytes, top_flipped, signed}
-use Rattle.rows_decimal.specs.Decimals.{DecimalParts, packed_form, digits_number, number_cmp, IsPacked}
+use Rattle.rows_decimal.specs.Decimals.{DecimalParts, packed_encoding, digits_number, number_cmp, IsPacked}
 use Rattle.rows_decimal.proofs.GroupLemmas.{take_digits, drop_digits, append_digits, number_bound, fits_group}
-use Rattle.rows_decimal.proofs.TakingLemmas.{length-group, length-nines, number_of_bytes, nine_long, take_parts}
+use Rattle.rows_decimal.proofs.UnpackDigitsLemmas.{length-group, length-nines, number_of_bytes, nine_long, take_parts}
 use Rattle.rows_decimal.proofs.UnpackLemmas.{before_of, after_of, group_are_bytes, sides_low, sides_are_bytes, top_bytes, length-before, length-after}
 use Rattle.rows_decimal.proofs.OrderLemmas.{self_equal}
 
@@ -56,7 +56,7 @@ flip_cmp a b h g = elim (three a b) [
   ]
 ]
 
--- the higher places decide first
+-- the higher digits decide first
 place_cmp : (m q r s t : ℕ) → r < m → t < m → nat_cmp (q * m + r) (s * m + t) ≡ ordering_then (nat_cmp q s) (nat_cmp r t)
 place_cmp m q r s t hr ht = elim (three q s) [
   | inl l ↦
@@ -86,7 +86,7 @@ cmp_append (c ∷ a) [] x y h = absurd (omega (arith, h))
 cmp_append (c ∷ a) (d ∷ b) x y h =
     ap (λ (o : Ordering). ordering_then (nat_cmp c d) o) (cmp_append a b x y (omega (arith, h))) ∙ then_assoc (nat_cmp c d) (slice_cmp nat_cmp a b) (slice_cmp nat_cmp x y)
 
--- bytes, as many, are in the order of their numbers
+-- lists of bytes of the same length are ordered as their numbers
 bytes_cmp : (xs ys : List ℕ) → length xs ≡ length ys → AreBytes xs → AreBytes ys → slice_cmp nat_cmp xs ys ≡ nat_cmp (big_from 0 (length xs) xs) (big_from 0 (length ys) ys)
 bytes_cmp [] [] e h g = refl
 bytes_cmp [] (y ∷ ys) e h g = absurd (omega (arith, e))
@@ -104,7 +104,7 @@ bytes_cmp (x ∷ xs) (y ∷ ys) e h g =
     ∙ ap (λ k. nat_cmp (x * m + k) (y * m + t)) (sym left) ∙ ap (λ k. nat_cmp (big_from 0 (suc (length xs)) (x ∷ xs)) (y * 256 ^ k + t)) long
     ∙ ap (λ k. nat_cmp (big_from 0 (suc (length xs)) (x ∷ xs)) (y * 256 ^ length ys + k)) (sym right)
 
--- a number of digits by its first
+-- a number of digits, by its first digit
 scale : (n : ℕ) (xs : List ℕ) → number_from_digits_after 10 n xs ≡ n * 10 ^ length xs + number_from_digits 10 xs
 scale n [] = omega arith
 scale n (x ∷ xs) =
@@ -158,13 +158,13 @@ nines_cmp (suc n) ds es a b h g =
     let p_long = nine_long ds n (omega (arith, a)) in
     let q_long = nine_long es n (omega (arith, b)) in
     let first : length (nines_bytes n ds) ≡ length (nines_bytes n es) = length-nines n ds a_before ∙ sym (length-nines n es b_before) in
-    let fronts : length (take (9 * n) ds) ≡ length (take (9 * n) es) = length-take-le (9 * n) ds a_before ∙ sym (length-take-le (9 * n) es b_before) in
+    let prefixes : length (take (9 * n) ds) ≡ length (take (9 * n) es) = length-take-le (9 * n) ds a_before ∙ sym (length-take-le (9 * n) es b_before) in
     let more : 9 * n + 9 ≡ 9 * suc n = omega arith in
     cmp_append (nines_bytes n ds) (nines_bytes n es) (group_bytes p) (group_bytes q) first
     ∙ ap (λ (o : Ordering). ordering_then o (slice_cmp nat_cmp (group_bytes p) (group_bytes q))) (nines_cmp n ds es a_before b_before h g)
     ∙ ap (λ (o : Ordering). ordering_then (slice_cmp nat_cmp (take (9 * n) ds) (take (9 * n) es)) o)
     (group_cmp p q (p_long ∙ sym q_long) (omega (arith, p_long)) (take_digits 9 (drop (9 * n) ds) (drop_digits (9 * n) ds h)) (take_digits 9 (drop (9 * n) es) (drop_digits (9 * n) es g)))
-    ∙ sym (cmp_append (take (9 * n) ds) (take (9 * n) es) p q fronts)
+    ∙ sym (cmp_append (take (9 * n) ds) (take (9 * n) es) p q prefixes)
     ∙ ap (λ (l : List ℕ). slice_cmp nat_cmp l (take (9 * n) es ++ q)) (take_parts (9 * n) 9 ds ∙ ap (λ k. take k ds) more)
     ∙ ap (λ (l : List ℕ). slice_cmp nat_cmp (take (9 * suc n) ds) l) (take_parts (9 * n) 9 es ∙ ap (λ k. take k es) more)
 
@@ -217,12 +217,12 @@ after_cmp n ds es a b h g =
     ∙ sym (cmp_append p q r s (p_long ∙ sym q_long))
     ∙ ap (λ (l : List ℕ). slice_cmp nat_cmp l (q ++ s)) (take-append-drop m ds) ∙ ap (λ (l : List ℕ). slice_cmp nat_cmp ds l) (take-append-drop m es)
 
--- ---- the order of packed forms
+-- ---- the order of packed decimals
 
 sides : DecimalParts → List ℕ
 sides v = before_bytes v.before ++ after_bytes v.after
 
--- as many digits before and after the point, which are digits
+-- the same number of digits before and after the point
 pub record AreAlike (v w : DecimalParts) : Type 0 where
   pub before_size : length v.before ≡ length w.before
   pub after_size : length v.after ≡ length w.after
@@ -241,10 +241,10 @@ digits_alike v w a =
 sides_cmp : (v w : DecimalParts) → AreAlike v w → slice_cmp nat_cmp (sides v) (sides w) ≡ nat_cmp (digits_number v) (digits_number w)
 unfolding sides
 sides_cmp v w a =
-    let fronts : length (before_bytes v.before) ≡ length (before_bytes w.before) = length-before v.before ∙ ap side_size a.before_size ∙ sym (length-before w.before) in
+    let prefixes : length (before_bytes v.before) ≡ length (before_bytes w.before) = length-before v.before ∙ ap side_size a.before_size ∙ sym (length-before w.before) in
     let b_size = a.before_size in
     let a_size = a.after_size in
-    cmp_append (before_bytes v.before) (before_bytes w.before) (after_bytes v.after) (after_bytes w.after) fronts
+    cmp_append (before_bytes v.before) (before_bytes w.before) (after_bytes v.after) (after_bytes w.after) prefixes
     ∙ ap (λ (o : Ordering). ordering_then o (slice_cmp nat_cmp (after_bytes v.after) (after_bytes w.after))) (before_cmp (length v.before) v.before w.before refl (sym b_size) a.v_before a.w_before)
     ∙ ap (λ (o : Ordering). ordering_then (slice_cmp nat_cmp v.before w.before) o) (after_cmp (length v.after) v.after w.after refl (sym a_size) a.v_after a.w_after)
     ∙ sym (cmp_append v.before w.before v.after w.after b_size)
@@ -274,7 +274,7 @@ all_cmp (b ∷ y) (c ∷ z) e h g =
     ap (λ (o : Ordering). ordering_then o (slice_cmp nat_cmp (map (λ k. 255 - k) y) (map (λ k. 255 - k) z))) (flip_cmp b c (h 0) (g 0))
     ∙ ap (λ (o : Ordering). ordering_then (nat_cmp c b) o) (all_cmp y z (omega (arith, e)) (λ k. h (suc k)) (λ k. g (suc k)))
 
--- a negative before one that is none
+-- a negative decimal is less than one that isn't
 pub mixed_less : (y z : List ℕ) → 0 < length y → 0 < length z → get_or y 0 0 < 128 → get_or z 0 0 < 128 → slice_cmp nat_cmp (map (λ b. 255 - b) (top_flipped y)) (top_flipped z) ≡ Less
 mixed_less [] z some also h g = absurd (omega (arith, some))
 mixed_less (b ∷ y) [] some also h g = absurd (omega (arith, also))
@@ -333,13 +333,13 @@ turned_around v w a = record {
   w_after = a.v_after;
 }
 
-packed_in_order : (v w : DecimalParts) → AreAlike v w → 0 < length v.before + length v.after → slice_cmp nat_cmp (packed_form v) (packed_form w) ≡ number_cmp v.negative (digits_number v) w.negative (digits_number w)
+packed_in_order : (v w : DecimalParts) → AreAlike v w → 0 < length v.before + length v.after → slice_cmp nat_cmp (packed_encoding v) (packed_encoding w) ≡ number_cmp v.negative (digits_number v) w.negative (digits_number w)
 unfolding sides
 packed_in_order v w a some =
     signed_cmp v.negative w.negative (sides v) (sides w) (digits_number v) (digits_number w) (sides_long v w a) (sides_some v some) (sides_are_bytes v.before v.after) (sides_are_bytes w.before w.after)
     (sides_low v.before v.after a.v_before a.v_after) (sides_low w.before w.after a.w_before a.w_after) (sides_cmp v w a) (sides_cmp w v (turned_around v w a))
 
--- the same of packed forms of so many digits
+-- the same for packed decimals with so many digits
 pub packs_in_order : (before after : ℕ) (v w : DecimalParts) (a b : List ℕ) → 0 < before + after → IsPacked before after v a → IsPacked before after w b
     → slice_cmp nat_cmp a b ≡ number_cmp v.negative (digits_number v) w.negative (digits_number w)
 packs_in_order before after v w a b some p q =
@@ -352,4 +352,4 @@ packs_in_order before after v w a b some p q =
       w_after = q.after_are;
     } in
     let v_some : 0 < length v.before + length v.after = subst (λ k. 0 < k + length v.after) (sym p.before_size) (subst (λ k. 0 < before + k) (sym p.after_size) some) in
-    ap (λ (l : List ℕ). slice_cmp nat_cmp l b) (sym p.bytes_are) ∙ ap (λ (l : List ℕ). slice_cmp nat_cmp (packed_form v) l) (sym q.bytes_are) ∙ packed_in_order v w alike v_some
+    ap (λ (l : List ℕ). slice_cmp nat_cmp l b) (sym p.bytes_are) ∙ ap (λ (l : List ℕ). slice_cmp nat_cmp (packed_encoding v) l) (sym q.bytes_are) ∙ packed_in_order v w alike v_some

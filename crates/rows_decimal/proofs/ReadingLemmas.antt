@@ -7,9 +7,9 @@ use Rattle.wire_buf.specs.Transfers.{FallsShort}
 use Rattle.rows_times.specs.declared.fault.RowsError.{RowsError}
 use Rattle.rows_times.specs.Faults.{rows_error}
 use Rattle.rows_decimal.specs.declared.fields.Decimal.{Decimal}
-use Rattle.rows_decimal.specs.Decimals.{FailsDecimal, FailsPacked, early, behind}
+use Rattle.rows_decimal.specs.Decimals.{FailsDecimal, FailsPacked, early, following}
 
--- the exit of a `?` whose fault becomes this one
+-- a `?` whose error becomes this one
 pub exit_same : {T E : Type 0} (r : Result T E) (e : E) (P : E → Type 0) → IsErr r × IsErrAnd r (λ y. y ≡ e) → P e → IfErr r P
 exit_same r e P h p = let f = err_from_is_err_and r h.1 in rw f.1 (subst P (sym f.2) p)
 
@@ -40,4 +40,4 @@ pub packed_err : (precision scale p s : ℕ) (old middle new : Option (List ℕ)
     → IfErr r (λ e. FailsDecimal precision scale e middle new) → IfErr r (λ e. FailsPacked e old new)
 packed_err precision scale p s old middle new r a b taken h =
     let two : Consumes old middle (precision ∷ scale ∷ []) = subst (Consumes old middle) (ap (λ k. k ∷ s ∷ []) a ∙ ap (λ k. precision ∷ k ∷ []) b) taken in
-    IfErr-weaker r (λ e. FailsDecimal precision scale e middle new) (λ e. FailsPacked e old new) (λ e fails. behind {middle = middle} precision scale two fails) h
+    IfErr-weaker r (λ e. FailsDecimal precision scale e middle new) (λ e. FailsPacked e old new) (λ e fails. following {middle = middle} precision scale two fails) h

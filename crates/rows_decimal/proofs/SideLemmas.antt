@@ -1,4 +1,4 @@
--- The table of how many bytes the digits on one side of the point take.
+-- The table of the number of bytes of the digits on one side of the point.
 use Rattle.std.proofs.Common.{◌≡◌, ℕ, zero, suc, ◌+◌, ◌-◌, ◌*◌, ◌/◌, ◌<◌, Bool, true, false, ◌≤◌, ◌&&◌, T, eqb, get_or, refl, inl, inr, arith, eq-zero-or-pos, eqb→eq, nat_le}
 use Rattle.std.proofs.lemmas.Bool.{leb-true}
 use Rattle.rows_decimal.specs.Digits.{side_size}
@@ -20,7 +20,7 @@ below (suc n) d t h =
 pub side_at : (d : ℕ) → d < 72 → get_or SIDE_SIZES d 0 ≡ side_size d
 side_at d h = below 72 d tt h
 
--- nor does it have a group of more than four bytes
+-- no group in it has more than four bytes
 abbrev are_small : ℕ → Bool
 are_small zero = true
 are_small (suc d) = nat_le (get_or SIDE_SIZES d 0) (4 * (d / 9) + 4) && are_small d

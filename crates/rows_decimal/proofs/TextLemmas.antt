@@ -1,4 +1,4 @@
--- What is shown is taken back.
+-- The text that is printed is parsed back.
 use Rattle.std.proofs.Common.{◌≡◌, ◌<◌, ◌+◌, ◌-◌, ◌++◌, ◌⊎◌, Bool, true, false, eqb, ltb, ℕ, zero, suc, List, [], ◌∷◌, length, Some, inl, inr, arith, refl, sym, ap, ◌∙◌}
 use Rattle.std.proofs.lemmas.Bool.Decides.{eqb_tells, leb_tells, nat_tests}
 use Rattle.std.specs.Prelude.{◌&&◌, not}
@@ -6,10 +6,10 @@ use Rattle.std.specs.List.{prefix_len, list_all, before_first, after_first, posi
 use Rattle.std.specs.Char.{is_ascii_digit}
 use Rattle.rows_decimal.specs.Digits.{AreDigits}
 use Rattle.rows_decimal.specs.Decimals.{DecimalParts, only_zeros}
-use Rattle.rows_decimal.specs.Texts.{glyphs, significant, whole_text, fraction_text, sign_text, decimal_text, one_zero, has_minus, behind_sign, digits_of, are_zeros, is_spelled, spelled, text_value, shown_digits, shown_value}
+use Rattle.rows_decimal.specs.Texts.{glyphs, significant, whole_text, fraction_text, sign_text, decimal_text, one_zero, has_minus, after_sign, digits_of, are_zeros, has_only_digits, from_digit_texts, text_value, shown_digits, shown_value}
 use Rattle.rows_decimal.proofs.GroupLemmas.{drop_digits}
 
--- a zero alone, or a first digit that is none
+-- a single zero, or a first digit that isn't zero
 First : List ℕ → Type 0
 First w = (w ≡ 0 ∷ []) ⊎ ((d : ℕ) × (r : List ℕ) × (w ≡ suc d ∷ r))
 
@@ -66,11 +66,11 @@ minus true w a f = refl
 minus false w a (inl e) = rw e refl
 minus false w a (inr q) = let apart : eqb (48 + suc q.0) 45 ≡ false = other (48 + suc q.0) 45 (λ e. omega (arith, e)) in rw q.2 apart
 
-behind : (n : Bool) (w a : List ℕ) → First w → behind_sign (sign_text n ++ (glyphs w ++ fraction_text a)) ≡ glyphs w ++ fraction_text a
+after_sign_text : (n : Bool) (w a : List ℕ) → First w → after_sign (sign_text n ++ (glyphs w ++ fraction_text a)) ≡ glyphs w ++ fraction_text a
 unfolding First
-behind true w a f = refl
-behind false w a (inl e) = rw e refl
-behind false w a (inr q) =
+after_sign_text true w a f = refl
+after_sign_text false w a (inl e) = rw e refl
+after_sign_text false w a (inr q) =
     let no_minus : eqb (48 + suc q.0) 45 ≡ false = other (48 + suc q.0) 45 (λ e. omega (arith, e)) in
     let no_plus : eqb (48 + suc q.0) 43 ≡ false = other (48 + suc q.0) 43 (λ e. omega (arith, e)) in
     rw q.2 (rw (no_minus, no_plus) refl)
@@ -115,10 +115,10 @@ unfolding First
 some_glyph w a (inl e) = rw e (positive (1 + length (glyphs a)) (omega arith))
 some_glyph w a (inr q) = rw q.2 (positive (suc (length (glyphs q.1)) + length (glyphs a)) (omega arith))
 
-spelled_back : (n : Bool) (w a : List ℕ) → First w → AreDigits w → AreDigits a
-    → spelled n (glyphs w) (glyphs a) ≡ Some (let v : DecimalParts = record { negative = n && not (only_zeros w && only_zeros a); before = w; after = a } in v)
-unfolding spelled is_spelled
-spelled_back n w a f h g =
+sequence_back : (n : Bool) (w a : List ℕ) → First w → AreDigits w → AreDigits a
+    → from_digit_texts n (glyphs w) (glyphs a) ≡ Some (let v : DecimalParts = record { negative = n && not (only_zeros w && only_zeros a); before = w; after = a } in v)
+unfolding from_digit_texts has_only_digits
+sequence_back n w a f h g =
     rw (some_glyph w a f, all_ascii w h, all_ascii a g)
     (ap (λ (b : Bool). Some (let v : DecimalParts = record { negative = n && not (b && are_zeros (glyphs a)); before = digits_of (glyphs w); after = digits_of (glyphs a) } in v)) (zeros_back w)
     ∙ ap (λ (b : Bool). Some (let v : DecimalParts = record { negative = n && not (only_zeros w && b); before = digits_of (glyphs w); after = digits_of (glyphs a) } in v)) (zeros_back a)
@@ -130,12 +130,12 @@ taken_back : (n : Bool) (w a : List ℕ) → First w → AreDigits w → AreDigi
 unfolding text_value
 taken_back n w a f h g =
     let p : ℕ → Bool = λ c. eqb c 46 in
-    ap (λ t. spelled (has_minus t) (before_first p (behind_sign t)) (after_first p (behind_sign t))) (one n w a f)
-    ∙ ap (λ m. spelled m (before_first p (behind_sign (sign_text n ++ (glyphs w ++ fraction_text a)))) (after_first p (behind_sign (sign_text n ++ (glyphs w ++ fraction_text a))))) (minus n w a f)
-    ∙ ap (λ b. spelled n (before_first p b) (after_first p b)) (behind n w a f)
-    ∙ ap (λ b. spelled n b (after_first p (glyphs w ++ fraction_text a))) (before_is w a)
-    ∙ ap (λ b. spelled n (glyphs w) b) (after_is w a)
-    ∙ spelled_back n w a f h g
+    ap (λ t. from_digit_texts (has_minus t) (before_first p (after_sign t)) (after_first p (after_sign t))) (one n w a f)
+    ∙ ap (λ m. from_digit_texts m (before_first p (after_sign (sign_text n ++ (glyphs w ++ fraction_text a)))) (after_first p (after_sign (sign_text n ++ (glyphs w ++ fraction_text a))))) (minus n w a f)
+    ∙ ap (λ b. from_digit_texts n (before_first p b) (after_first p b)) (after_sign_text n w a f)
+    ∙ ap (λ b. from_digit_texts n b (after_first p (glyphs w ++ fraction_text a))) (before_is w a)
+    ∙ ap (λ b. from_digit_texts n (glyphs w) b) (after_is w a)
+    ∙ sequence_back n w a f h g
 
 pub text_back : (v : DecimalParts) → AreDigits v.before → AreDigits v.after → text_value (decimal_text v) ≡ Some (shown_value v)
 text_back v h g =

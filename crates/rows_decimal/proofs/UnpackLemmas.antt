@@ -6,14 +6,14 @@ use Rattle.std.proofs.lemmas.Bool.Decides.{leb_tells}
 use Rattle.std.proofs.lemmas.List.{length-append, length-take, length-take-le, length-drop, take-append-drop}
 use Rattle.std.specs.Int.{bytes_high_first}
 use Rattle.std.specs.Int.Digits.{number_from_digits}
-use Rattle.wire_buf.specs.Spelling.{AreBytes}
+use Rattle.wire_buf.specs.Encoding.{AreBytes}
 use Rattle.std.specs.Prelude.{if◌then◌else◌}
 use Rattle.rows_decimal.specs.Digits.{AreDigits, group_size, side_size, group_bytes, nines_bytes, before_bytes, after_bytes, top_flipped, signed, has_minus_bit}
-use Rattle.rows_decimal.specs.Steps.{Gains, NoDigits}
+use Rattle.rows_decimal.specs.Steps.{AppendsDigits, NoDigits}
 use Rattle.rows_decimal.specs.Decimals.{DecimalParts, Unpacks, IsPacked, NonePacked, some_digit, without_zero_groups}
 use Rattle.rows_decimal.proofs.GroupLemmas.{take_digits, drop_digits, append_digits, number_bound, fits_group, nines_append}
 use Rattle.rows_decimal.proofs.ZeroLemmas.{groups_dropped}
-use Rattle.rows_decimal.proofs.TakingLemmas.{length-group, length-nines, are_bytes, group_none}
+use Rattle.rows_decimal.proofs.UnpackDigitsLemmas.{length-group, length-nines, are_bytes, group_none}
 
 -- ---- before the point
 
@@ -21,20 +21,20 @@ pub before_of : (count : ℕ) (ds : List ℕ) → length ds ≡ count → before
 unfolding before_bytes
 before_of count ds size = ap (λ k. group_bytes (take (k % 9) ds) ++ nines_bytes (k / 9) (drop (k % 9) ds)) size
 
-pub before_gains : (count s : ℕ) (bytes old mid new : List ℕ) → Gains group_bytes (count % 9) (take s bytes) old mid → Gains (nines_bytes (count / 9)) (9 * (count / 9)) (drop s bytes) mid new
-    → Gains before_bytes count bytes old new
+pub before_gains : (count s : ℕ) (bytes old mid new : List ℕ) → AppendsDigits group_bytes (count % 9) (take s bytes) old mid → AppendsDigits (nines_bytes (count / 9)) (9 * (count / 9)) (drop s bytes) mid new
+    → AppendsDigits before_bytes count bytes old new
 before_gains count s bytes old mid new a b =
     let a_size = a.size in
     let b_size = b.size in
     let ds = a.digits ++ b.digits in
     let size : length ds ≡ count = omega (arith, length-append a.digits b.digits, a_size, b_size) in
-    let front : take (count % 9) ds ≡ a.digits = ap (λ k. take k ds) (sym a_size) ∙ take-append_seam a.digits b.digits in
+    let prefix : take (count % 9) ds ≡ a.digits = ap (λ k. take k ds) (sym a_size) ∙ take-append_seam a.digits b.digits in
     let back : drop (count % 9) ds ≡ b.digits = ap (λ k. drop k ds) (sym a_size) ∙ drop-append_seam a.digits b.digits in
     record {
       digits = ds;
       size = size;
       are = append_digits a.digits b.digits a.are b.are;
-      bytes_are = before_of count ds size ∙ ap (λ l. group_bytes l ++ nines_bytes (count / 9) (drop (count % 9) ds)) front ∙ ap (λ l. group_bytes a.digits ++ nines_bytes (count / 9) l) back
+      bytes_are = before_of count ds size ∙ ap (λ l. group_bytes l ++ nines_bytes (count / 9) (drop (count % 9) ds)) prefix ∙ ap (λ l. group_bytes a.digits ++ nines_bytes (count / 9) l) back
           ∙ ap (λ l. l ++ nines_bytes (count / 9) b.digits) a.bytes_are ∙ ap (λ l. take s bytes ++ l) b.bytes_are ∙ take-append-drop s bytes;
       appended = b.appended ∙ ap (λ l. l ++ b.digits) a.appended ∙ append_assoc old a.digits b.digits;
     }
@@ -72,21 +72,21 @@ after_of count ds size =
     ∙ ap (λ l. nines_bytes (count / 9) l ++ group_bytes (drop w ds)) (sym (take-append-drop w ds))
     ∙ ap (λ l. l ++ group_bytes (drop w ds)) (nines_append (count / 9) p (drop w ds) (omega (arith, long)))
 
-pub after_gains : (count s : ℕ) (bytes old mid new : List ℕ) → Gains (nines_bytes (count / 9)) (9 * (count / 9)) (take s bytes) old mid → Gains group_bytes (count % 9) (drop s bytes) mid new
-    → Gains after_bytes count bytes old new
+pub after_gains : (count s : ℕ) (bytes old mid new : List ℕ) → AppendsDigits (nines_bytes (count / 9)) (9 * (count / 9)) (take s bytes) old mid → AppendsDigits group_bytes (count % 9) (drop s bytes) mid new
+    → AppendsDigits after_bytes count bytes old new
 after_gains count s bytes old mid new a b =
     let a_size = a.size in
     let b_size = b.size in
     let ds = a.digits ++ b.digits in
     let w = 9 * (count / 9) in
     let size : length ds ≡ count = omega (arith, length-append a.digits b.digits, a_size, b_size) in
-    let front : take w ds ≡ a.digits = ap (λ k. take k ds) (sym a_size) ∙ take-append_seam a.digits b.digits in
+    let prefix : take w ds ≡ a.digits = ap (λ k. take k ds) (sym a_size) ∙ take-append_seam a.digits b.digits in
     let back : drop w ds ≡ b.digits = ap (λ k. drop k ds) (sym a_size) ∙ drop-append_seam a.digits b.digits in
     record {
       digits = ds;
       size = size;
       are = append_digits a.digits b.digits a.are b.are;
-      bytes_are = after_of count ds size ∙ ap (λ l. nines_bytes (count / 9) l ++ group_bytes (drop w ds)) front ∙ ap (λ l. nines_bytes (count / 9) a.digits ++ group_bytes l) back
+      bytes_are = after_of count ds size ∙ ap (λ l. nines_bytes (count / 9) l ++ group_bytes (drop w ds)) prefix ∙ ap (λ l. nines_bytes (count / 9) a.digits ++ group_bytes l) back
           ∙ ap (λ l. l ++ group_bytes b.digits) a.bytes_are ∙ ap (λ l. take s bytes ++ l) b.bytes_are ∙ take-append-drop s bytes;
       appended = b.appended ∙ ap (λ l. l ++ b.digits) a.appended ∙ append_assoc old a.digits b.digits;
     }
@@ -207,7 +207,7 @@ pub signed_back : (n : Bool) (xs : List ℕ) → AreBytes xs → signed n (signe
 signed_back true xs h = all_back xs h
 signed_back false xs h = refl
 
--- what is turned so was packed so
+-- bytes whose inversion is undone were packed by it
 pub plain_packs : (n : Bool) (bytes x : List ℕ) → AreBytes bytes → x ≡ top_flipped (signed n bytes) → signed n (top_flipped x) ≡ bytes
 plain_packs n bytes x h e = ap (λ l. signed n (top_flipped l)) e ∙ ap (signed n) (top_back (signed n bytes) (signed_bytes n bytes h)) ∙ signed_back n bytes h
 
@@ -217,7 +217,7 @@ below-128 b h = elim (leb_tells (suc b) 128) [ inl t ↦ t.0 | inr t ↦ absurd 
 pub above-128 : (b : ℕ) → 128 ≤ b → ltb b 128 ≡ false
 above-128 b h = elim (leb_tells (suc b) 128) [ inl t ↦ absurd (omega (arith, t.1, h)) | inr t ↦ t.0 ]
 
--- packed bytes tell the sign, and so what was packed
+-- packed bytes determine the sign, and so the bytes before packing
 pub packed_plain : (n : Bool) (y : List ℕ) → AreBytes y → get_or y 0 0 < 128 → top_flipped (signed (has_minus_bit (signed n (top_flipped y))) (signed n (top_flipped y))) ≡ y
 packed_plain true [] h low = refl
 packed_plain false [] h low = refl
@@ -244,7 +244,7 @@ length-before ds =
     omega (arith, length-append (group_bytes (take (n % 9) ds)) (nines_bytes (n / 9) (drop (n % 9) ds)), g, m)
 
 pub unpacks : (keep neg : Bool) (before after s : ℕ) (bytes x whole fraction short : List ℕ) (d : DecimalParts) → AreBytes bytes → x ≡ top_flipped (signed neg bytes)
-    → Gains before_bytes before (take s x) [] whole → Gains after_bytes after (drop s x) [] fraction
+    → AppendsDigits before_bytes before (take s x) [] whole → AppendsDigits after_bytes after (drop s x) [] fraction
     → short ≡ (if keep then whole else without_zero_groups whole) → d ≡ some_digit (record { negative = neg; before = short; after = fraction }) → Unpacks keep before after d bytes
 unpacks keep neg before after s bytes x whole fraction short d are plain a b cut made = record {
   value = record { negative = neg; before = a.digits; after = b.digits };
@@ -260,7 +260,7 @@ unpacks keep neg before after s bytes x whole fraction short d are plain a b cut
       ∙ ap (λ (l : List ℕ). let v : DecimalParts = record { negative = neg; before = if keep then a.digits else without_zero_groups a.digits; after = l } in some_digit v) b.appended;
 }
 
--- what was packed is what is turned back
+-- undoing the inversion gives the bytes that were packed
 pub plain_of : (neg : Bool) (bytes x : List ℕ) (before after : ℕ) (v : DecimalParts) → neg ≡ has_minus_bit bytes → x ≡ top_flipped (signed neg bytes) → IsPacked before after v bytes
     → x ≡ before_bytes v.before ++ after_bytes v.after
 plain_of neg bytes x before after v sign plain p =
@@ -282,10 +282,10 @@ lacks_after neg before after s bytes x sign plain is none v p =
     none v.after p.after_size p.after_are
     (sym (drop-append_seam (before_bytes v.before) (after_bytes v.after)) ∙ ap (λ k. drop k (before_bytes v.before ++ after_bytes v.after)) long ∙ ap (drop s) (sym (plain_of neg bytes x before after v sign plain p)))
 
-pub gains_from_none : (pack : List ℕ → List ℕ) (count : ℕ) (bytes old new : List ℕ) → old ≡ [] → Gains pack count bytes old new → Gains pack count bytes [] new
+pub gains_from_none : (pack : List ℕ → List ℕ) (count : ℕ) (bytes old new : List ℕ) → old ≡ [] → AppendsDigits pack count bytes old new → AppendsDigits pack count bytes [] new
 gains_from_none pack count bytes old new e g = record { digits = g.digits; size = g.size; are = g.are; bytes_are = g.bytes_are; appended = g.appended ∙ ap (λ l. l ++ g.digits) e }
 
-pub gained_are : (pack : List ℕ → List ℕ) (count : ℕ) (bytes old new : List ℕ) → old ≡ [] → Gains pack count bytes old new → AreDigits new
+pub gained_are : (pack : List ℕ → List ℕ) (count : ℕ) (bytes old new : List ℕ) → old ≡ [] → AppendsDigits pack count bytes old new → AreDigits new
 gained_are pack count bytes old new e g = subst AreDigits (sym (g.appended ∙ ap (λ l. l ++ g.digits) e)) g.are
 
 pub length-after : (ds : List ℕ) → length (after_bytes ds) ≡ side_size (length ds)

@@ -1,4 +1,4 @@
--- The decimal that bytes pack, computed, is the one whose packed form they are.
+-- The decimal that is computed from bytes is the one whose packed bytes they are.
 use Rattle.std.proofs.Common.{◌≡◌, ◌≤◌, ◌<◌, ◌+◌, ◌*◌, ◌-◌, ◌/◌, ◌%◌, ◌^◌, ◌++◌, Bool, true, false, ℕ, zero, suc, List, [], ◌∷◌, length, take, drop, Option, Some, None, Result, IfOk, IfErr, ◌⊎◌, inl, inr, append_assoc, map, arith, refl, sym, ap, subst, ◌∙◌}
 use Rattle.std.specs.Prelude.{slice_range, if◌then◌else◌}
 use Rattle.std.proofs.lemmas.Bool.Decides.{leb_tells, eqb_tells}
@@ -10,29 +10,29 @@ use Rattle.std.proofs.lemmas.Option.{none-some, same_Some}
 use Rattle.std.proofs.lemmas.List.{length-take-le, length-drop, append-nil, take-append-drop, length-map}
 use Rattle.std.proofs.Math.Seq.{take-length}
 use Rattle.byteorder.specs.Endian.{big_number}
-use Rattle.wire_buf.specs.Spelling.{AreBytes}
+use Rattle.wire_buf.specs.Encoding.{AreBytes}
 use Rattle.rows_decimal.specs.Digits.{AreDigits, group_size, side_size, group_bytes, nines_bytes, before_bytes, after_bytes, top_flipped, signed, digits_in, has_minus_bit}
-use Rattle.rows_decimal.specs.Steps.{Gains, NoDigits}
-use Rattle.rows_decimal.specs.Decimals.{DecimalParts, packed_size, IsPacked, NonePacked, Unpacks, kept, decimal_parts, packed_form}
-use Rattle.rows_decimal.specs.Unpacked.{joined, places, group_digits, nines_digits, before_digits, after_digits, valued, plain_bytes, sides_value, unpacked, kept_of}
-use Rattle.rows_decimal.proofs.TakingLemmas.{group_gains, group_none, nines_gain_none, nines_gain_more, nines_lack, fault_because}
+use Rattle.rows_decimal.specs.Steps.{AppendsDigits, NoDigits}
+use Rattle.rows_decimal.specs.Decimals.{DecimalParts, packed_size, IsPacked, NonePacked, Unpacks, normalized, decimal_parts, packed_encoding}
+use Rattle.rows_decimal.specs.Unpacked.{concat_digits, exact_digits, group_digits, nines_digits, before_digits, after_digits, valued, plain_bytes, sides_value, unpacked, normalized_of}
+use Rattle.rows_decimal.proofs.UnpackDigitsLemmas.{group_gains, group_none, nines_gain_none, nines_gain_more, nines_lack, fault_because}
 use Rattle.rows_decimal.proofs.UnpackLemmas.{before_gains, before_lacks_first, before_lacks_rest, after_gains, after_lacks_first, after_lacks_rest, plain_packs, lacks_before, lacks_after, top_bytes, sides_are_bytes}
 use Rattle.rows_decimal.proofs.ReadBackLemmas.{packed_once, unpacked_once}
 use Rattle.rows_decimal.proofs.OrderLemmas.{length-packed}
 
 -- ---- joining
 
-pub joined_some : (a b : Option (List ℕ)) (ds : List ℕ) → joined a b ≡ Some ds → (x : List ℕ) × (y : List ℕ) × (a ≡ Some x) × (b ≡ Some y) × (x ++ y ≡ ds)
+pub joined_some : (a b : Option (List ℕ)) (ds : List ℕ) → concat_digits a b ≡ Some ds → (x : List ℕ) × (y : List ℕ) × (a ≡ Some x) × (b ≡ Some y) × (x ++ y ≡ ds)
 joined_some None b ds e = absurd (none-some ds e)
 joined_some (Some x) None ds e = absurd (none-some ds e)
 joined_some (Some x) (Some y) ds e = (x, y, refl, refl, same_Some (x ++ y) ds e)
 
-pub joined_none : (a b : Option (List ℕ)) → joined a b ≡ None → (a ≡ None) ⊎ ((x : List ℕ) × (a ≡ Some x) × (b ≡ None))
+pub joined_none : (a b : Option (List ℕ)) → concat_digits a b ≡ None → (a ≡ None) ⊎ ((x : List ℕ) × (a ≡ Some x) × (b ≡ None))
 joined_none None b e = inl refl
 joined_none (Some x) None e = inr (x, refl, refl)
 joined_none (Some x) (Some y) e = absurd (none-some (x ++ y) (sym e))
 
--- ---- bytes of bytes
+-- ---- lists of bytes
 
 pub take_bytes : (n : ℕ) (xs : List ℕ) → AreBytes xs → AreBytes (take n xs)
 take_bytes zero xs h k = omega arith
@@ -47,26 +47,26 @@ drop_bytes (suc n) (x ∷ xs) h = drop_bytes n xs (λ k. h (suc k))
 
 -- ---- one group
 
-pub places_some : (k n : ℕ) (ds : List ℕ) → places k n ≡ Some ds → (n < 10 ^ k) × (digits_in k n ≡ ds)
-places_some k n ds e = elim (leb_tells (suc n) (10 ^ k)) [
+pub positions_some : (k n : ℕ) (ds : List ℕ) → exact_digits k n ≡ Some ds → (n < 10 ^ k) × (digits_in k n ≡ ds)
+positions_some k n ds e = elim (leb_tells (suc n) (10 ^ k)) [
   | inl t ↦ (omega (arith, t.1), same_Some (digits_in k n) ds (subst (λ b. (if b then Some (digits_in k n) else None) ≡ Some ds) t.0 e))
   | inr t ↦ absurd (none-some ds (subst (λ b. (if b then Some (digits_in k n) else None) ≡ Some ds) t.0 e))
 ]
 
-pub places_none : (k n : ℕ) → places k n ≡ None → 10 ^ k ≤ n
-places_none k n e = elim (leb_tells (suc n) (10 ^ k)) [
+pub positions_none : (k n : ℕ) → exact_digits k n ≡ None → 10 ^ k ≤ n
+positions_none k n e = elim (leb_tells (suc n) (10 ^ k)) [
   | inl t ↦ absurd (none-some (digits_in k n) (sym (subst (λ b. (if b then Some (digits_in k n) else None) ≡ None) t.0 e)))
   | inr t ↦ omega (arith, t.1)
 ]
 
-group_found : (k : ℕ) (bytes old ds : List ℕ) → length bytes ≡ group_size k → AreBytes bytes → group_digits k bytes ≡ Some ds → Gains group_bytes k bytes old (old ++ ds)
+group_found : (k : ℕ) (bytes old ds : List ℕ) → length bytes ≡ group_size k → AreBytes bytes → group_digits k bytes ≡ Some ds → AppendsDigits group_bytes k bytes old (old ++ ds)
 group_found k bytes old ds long are e =
     let n = big_number (length bytes) bytes in
-    let p = places_some k n ds e in
+    let p = positions_some k n ds e in
     group_gains k n bytes old (old ++ ds) long are refl p.0 (ap (λ l. old ++ l) (sym p.1))
 
 group_lacks : (k : ℕ) (bytes : List ℕ) → k ≤ 9 → length bytes ≡ group_size k → group_digits k bytes ≡ None → NoDigits group_bytes k bytes
-group_lacks k bytes few long e = let n = big_number (length bytes) bytes in group_none k n bytes few long refl (places_none k n e)
+group_lacks k bytes few long e = let n = big_number (length bytes) bytes in group_none k n bytes few long refl (positions_none k n e)
 
 -- ---- groups of nine
 
@@ -76,22 +76,22 @@ at_nine n bytes = let four : 4 * n + 4 - 4 * n ≡ 4 = omega arith in ap (λ k. 
 nine_size : (n : ℕ) (bytes : List ℕ) → 4 * n + 4 ≤ length bytes → length (take 4 (drop (4 * n) bytes)) ≡ 4
 nine_size n bytes room = length-take-le 4 (drop (4 * n) bytes) (omega (arith, room, length-drop (4 * n) bytes))
 
-nines_found : (n : ℕ) (bytes old ds : List ℕ) → 4 * n ≤ length bytes → AreBytes bytes → nines_digits n bytes ≡ Some ds → Gains (nines_bytes n) (9 * n) (take (4 * n) bytes) old (old ++ ds)
+nines_found : (n : ℕ) (bytes old ds : List ℕ) → 4 * n ≤ length bytes → AreBytes bytes → nines_digits n bytes ≡ Some ds → AppendsDigits (nines_bytes n) (9 * n) (take (4 * n) bytes) old (old ++ ds)
 unfolding nines_digits
 nines_found zero bytes old ds room are e =
     let none : old ≡ old ++ ds = sym (append-nil old) ∙ ap (λ l. old ++ l) (same_Some [] ds e) in
-    subst (λ l. Gains (nines_bytes 0) (9 * 0) (take (4 * 0) bytes) old l) none (nines_gain_none bytes old)
+    subst (λ l. AppendsDigits (nines_bytes 0) (9 * 0) (take (4 * 0) bytes) old l) none (nines_gain_none bytes old)
 nines_found (suc n) bytes old ds room are e =
     let p = joined_some (nines_digits n bytes) (group_digits 9 (take 4 (drop (4 * n) bytes))) ds e in
     let a = nines_found n bytes old p.0 (omega (arith, room)) are p.2 in
     let b = group_found 9 (take 4 (drop (4 * n) bytes)) (old ++ p.0) p.1 (nine_size n bytes (omega (arith, room))) (take_bytes 4 (drop (4 * n) bytes) (drop_bytes (4 * n) bytes are)) p.3 in
-    let c = subst (λ l. Gains group_bytes 9 l (old ++ p.0) ((old ++ p.0) ++ p.1)) (at_nine n bytes) b in
+    let c = subst (λ l. AppendsDigits group_bytes 9 l (old ++ p.0) ((old ++ p.0) ++ p.1)) (at_nine n bytes) b in
     let next : n + 1 ≡ suc n = omega arith in
     let all : (old ++ p.0) ++ p.1 ≡ old ++ ds = append_assoc old p.0 p.1 ∙ ap (λ l. old ++ l) p.4 in
-    subst (λ l. Gains (nines_bytes (suc n)) (9 * suc n) (take (4 * suc n) bytes) old l) all
-    (subst (λ k. Gains (nines_bytes k) (9 * k) (take (4 * k) bytes) old ((old ++ p.0) ++ p.1)) next (nines_gain_more n bytes old (old ++ p.0) ((old ++ p.0) ++ p.1) a c))
+    subst (λ l. AppendsDigits (nines_bytes (suc n)) (9 * suc n) (take (4 * suc n) bytes) old l) all
+    (subst (λ k. AppendsDigits (nines_bytes k) (9 * k) (take (4 * k) bytes) old ((old ++ p.0) ++ p.1)) next (nines_gain_more n bytes old (old ++ p.0) ((old ++ p.0) ++ p.1) a c))
 
--- a group of nine that is none
+-- a group of nine that is too large
 none_at : (n : ℕ) (bytes : List ℕ) → nines_digits n bytes ≡ None → (i : ℕ) × (i < n) × (group_digits 9 (take 4 (drop (4 * i) bytes)) ≡ None)
 unfolding nines_digits
 none_at zero bytes e = absurd (none-some [] (sym e))
@@ -108,50 +108,50 @@ nines_lacks n bytes long e =
     let four = nine_size at bytes (omega (arith, below, long)) in
     nines_lack n at bytes below long (subst (NoDigits group_bytes 9) (at_nine at bytes) (group_lacks 9 (take 4 (drop (4 * at) bytes)) (omega arith) four q.2))
 
-nines_all : (n : ℕ) (bytes old ds : List ℕ) → length bytes ≡ 4 * n → AreBytes bytes → nines_digits n bytes ≡ Some ds → Gains (nines_bytes n) (9 * n) bytes old (old ++ ds)
+nines_all : (n : ℕ) (bytes old ds : List ℕ) → length bytes ≡ 4 * n → AreBytes bytes → nines_digits n bytes ≡ Some ds → AppendsDigits (nines_bytes n) (9 * n) bytes old (old ++ ds)
 nines_all n bytes old ds long are e =
     let whole : take (4 * n) bytes ≡ bytes = ap (λ k. take k bytes) (sym long) ∙ take-length bytes in
-    subst (λ l. Gains (nines_bytes n) (9 * n) l old (old ++ ds)) whole (nines_found n bytes old ds (omega (arith, long)) are e)
+    subst (λ l. AppendsDigits (nines_bytes n) (9 * n) l old (old ++ ds)) whole (nines_found n bytes old ds (omega (arith, long)) are e)
 
 -- ---- the sides
 
-before_found : (n : ℕ) (bytes ds : List ℕ) → length bytes ≡ side_size n → AreBytes bytes → before_digits n bytes ≡ Some ds → Gains before_bytes n bytes [] ds
+before_found : (n : ℕ) (bytes ds : List ℕ) → length bytes ≡ side_size n → AreBytes bytes → before_digits n bytes ≡ Some ds → AppendsDigits before_bytes n bytes [] ds
 before_found n bytes ds long are e =
     let s = group_size (n % 9) in
-    let front = take s bytes in
+    let prefix = take s bytes in
     let back = drop s bytes in
-    let p = joined_some (group_digits (n % 9) front) (nines_digits (n / 9) back) ds e in
-    let a = group_found (n % 9) front [] p.0 (length-take-le s bytes (omega (arith, long))) (take_bytes s bytes are) p.2 in
+    let p = joined_some (group_digits (n % 9) prefix) (nines_digits (n / 9) back) ds e in
+    let a = group_found (n % 9) prefix [] p.0 (length-take-le s bytes (omega (arith, long))) (take_bytes s bytes are) p.2 in
     let b = nines_all (n / 9) back p.0 p.1 (omega (arith, long, length-drop s bytes)) (drop_bytes s bytes are) p.3 in
-    subst (λ l. Gains before_bytes n bytes [] l) p.4 (before_gains n s bytes [] p.0 (p.0 ++ p.1) a b)
+    subst (λ l. AppendsDigits before_bytes n bytes [] l) p.4 (before_gains n s bytes [] p.0 (p.0 ++ p.1) a b)
 
 before_lacks : (n : ℕ) (bytes : List ℕ) → length bytes ≡ side_size n → before_digits n bytes ≡ None → NoDigits before_bytes n bytes
 before_lacks n bytes long e =
     let s = group_size (n % 9) in
-    let front = take s bytes in
+    let prefix = take s bytes in
     let back = drop s bytes in
-    elim (joined_none (group_digits (n % 9) front) (nines_digits (n / 9) back) e) [
-      | inl a ↦ before_lacks_first n s bytes refl (group_lacks (n % 9) front (omega arith) (length-take-le s bytes (omega (arith, long))) a)
+    elim (joined_none (group_digits (n % 9) prefix) (nines_digits (n / 9) back) e) [
+      | inl a ↦ before_lacks_first n s bytes refl (group_lacks (n % 9) prefix (omega arith) (length-take-le s bytes (omega (arith, long))) a)
       | inr b ↦ before_lacks_rest n s bytes refl (nines_lacks (n / 9) back (omega (arith, long, length-drop s bytes)) b.2)
     ]
 
-after_found : (n : ℕ) (bytes ds : List ℕ) → length bytes ≡ side_size n → AreBytes bytes → after_digits n bytes ≡ Some ds → Gains after_bytes n bytes [] ds
+after_found : (n : ℕ) (bytes ds : List ℕ) → length bytes ≡ side_size n → AreBytes bytes → after_digits n bytes ≡ Some ds → AppendsDigits after_bytes n bytes [] ds
 after_found n bytes ds long are e =
     let s = 4 * (n / 9) in
-    let front = take s bytes in
+    let prefix = take s bytes in
     let back = drop s bytes in
-    let p = joined_some (nines_digits (n / 9) front) (group_digits (n % 9) back) ds e in
-    let a = nines_all (n / 9) front [] p.0 (length-take-le s bytes (omega (arith, long))) (take_bytes s bytes are) p.2 in
+    let p = joined_some (nines_digits (n / 9) prefix) (group_digits (n % 9) back) ds e in
+    let a = nines_all (n / 9) prefix [] p.0 (length-take-le s bytes (omega (arith, long))) (take_bytes s bytes are) p.2 in
     let b = group_found (n % 9) back p.0 p.1 (omega (arith, long, length-drop s bytes)) (drop_bytes s bytes are) p.3 in
-    subst (λ l. Gains after_bytes n bytes [] l) p.4 (after_gains n s bytes [] p.0 (p.0 ++ p.1) a b)
+    subst (λ l. AppendsDigits after_bytes n bytes [] l) p.4 (after_gains n s bytes [] p.0 (p.0 ++ p.1) a b)
 
 after_lacks : (n : ℕ) (bytes : List ℕ) → length bytes ≡ side_size n → after_digits n bytes ≡ None → NoDigits after_bytes n bytes
 after_lacks n bytes long e =
     let s = 4 * (n / 9) in
-    let front = take s bytes in
+    let prefix = take s bytes in
     let back = drop s bytes in
-    elim (joined_none (nines_digits (n / 9) front) (group_digits (n % 9) back) e) [
-      | inl a ↦ after_lacks_first n s bytes refl (nines_lacks (n / 9) front (length-take-le s bytes (omega (arith, long))) a)
+    elim (joined_none (nines_digits (n / 9) prefix) (group_digits (n % 9) back) e) [
+      | inl a ↦ after_lacks_first n s bytes refl (nines_lacks (n / 9) prefix (length-take-le s bytes (omega (arith, long))) a)
       | inr b ↦ after_lacks_rest n s bytes refl (group_lacks (n % 9) back (omega arith) (omega (arith, long, length-drop s bytes)) b.2)
     ]
 
@@ -202,14 +202,14 @@ sides_found before after v bytes long are e =
     let a = before_found before (take s x) p.0 (length-take-le s x (omega (arith, size, long))) (take_bytes s x (plain_are bytes are)) p.2 in
     let b = after_found after (drop s x) p.1 (omega (arith, size, long, length-drop s x)) (drop_bytes s x (plain_are bytes are)) p.3 in
     let w : DecimalParts = record { negative = neg; before = p.0; after = p.1 } in
-    let front : p.0 ≡ a.digits = a.appended in
+    let prefix : p.0 ≡ a.digits = a.appended in
     let back : p.1 ≡ b.digits = b.appended in
     let is : IsPacked before after w bytes = record {
-      before_size = ap length front ∙ a.size;
+      before_size = ap length prefix ∙ a.size;
       after_size = ap length back ∙ b.size;
-      before_are = subst AreDigits (sym front) a.are;
+      before_are = subst AreDigits (sym prefix) a.are;
       after_are = subst AreDigits (sym back) b.are;
-      bytes_are = ap (λ l. signed neg (top_flipped (before_bytes l ++ after_bytes p.1))) front ∙ ap (λ l. signed neg (top_flipped (before_bytes a.digits ++ after_bytes l))) back
+      bytes_are = ap (λ l. signed neg (top_flipped (before_bytes l ++ after_bytes p.1))) prefix ∙ ap (λ l. signed neg (top_flipped (before_bytes a.digits ++ after_bytes l))) back
           ∙ ap (λ l. signed neg (top_flipped (l ++ after_bytes b.digits))) a.bytes_are ∙ ap (λ l. signed neg (top_flipped (take s x ++ l))) b.bytes_are
           ∙ ap (λ l. signed neg (top_flipped l)) (take-append-drop s x) ∙ plain_packs neg bytes x are refl;
     } in
@@ -290,33 +290,33 @@ unpacked-complete precision scale v bytes some le p = other (unpacked precision 
         let q = (unpacked-sound precision scale w bytes (packed_bytes (precision - scale) scale v bytes p) e).1 in
         e ∙ ap (λ (u : DecimalParts). Some u) (packed_once (precision - scale) scale w v bytes digits q p)
 
--- what is written of digits unpacks to them
-pub read_back : (v : DecimalParts) → AreDigits v.before → AreDigits v.after → 0 < length v.before + length v.after → unpacked (length v.before + length v.after) (length v.after) (packed_form v) ≡ Some v
+-- the packed bytes of digits unpack to them
+pub read_back : (v : DecimalParts) → AreDigits v.before → AreDigits v.after → 0 < length v.before + length v.after → unpacked (length v.before + length v.after) (length v.after) (packed_encoding v) ≡ Some v
 read_back v before after some =
-    unpacked-complete (length v.before + length v.after) (length v.after) v (packed_form v) some (omega arith)
+    unpacked-complete (length v.before + length v.after) (length v.after) v (packed_encoding v) some (omega arith)
     (record { before_size = omega arith; after_size = refl; before_are = before; after_are = after; bytes_are = refl })
 
--- what is made of the digits, of no digits too
-pub kept-complete : (keep : Bool) (precision scale : ℕ) (d : DecimalParts) (bytes : List ℕ) → scale ≤ precision → Unpacks keep (precision - scale) scale d bytes → kept_of keep (unpacked precision scale bytes) ≡ Some d
-kept-complete keep precision scale d bytes le u = other (unpacked precision scale bytes) refl
+-- the decimal that digits unpack to, even without digits
+pub normalized-complete : (keep : Bool) (precision scale : ℕ) (d : DecimalParts) (bytes : List ℕ) → scale ≤ precision → Unpacks keep (precision - scale) scale d bytes → normalized_of keep (unpacked precision scale bytes) ≡ Some d
+normalized-complete keep precision scale d bytes le u = other (unpacked precision scale bytes) refl
   where
     are : AreBytes bytes
     are = packed_bytes (precision - scale) scale u.value bytes u.packed_is
 
-    other : (o : Option DecimalParts) → unpacked precision scale bytes ≡ o → kept_of keep (unpacked precision scale bytes) ≡ Some d
+    other : (o : Option DecimalParts) → unpacked precision scale bytes ≡ o → normalized_of keep (unpacked precision scale bytes) ≡ Some d
     other None e = absurd (unpacked_none precision scale bytes le e u.value u.packed_is)
     other (Some w) e =
         let q = (unpacked-sound precision scale w bytes are e).1 in
-        let mine : Unpacks keep (precision - scale) scale (kept keep w) bytes = record { value = w; packed_is = q; made = refl } in
-        ap (kept_of keep) e ∙ ap (λ (u : DecimalParts). Some u) (unpacked_once keep (precision - scale) scale (kept keep w) d bytes mine u)
+        let mine : Unpacks keep (precision - scale) scale (normalized keep w) bytes = record { value = w; packed_is = q; made = refl } in
+        ap (normalized_of keep) e ∙ ap (λ (u : DecimalParts). Some u) (unpacked_once keep (precision - scale) scale (normalized keep w) d bytes mine u)
 
-kept_some : (keep : Bool) (o : Option DecimalParts) (d : DecimalParts) → kept_of keep o ≡ Some d → (w : DecimalParts) × (o ≡ Some w) × (kept keep w ≡ d)
+kept_some : (keep : Bool) (o : Option DecimalParts) (d : DecimalParts) → normalized_of keep o ≡ Some d → (w : DecimalParts) × (o ≡ Some w) × (normalized keep w ≡ d)
 kept_some keep None d e = absurd (none-some d e)
-kept_some keep (Some w) d e = (w, refl, same_Some (kept keep w) d e)
+kept_some keep (Some w) d e = (w, refl, same_Some (normalized keep w) d e)
 
-pub kept-sound : (keep : Bool) (precision scale : ℕ) (d : DecimalParts) (bytes : List ℕ) → AreBytes bytes → kept_of keep (unpacked precision scale bytes) ≡ Some d
+pub normalized-sound : (keep : Bool) (precision scale : ℕ) (d : DecimalParts) (bytes : List ℕ) → AreBytes bytes → normalized_of keep (unpacked precision scale bytes) ≡ Some d
     → (scale ≤ precision) × Unpacks keep (precision - scale) scale d bytes
-kept-sound keep precision scale d bytes are e =
+normalized-sound keep precision scale d bytes are e =
     let q = kept_some keep (unpacked precision scale bytes) d e in
     let p = unpacked-sound precision scale q.0 bytes are q.1 in
     (p.0, record { value = q.0; packed_is = p.1; made = sym q.2 })
@@ -331,10 +331,10 @@ unpacked_lacks precision scale bytes are none = go (unpacked precision scale byt
     go (Some w) e = absurd (none w (unpacked-sound precision scale w bytes are e).1)
 
 pub slice_ok : (keep : Bool) (precision scale : ℕ) (bytes copy : List ℕ) (r : Result Decimal RowsError) → scale ≤ precision → copy ≡ bytes
-    → IfOk r (λ d. Unpacks keep (precision - scale) scale (decimal_parts d) copy) → IfOk r (λ d. kept_of keep (unpacked precision scale bytes) ≡ Some (decimal_parts d))
+    → IfOk r (λ d. Unpacks keep (precision - scale) scale (decimal_parts d) copy) → IfOk r (λ d. normalized_of keep (unpacked precision scale bytes) ≡ Some (decimal_parts d))
 slice_ok keep precision scale bytes copy r le same h =
-    IfOk-weaker r (λ d. Unpacks keep (precision - scale) scale (decimal_parts d) copy) (λ d. kept_of keep (unpacked precision scale bytes) ≡ Some (decimal_parts d))
-    (λ d u. kept-complete keep precision scale (decimal_parts d) bytes le (subst (Unpacks keep (precision - scale) scale (decimal_parts d)) same u)) h
+    IfOk-weaker r (λ d. Unpacks keep (precision - scale) scale (decimal_parts d) copy) (λ d. normalized_of keep (unpacked precision scale bytes) ≡ Some (decimal_parts d))
+    (λ d u. normalized-complete keep precision scale (decimal_parts d) bytes le (subst (Unpacks keep (precision - scale) scale (decimal_parts d)) same u)) h
 
 pub slice_err : (precision scale : ℕ) (bytes copy : List ℕ) (r : Result Decimal RowsError) → AreBytes bytes → copy ≡ bytes
     → IfErr r (λ e. e ≡ Memory ⊎ ((e ≡ BadDecimal) × NonePacked (precision - scale) scale copy)) → IfErr r (λ e. e ≡ Memory ⊎ ((e ≡ BadDecimal) × (unpacked precision scale bytes ≡ None)))

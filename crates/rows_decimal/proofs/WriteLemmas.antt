@@ -1,4 +1,4 @@
--- The text of packed bytes, a group at a time.
+-- The text of packed bytes, one group at a time.
 use Rattle.std.proofs.Common.{◌≡◌, ◌≤◌, ◌<◌, ◌+◌, ◌*◌, ◌-◌, ◌^◌, ◌++◌, Bool, true, false, true≢false, eqb, ℕ, zero, suc, List, [], ◌∷◌, length, take, drop, Option, Some, None, ◌⊎◌, inl, inr, append_assoc, arith, refl, sym, ap, subst, ◌∙◌}
 use Rattle.std.specs.Prelude.{nat_lt, if◌then◌else◌, ◌&&◌, ◌||◌}
 use Rattle.std.proofs.lemmas.Bool.Decides.{leb_tells, eqb_tells}
@@ -7,38 +7,38 @@ use Rattle.std.proofs.lemmas.List.{length-append, length-take-le, append-nil, ma
 use Rattle.std.proofs.Math.Seq.{take-append_seam}
 use Rattle.rows_decimal.specs.Digits.{side_size, digits_in, has_minus_bit}
 use Rattle.rows_decimal.specs.Texts.{glyphs, significant, sign_text, whole_text, fraction_text, decimal_text}
-use Rattle.rows_decimal.specs.Decimals.{DecimalParts, only_zeros, without_zero_groups, first_group, kept, packed_size}
-use Rattle.rows_decimal.specs.Unpacked.{joined, places, group_digits, nines_digits, before_digits, after_digits, valued, plain_bytes, sides_value, unpacked, text_of}
-use Rattle.rows_decimal.specs.PackedTexts.{digits_text, is_shown, lead, lead_piece, zero_piece, turned, Leads, Follows, FollowsOrNone, Fraction, FractionOrNone, PutsOrNone}
-use Rattle.rows_decimal.proofs.TakingLemmas.{length-digits_in}
-use Rattle.rows_decimal.proofs.PlaceLemmas.{lead_none, lead_some, sig_append_none, sig_append_some, sig_zero, sig_suc}
+use Rattle.rows_decimal.specs.Decimals.{DecimalParts, only_zeros, without_zero_groups, first_group, normalized, packed_size}
+use Rattle.rows_decimal.specs.Unpacked.{concat_digits, exact_digits, group_digits, nines_digits, before_digits, after_digits, valued, plain_bytes, sides_value, unpacked, optional_text}
+use Rattle.rows_decimal.specs.PackedTexts.{digits_text, is_shown, lead, lead_piece, zero_piece, flipped_back, Leads, Follows, FollowsOrNone, Fraction, FractionOrNone, PutsOrNone}
+use Rattle.rows_decimal.proofs.UnpackDigitsLemmas.{length-digits_in}
+use Rattle.rows_decimal.proofs.DigitTextLemmas.{lead_none, lead_some, sig_append_none, sig_append_some, sig_zero, sig_suc}
 use Rattle.rows_decimal.proofs.UnpackedLemmas.{joined_some, unpacked_sized}
-use Rattle.rows_decimal.proofs.TurnLemmas.{num, take-turned, drop-turned}
+use Rattle.rows_decimal.proofs.FlipBackLemmas.{num, take-flipped_back, drop-flipped_back}
 use Rattle.rows_decimal.proofs.ZeroLemmas.{groups_split}
 
 -- ---- places
 
-places_fit : (k n : ℕ) → n < 10 ^ k → places k n ≡ Some (digits_in k n)
-places_fit k n h = elim (leb_tells (suc n) (10 ^ k)) [ inl t ↦ rw t.0 refl | inr t ↦ absurd (omega (arith, t.1, h)) ]
+positions_fit : (k n : ℕ) → n < 10 ^ k → exact_digits k n ≡ Some (digits_in k n)
+positions_fit k n h = elim (leb_tells (suc n) (10 ^ k)) [ inl t ↦ rw t.0 refl | inr t ↦ absurd (omega (arith, t.1, h)) ]
 
-places_past : (k n : ℕ) → 10 ^ k ≤ n → places k n ≡ None
-places_past k n h = elim (leb_tells (suc n) (10 ^ k)) [ inl t ↦ absurd (omega (arith, t.1, h)) | inr t ↦ rw t.0 refl ]
+positions_past : (k n : ℕ) → 10 ^ k ≤ n → exact_digits k n ≡ None
+positions_past k n h = elim (leb_tells (suc n) (10 ^ k)) [ inl t ↦ absurd (omega (arith, t.1, h)) | inr t ↦ rw t.0 refl ]
 
 pub group_fits : (k n : ℕ) (xs : List ℕ) → n ≡ num xs → n < 10 ^ k → group_digits k xs ≡ Some (digits_in k n)
-group_fits k n xs is h = ap (places k) (sym is) ∙ places_fit k n h
+group_fits k n xs is h = ap (exact_digits k) (sym is) ∙ positions_fit k n h
 
 pub group_past : (k n : ℕ) (xs : List ℕ) → n ≡ num xs → 10 ^ k ≤ n → group_digits k xs ≡ None
-group_past k n xs is h = ap (places k) (sym is) ∙ places_past k n h
+group_past k n xs is h = ap (exact_digits k) (sym is) ∙ positions_past k n h
 
-pub none_right : (o : Option (List ℕ)) → joined o None ≡ None
+pub none_right : (o : Option (List ℕ)) → concat_digits o None ≡ None
 none_right None = refl
 none_right (Some x) = refl
 
-pub none_left : (o more : Option (List ℕ)) → o ≡ None → joined o more ≡ None
-none_left o more e = ap (λ p. joined p more) e
+pub none_left : (o more : Option (List ℕ)) → o ≡ None → concat_digits o more ≡ None
+none_left o more e = ap (λ p. concat_digits p more) e
 
-pub none_behind : (o more : Option (List ℕ)) → more ≡ None → joined o more ≡ None
-none_behind o more e = ap (joined o) e ∙ none_right o
+pub none_follows : (o more : Option (List ℕ)) → more ≡ None → concat_digits o more ≡ None
+none_follows o more e = ap (concat_digits o) e ∙ none_right o
 
 pub nines_none_of : (n i : ℕ) (x : List ℕ) → i < n → group_digits 9 (take 4 (drop (4 * i) x)) ≡ None → nines_digits n x ≡ None
 unfolding nines_digits
@@ -47,26 +47,26 @@ nines_none_of (suc n) i x below e = elim (leb_tells (suc i) n) [
   | inl t ↦ none_left (nines_digits n x) (group_digits 9 (take 4 (drop (4 * n) x))) (nines_none_of n i x t.1 e)
   | inr t ↦
       let same : i ≡ n = omega (arith, below, t.1) in
-      none_behind (nines_digits n x) (group_digits 9 (take 4 (drop (4 * n) x))) (subst (λ k. group_digits 9 (take 4 (drop (4 * k) x)) ≡ None) same e)
+      none_follows (nines_digits n x) (group_digits 9 (take 4 (drop (4 * n) x))) (subst (λ k. group_digits 9 (take 4 (drop (4 * k) x)) ≡ None) same e)
 ]
 
 pub nines_begin : (x : List ℕ) → nines_digits 0 x ≡ Some []
 unfolding nines_digits
 nines_begin x = refl
 
-pub nines_next : (i : ℕ) (x : List ℕ) → nines_digits (i + 1) x ≡ joined (nines_digits i x) (group_digits 9 (take 4 (drop (4 * i) x)))
+pub nines_next : (i : ℕ) (x : List ℕ) → nines_digits (i + 1) x ≡ concat_digits (nines_digits i x) (group_digits 9 (take 4 (drop (4 * i) x)))
 unfolding nines_digits
 nines_next i x = let e : i + 1 ≡ suc i = omega arith in rw e refl
 
-pub joined_to : (a b : Option (List ℕ)) (x y : List ℕ) → a ≡ Some x → b ≡ Some y → joined a b ≡ Some (x ++ y)
-joined_to a b x y e f = ap (λ o. joined o b) e ∙ ap (joined (Some x)) f
+pub joined_to : (a b : Option (List ℕ)) (x y : List ℕ) → a ≡ Some x → b ≡ Some y → concat_digits a b ≡ Some (x ++ y)
+joined_to a b x y e f = ap (λ o. concat_digits o b) e ∙ ap (concat_digits (Some x)) f
 
-joined_more : (f n g : Option (List ℕ)) (ds es : List ℕ) → joined f n ≡ Some ds → g ≡ Some es → joined f (joined n g) ≡ Some (ds ++ es)
+joined_more : (f n g : Option (List ℕ)) (ds es : List ℕ) → concat_digits f n ≡ Some ds → g ≡ Some es → concat_digits f (concat_digits n g) ≡ Some (ds ++ es)
 joined_more f n g ds es e is =
     let p = joined_some f n ds e in
-    joined_to f (joined n g) p.0 (p.1 ++ es) p.2 (joined_to n g p.1 es p.3 is) ∙ ap (λ l. Some l) (sym (append_assoc p.0 p.1 es) ∙ ap (λ l. l ++ es) p.4)
+    joined_to f (concat_digits n g) p.0 (p.1 ++ es) p.2 (joined_to n g p.1 es p.3 is) ∙ ap (λ l. Some l) (sym (append_assoc p.0 p.1 es) ∙ ap (λ l. l ++ es) p.4)
 
--- ---- what stands in front
+-- ---- the text before the digits
 
 take_less : (a b : ℕ) (xs : List ℕ) → a ≤ b → take a (take b xs) ≡ take a xs
 take_less zero b xs h = refl
@@ -74,8 +74,8 @@ take_less (suc a) zero xs h = absurd (omega (arith, h))
 take_less (suc a) (suc b) [] h = refl
 take_less (suc a) (suc b) (x ∷ xs) h = ap (λ l. x ∷ l) (take_less a b xs (omega (arith, h)))
 
-pub kept_front : (at end : ℕ) (old new piece : List ℕ) → at ≤ end → at ≤ length old → take end new ≡ take at old ++ piece → take at new ≡ take at old
-kept_front at end old new piece le room e =
+pub kept_prefix : (at end : ℕ) (old new piece : List ℕ) → at ≤ end → at ≤ length old → take end new ≡ take at old ++ piece → take at new ≡ take at old
+kept_prefix at end old new piece le room e =
     let long = length-take-le at old room in
     sym (take_less at end new le) ∙ ap (take at) e ∙ ap (λ k. take k (take at old ++ piece)) (sym long) ∙ take-append_seam (take at old) piece
 
@@ -133,7 +133,7 @@ or_false false b e = (refl, e)
 -- the first group
 pub leads_begin : (negative : Bool) (o : Option (List ℕ)) (x : List ℕ) (k n at end : ℕ) (old new : List ℕ) → o ≡ Some (digits_in k n) → at ≤ end → end ≤ at + (k + 1) → (n ≡ 0 → end ≡ at)
     → is_shown (digits_in k n) ≡ nat_lt 0 n → take end new ≡ take at old ++ lead negative (digits_in k n)
-    → (after : Bool) → after ≡ nat_lt 0 n → Leads negative (joined o (nines_digits 0 x)) (k + 9 * 0) at old new end after
+    → (after : Bool) → after ≡ nat_lt 0 n → Leads negative (concat_digits o (nines_digits 0 x)) (k + 9 * 0) at old new end after
 leads_begin negative o x k n at end old new is from most none tells text after now = record {
   ds = digits_in k n;
   are = joined_to o (nines_digits 0 x) (digits_in k n) [] is (nines_begin x) ∙ ap (λ l. Some l) (append-nil (digits_in k n));
@@ -144,17 +144,17 @@ leads_begin negative o x k n at end old new is from most none tells text after n
   text = text;
 }
 
--- one group more
-pub leads_more : (negative shown : Bool) (o : Option (List ℕ)) (x : List ℕ) (k i n at mid_end end : ℕ) (old mid new : List ℕ) → Leads negative (joined o (nines_digits i x)) (k + 9 * i) at old mid mid_end shown
+-- one more group
+pub leads_more : (negative shown : Bool) (o : Option (List ℕ)) (x : List ℕ) (k i n at mid_end end : ℕ) (old mid new : List ℕ) → Leads negative (concat_digits o (nines_digits i x)) (k + 9 * i) at old mid mid_end shown
     → group_digits 9 (take 4 (drop (4 * i) x)) ≡ Some (digits_in 9 n) → mid_end ≤ end → end ≤ mid_end + 10 → (shown ≡ true → end ≡ mid_end + 9) → (shown ≡ false → n ≡ 0 → end ≡ mid_end)
     → (shown ≡ false → is_shown (digits_in 9 n) ≡ nat_lt 0 n) → take end new ≡ take mid_end mid ++ lead_piece negative shown 9 n
-    → (after : Bool) → after ≡ (shown || nat_lt 0 n) → Leads negative (joined o (nines_digits (i + 1) x)) (k + 9 * (i + 1)) at old new end after
-leads_more negative shown o x k i n at mid_end end old mid new l group from most behind none tells text after now = record {
+    → (after : Bool) → after ≡ (shown || nat_lt 0 n) → Leads negative (concat_digits o (nines_digits (i + 1) x)) (k + 9 * (i + 1)) at old new end after
+leads_more negative shown o x k i n at mid_end end old mid new l group from most following none tells text after now = record {
   ds = l.ds ++ digits_in 9 n;
-  are = ap (joined o) (nines_next i x) ∙ joined_more o (nines_digits i x) (group_digits 9 (take 4 (drop (4 * i) x))) l.ds (digits_in 9 n) l.are group;
+  are = ap (concat_digits o) (nines_next i x) ∙ joined_more o (nines_digits i x) (group_digits 9 (take 4 (drop (4 * i) x))) l.ds (digits_in 9 n) l.are group;
   shown_is = now ∙ shown_push shown l.ds 9 n l.shown_is tells;
   from = let a = l.from in omega (arith, a, from);
-  most = bound shown l.most l.none behind;
+  most = bound shown l.most l.none following;
   none = λ e. let p = or_false shown (nat_lt 0 n) (sym now ∙ e) in none p.0 (not_less n p.1) ∙ l.none p.0;
   text = text ∙ ap (λ t. t ++ lead_piece negative shown 9 n) l.text ∙ append_assoc (take at old) (lead negative l.ds) (lead_piece negative shown 9 n)
       ∙ ap (λ t. take at old ++ t) (lead_push negative shown l.ds 9 n l.shown_is);
@@ -183,7 +183,7 @@ follows_more x i n at mid_end end old mid new f group ends text =
     }
 
 pub follows_end : (o more : Option (List ℕ)) (count k n at mid_end end before : ℕ) (old mid new : List ℕ) → Follows o before at old mid mid_end → more ≡ Some (digits_in k n) → before + k ≡ count
-    → end ≡ mid_end + k → take end new ≡ take mid_end mid ++ digits_text k n → Follows (joined o more) count at old new end
+    → end ≡ mid_end + k → take end new ≡ take mid_end mid ++ digits_text k n → Follows (concat_digits o more) count at old new end
 follows_end o more count k n at mid_end end before old mid new f group all ends text =
     let size = f.size in
     let so_far = f.end_is in
@@ -199,17 +199,17 @@ no_list : (xs : List ℕ) → length xs ≡ 0 → xs ≡ []
 no_list [] e = refl
 no_list (x ∷ xs) e = absurd (omega (arith, e))
 
-none_there : (negative top : Bool) → after_digits 0 (turned negative top []) ≡ Some []
+none_there : (negative top : Bool) → after_digits 0 (flipped_back negative top []) ≡ Some []
 unfolding nines_digits digits_in
 none_there true true = refl
 none_there true false = refl
 none_there false true = refl
 none_there false false = refl
 
-pub fraction_none : (negative top : Bool) (count at : ℕ) (bytes old : List ℕ) → count ≡ 0 → length bytes ≡ side_size count → Fraction (after_digits count (turned negative top bytes)) count at old old at
+pub fraction_none : (negative top : Bool) (count at : ℕ) (bytes old : List ℕ) → count ≡ 0 → length bytes ≡ side_size count → Fraction (after_digits count (flipped_back negative top bytes)) count at old old at
 fraction_none negative top count at bytes old zero_count long = record {
   ds = [];
-  are = ap (λ k. after_digits k (turned negative top bytes)) zero_count ∙ ap (λ l. after_digits 0 (turned negative top l)) (no_list bytes (long ∙ ap side_size zero_count)) ∙ none_there negative top;
+  are = ap (λ k. after_digits k (flipped_back negative top bytes)) zero_count ∙ ap (λ l. after_digits 0 (flipped_back negative top l)) (no_list bytes (long ∙ ap side_size zero_count)) ∙ none_there negative top;
   size = sym zero_count;
   from = omega arith;
   most = omega arith;
@@ -233,10 +233,10 @@ fraction_is digits count at start old mid new (Some end) other room starts point
       text = f.text ∙ ap (λ t. t ++ glyphs f.ds) point ∙ append_assoc (take at old) (46 ∷ []) (glyphs f.ds) ∙ ap (λ t. take at old ++ t) (sym (some_fraction f.ds count size other));
     }
 fraction_is digits count at start old mid new None other room starts point f =
-    (f.0, kept_front at start old new (46 ∷ []) (omega (arith, starts)) room (f.1 ∙ point))
+    (f.0, kept_prefix at start old new (46 ∷ []) (omega (arith, starts)) room (f.1 ∙ point))
 
 pub follows_last : (x : List ℕ) (more : Option (List ℕ)) (w i count k n at mid_end end : ℕ) (old mid new : List ℕ) → Follows (nines_digits i x) (9 * i) at old mid mid_end → i ≡ w → more ≡ Some (digits_in k n)
-    → 9 * w + k ≡ count → end ≡ mid_end + k → take end new ≡ take mid_end mid ++ digits_text k n → Follows (joined (nines_digits w x) more) count at old new end
+    → 9 * w + k ≡ count → end ≡ mid_end + k → take end new ≡ take mid_end mid ++ digits_text k n → Follows (concat_digits (nines_digits w x) more) count at old new end
 follows_last x more w i count k n at mid_end end old mid new f same group all ends text =
     follows_end (nines_digits w x) more count k n at mid_end end (9 * w) old mid new (subst (λ j. Follows (nines_digits j x) (9 * j) at old mid mid_end) same f) group all ends text
 
@@ -273,13 +273,13 @@ none_kept ds e =
 abbrev value : Bool → List ℕ → List ℕ → DecimalParts
 value negative ds es = record { negative = negative; before = ds; after = es }
 
-kept_value : (negative : Bool) (ds es : List ℕ) → 0 < length (without_zero_groups ds) + length es → kept false (value negative ds es) ≡ value negative (without_zero_groups ds) es
+kept_value : (negative : Bool) (ds es : List ℕ) → 0 < length (without_zero_groups ds) + length es → normalized false (value negative ds es) ≡ value negative (without_zero_groups ds) es
 kept_value negative ds es some = elim (eqb_tells (length (without_zero_groups ds) + length es) 0) [
   | inl t ↦ absurd (omega (arith, t.1, some))
   | inr t ↦ rw t.0 refl
 ]
 
-kept_zero : (negative : Bool) (ds es : List ℕ) → length (without_zero_groups ds) + length es ≡ 0 → decimal_text (kept false (value negative ds es)) ≡ 48 ∷ []
+kept_zero : (negative : Bool) (ds es : List ℕ) → length (without_zero_groups ds) + length es ≡ 0 → decimal_text (normalized false (value negative ds es)) ≡ 48 ∷ []
 kept_zero negative ds es none = rw none refl
 
 whole_zero : (ds : List ℕ) → significant ds ≡ [] → whole_text ds ≡ 48 ∷ []
@@ -303,24 +303,24 @@ some_more : (n : ℕ) → 0 < n → nat_lt 0 n ≡ true
 some_more n h = elim (leb_tells 1 n) [ inl t ↦ t.0 | inr t ↦ absurd (omega (arith, t.1, h)) ]
 
 pub kept_text : (negative : Bool) (ds es : List ℕ) (scale : ℕ) → length es ≡ scale
-    → (lead negative ds ++ zero_piece (is_shown ds) (negative && nat_lt 0 scale)) ++ fraction_text es ≡ decimal_text (kept false (value negative ds es))
+    → (lead negative ds ++ zero_piece (is_shown ds) (negative && nat_lt 0 scale)) ++ fraction_text es ≡ decimal_text (normalized false (value negative ds es))
 kept_text negative ds es scale size = elim (shown_or_none ds) [
   | inl e ↦
       let p = lead_none negative ds e in
-      let front : lead negative ds ++ zero_piece (is_shown ds) (negative && nat_lt 0 scale) ≡ sign_text (negative && nat_lt 0 scale) ++ 48 ∷ [] =
+      let prefix : lead negative ds ++ zero_piece (is_shown ds) (negative && nat_lt 0 scale) ≡ sign_text (negative && nat_lt 0 scale) ++ 48 ∷ [] =
       ap (λ l. l ++ zero_piece (is_shown ds) (negative && nat_lt 0 scale)) p.0 ∙ ap (λ b. zero_piece b (negative && nat_lt 0 scale)) p.1 in
       elim (leb_tells 1 scale) [
         | inl t ↦
             let m : (negative && nat_lt 0 scale) ≡ negative = ap (λ b. negative && b) (some_more scale t.1) ∙ and_yes negative in
             let some : 0 < length (without_zero_groups ds) + length es = omega (arith, t.1, size) in
-            ap (λ l. l ++ fraction_text es) (front ∙ ap (λ b. sign_text b ++ 48 ∷ []) m) ∙ append_assoc (sign_text negative) (48 ∷ []) (fraction_text es)
+            ap (λ l. l ++ fraction_text es) (prefix ∙ ap (λ b. sign_text b ++ 48 ∷ []) m) ∙ append_assoc (sign_text negative) (48 ∷ []) (fraction_text es)
             ∙ ap (λ l. sign_text negative ++ (l ++ fraction_text es)) (sym (whole_zero (without_zero_groups ds) (sig_groups ds ∙ e))) ∙ ap decimal_text (sym (kept_value negative ds es some))
         | inr t ↦
             let zero_scale : scale ≡ 0 = omega (arith, t.1) in
             let m : (negative && nat_lt 0 scale) ≡ false = ap (λ b. negative && b) (no_more scale zero_scale) ∙ and_no negative in
             let empty : es ≡ [] = no_list es (size ∙ zero_scale) in
             let none : length (without_zero_groups ds) + length es ≡ 0 = omega (arith, none_kept ds e, size, zero_scale) in
-            ap (λ l. l ++ fraction_text es) (front ∙ ap (λ b. sign_text b ++ 48 ∷ []) m) ∙ ap (λ l. (48 ∷ []) ++ fraction_text l) empty ∙ sym (kept_zero negative ds es none)
+            ap (λ l. l ++ fraction_text es) (prefix ∙ ap (λ b. sign_text b ++ 48 ∷ []) m) ∙ ap (λ l. (48 ∷ []) ++ fraction_text l) empty ∙ sym (kept_zero negative ds es none)
       ]
   | inr some ↦
       let p = lead_some negative ds some in
@@ -338,26 +338,26 @@ kept_text negative ds es scale size = elim (shown_or_none ds) [
     sig_long (zero ∷ xs) = let e = ap length (sig_zero xs) in let h = sig_long xs in omega (arith, e, h)
     sig_long (suc d ∷ xs) = let e = ap length (sig_suc d xs) in omega (arith, e)
 
--- what the bytes pack, from both sides
-pub unpacked_parts : (negative top : Bool) (precision scale s : ℕ) (bytes front back : List ℕ) → scale ≤ precision → length bytes ≡ packed_size (precision - scale) scale → negative ≡ has_minus_bit bytes
-    → s ≡ side_size (precision - scale) → front ≡ take s bytes → back ≡ drop s bytes → top ≡ eqb (length front) 0
-    → unpacked precision scale bytes ≡ valued negative (before_digits (precision - scale) (turned negative true front)) (after_digits scale (turned negative top back))
-unpacked_parts negative top precision scale s bytes front back le long sign is first rest flag =
+-- the decimal that the bytes pack, from both sides
+pub unpacked_parts : (negative top : Bool) (precision scale s : ℕ) (bytes prefix back : List ℕ) → scale ≤ precision → length bytes ≡ packed_size (precision - scale) scale → negative ≡ has_minus_bit bytes
+    → s ≡ side_size (precision - scale) → prefix ≡ take s bytes → back ≡ drop s bytes → top ≡ eqb (length prefix) 0
+    → unpacked precision scale bytes ≡ valued negative (before_digits (precision - scale) (flipped_back negative true prefix)) (after_digits scale (flipped_back negative top back))
+unpacked_parts negative top precision scale s bytes prefix back le long sign is first rest flag =
     let b = precision - scale in
     let z = side_size b in
     let room : s ≤ length bytes = omega (arith, long, is) in
-    let size : length front ≡ z = ap length first ∙ length-take-le s bytes room ∙ is in
-    let plain = turned negative true bytes in
-    let same : plain_bytes bytes ≡ plain = ap (λ n. turned n true bytes) (sym sign) in
-    let fronts : take z plain ≡ turned negative true front = take-turned z negative true bytes ∙ ap (λ k. turned negative true (take k bytes)) (sym is) ∙ ap (turned negative true) (sym first) in
-    let backs : drop z plain ≡ turned negative top back =
-    drop-turned z negative true bytes ∙ ap (λ k. turned negative (eqb k 0) (drop z bytes)) (sym size) ∙ ap (λ t. turned negative t (drop z bytes)) (sym flag) ∙ ap (λ k. turned negative top (drop k bytes)) (sym is)
-    ∙ ap (turned negative top) (sym rest) in
+    let size : length prefix ≡ z = ap length first ∙ length-take-le s bytes room ∙ is in
+    let plain = flipped_back negative true bytes in
+    let same : plain_bytes bytes ≡ plain = ap (λ n. flipped_back n true bytes) (sym sign) in
+    let prefixes : take z plain ≡ flipped_back negative true prefix = take-flipped_back z negative true bytes ∙ ap (λ k. flipped_back negative true (take k bytes)) (sym is) ∙ ap (flipped_back negative true) (sym first) in
+    let backs : drop z plain ≡ flipped_back negative top back =
+    drop-flipped_back z negative true bytes ∙ ap (λ k. flipped_back negative (eqb k 0) (drop z bytes)) (sym size) ∙ ap (λ t. flipped_back negative t (drop z bytes)) (sym flag) ∙ ap (λ k. flipped_back negative top (drop k bytes)) (sym is)
+    ∙ ap (flipped_back negative top) (sym rest) in
     unpacked_sized precision scale bytes le long ∙ ap (λ n. sides_value n b scale (plain_bytes bytes)) (sym sign) ∙ ap (sides_value negative b scale) same
-    ∙ ap (λ l. valued negative (before_digits b l) (after_digits scale (drop z plain))) fronts ∙ ap (λ l. valued negative (before_digits b (turned negative true front)) (after_digits scale l)) backs
+    ∙ ap (λ l. valued negative (before_digits b l) (after_digits scale (drop z plain))) prefixes ∙ ap (λ l. valued negative (before_digits b (flipped_back negative true prefix)) (after_digits scale l)) backs
 
-pub text_none_before : (o : Option DecimalParts) (negative : Bool) (a b : Option (List ℕ)) → o ≡ valued negative a b → a ≡ None → text_of o ≡ None
-text_none_before o negative a b e none = ap text_of (e ∙ ap (λ p. valued negative p b) none)
+pub text_none_before : (o : Option DecimalParts) (negative : Bool) (a b : Option (List ℕ)) → o ≡ valued negative a b → a ≡ None → optional_text o ≡ None
+text_none_before o negative a b e none = ap optional_text (e ∙ ap (λ p. valued negative p b) none)
 
 none_after : (negative : Bool) (a : Option (List ℕ)) → valued negative a None ≡ None
 none_after negative None = refl
@@ -365,7 +365,7 @@ none_after negative (Some x) = refl
 
 pub puts_is : (o : Option DecimalParts) (negative shown minus : Bool) (a b : Option (List ℕ)) (before scale precision at zero_from from : ℕ) (old mid next new : List ℕ) (r : Option ℕ) → before + scale ≡ precision → at ≤ length old
     → o ≡ valued negative a b → Leads negative a before at old mid zero_from shown → minus ≡ (negative && nat_lt 0 scale) → (shown ≡ true → from ≡ zero_from) → zero_from ≤ from → from ≤ zero_from + 2
-    → take from next ≡ take zero_from mid ++ zero_piece shown minus → FractionOrNone b scale from next new r → PutsOrNone (text_of o) (precision + 3) at old new r
+    → take from next ≡ take zero_from mid ++ zero_piece shown minus → FractionOrNone b scale from next new r → PutsOrNone (optional_text o) (precision + 3) at old new r
 puts_is o negative shown minus a b before scale precision at zero_from from old mid next new (Some end) all room is l sign stays up most text f =
     let l_from = l.from in
     let f_from = f.from in
@@ -375,11 +375,11 @@ puts_is o negative shown minus a b before scale precision at zero_from from old 
     let written : take end new ≡ take at old ++ piece =
     f.text ∙ ap (λ t. t ++ fraction_text f.ds) (text ∙ ap (λ t. t ++ zero_piece shown minus) l.text ∙ append_assoc (take at old) (lead negative l.ds) (zero_piece shown minus))
     ∙ append_assoc (take at old) (lead negative l.ds ++ zero_piece shown minus) (fraction_text f.ds) in
-    let same : piece ≡ decimal_text (kept false (value negative l.ds f.ds)) =
+    let same : piece ≡ decimal_text (normalized false (value negative l.ds f.ds)) =
     ap (λ c. (lead negative l.ds ++ zero_piece c minus) ++ fraction_text f.ds) l.shown_is ∙ ap (λ c. (lead negative l.ds ++ zero_piece (is_shown l.ds) c) ++ fraction_text f.ds) sign ∙ kept_text negative l.ds f.ds scale f.size in
     record {
-      text = decimal_text (kept false (value negative l.ds f.ds));
-      is = ap text_of value_is;
+      text = decimal_text (normalized false (value negative l.ds f.ds));
+      is = ap optional_text value_is;
       from = omega (arith, l_from, up, f_from);
       most = bound shown l.most l.none stays f_most;
       written = written ∙ ap (λ t. take at old ++ t) same;
@@ -392,4 +392,4 @@ puts_is o negative shown minus a b before scale precision at zero_from from old 
     let l_from = l.from in
     let written : take from next ≡ take at old ++ (lead negative l.ds ++ zero_piece shown minus) =
     text ∙ ap (λ t. t ++ zero_piece shown minus) l.text ∙ append_assoc (take at old) (lead negative l.ds) (zero_piece shown minus) in
-    (ap text_of (is ∙ ap (valued negative a) f.0 ∙ none_after negative a), kept_front at from old new (lead negative l.ds ++ zero_piece shown minus) (omega (arith, l_from, up)) room (f.1 ∙ written))
+    (ap optional_text (is ∙ ap (valued negative a) f.0 ∙ none_after negative a), kept_prefix at from old new (lead negative l.ds ++ zero_piece shown minus) (omega (arith, l_from, up)) room (f.1 ∙ written))

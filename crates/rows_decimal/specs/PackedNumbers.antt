@@ -1,16 +1,16 @@
--- What is said of the numbers before and after the point of a decimal, from the bytes that pack it. What the decimal is stands in Unpacked.
+-- The numbers before and after the point of a decimal, from its packed bytes. Unpacked defines the decimal.
 use Rattle.std.specs.Prelude.{◌≡◌, ◌≤◌, ◌<◌, ◌-◌, ◌^◌, ℕ, List, Option, Some, None}
 use Rattle.rows_decimal.specs.Digits.{digits_in}
 use Rattle.rows_decimal.specs.Decimals.{DecimalParts}
 use Rattle.rows_decimal.specs.Unpacked.{unpacked}
 use Rattle.rows_decimal.specs.declared.numbers.DecimalNumbers.{DecimalNumbers}
 
--- the digits are those of the number, which has no more of them
+-- the digits are the `count` digits of n, which has no more
 pub record IsNumber (digits : Option (List ℕ)) (count n : ℕ) : Type 0 where
   pub are : digits ≡ Some (digits_in count n)
   pub fits : n < 10 ^ count
 
--- they are; or there are no digits
+-- the digits are those of the number, if there is one; else there are no digits
 abbrev pub NumberOrNone : Option (List ℕ) → ℕ → Option ℕ → Type 0
 NumberOrNone digits count (Some n) = IsNumber digits count n
 NumberOrNone digits count None = digits ≡ None
@@ -19,7 +19,7 @@ NumberOrNone digits count None = digits ≡ None
 abbrev pub numbers_parts : ℕ → ℕ → DecimalNumbers → DecimalParts
 numbers_parts before after n = record { negative = n.negative; before = digits_in before n.before; after = digits_in after n.after }
 
--- the bytes pack the decimal of the numbers, which have no more digits than it
+-- the bytes pack the decimal of the numbers, which have no more digits than it has
 pub record PackNumbers (precision scale : ℕ) (bytes : List ℕ) (n : DecimalNumbers) : Type 0 where
   pub ordered : scale ≤ precision
   pub few_before : precision - scale ≤ 16

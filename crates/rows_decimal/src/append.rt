@@ -1,4 +1,4 @@
-//! A decimal's text at the end of a buffer.
+//! Appends a decimal's text to a buffer.
 
 ghost use Rattle.std.specs.Prelude.{◌≡◌, ◌++◌, OnOk, OnErr, length, take};
 ghost use Rattle.rows_decimal.specs.Digits.{AreDigits};
@@ -10,8 +10,7 @@ use crate::fields::Decimal;
 use std::alloc::{AllocError, Allocator};
 
 impl Decimal {
-    /// Appends the text that `Display` writes. Want of memory is `AllocError`, and then nothing is
-    /// appended.
+    /// Appends the text that `Display` writes. The error is out of memory; nothing is then appended.
     pub fn append_text<A: Allocator>(&self, out: &mut Vec<u8, A>) -> Result<(), AllocError>
         ensures ok { OnOk result (out.new.items ≡ out.old.items ++ decimal_text (decimal_parts self.now)) }
         ensures err { OnErr result (out.new.items ≡ out.old.items) }
@@ -24,7 +23,7 @@ impl Decimal {
         Ok(())
     }
 
-    /// Appends the text, or a part of it.
+    /// Appends the text, or a part of it if out of memory.
     fn append_parts<A: Allocator>(&self, out: &mut Vec<u8, A>) -> Result<(), AllocError>
         ensures ok { OnOk result (out.new.items ≡ out.old.items ++ decimal_text (decimal_parts self.now)) }
         ensures kept { take (length out.old.items) out.new.items ≡ out.old.items }
@@ -35,7 +34,7 @@ impl Decimal {
     }
 }
 
-/// A minus where it is negative, or nothing.
+/// Appends a minus if `negative`.
 fn append_sign<A: Allocator>(negative: bool, out: &mut Vec<u8, A>) -> Result<(), AllocError>
     ensures ok { OnOk result (out.new.items ≡ out.old.items ++ sign_text negative) }
     ensures err { OnErr result (out.new.items ≡ out.old.items) }
@@ -46,7 +45,7 @@ fn append_sign<A: Allocator>(negative: bool, out: &mut Vec<u8, A>) -> Result<(),
     Ok(())
 }
 
-/// The digits before the point without zeros in front, or a zero; or a part of this.
+/// Appends the digits before the point without leading zeros, or a zero; a part of this if out of memory.
 fn append_whole<A: Allocator>(digits: &[u8], out: &mut Vec<u8, A>) -> Result<(), AllocError>
     requires { AreDigits digits.now }
     ensures ok { OnOk result (out.new.items ≡ out.old.items ++ whole_text digits.now) }
@@ -60,7 +59,7 @@ fn append_whole<A: Allocator>(digits: &[u8], out: &mut Vec<u8, A>) -> Result<(),
     append_glyphs(shown, out)
 }
 
-/// A point and the digits, if there are any; or a part of this.
+/// Appends a point and the digits, if there are any; a part of this if out of memory.
 fn append_fraction<A: Allocator>(digits: &[u8], out: &mut Vec<u8, A>) -> Result<(), AllocError>
     requires { AreDigits digits.now }
     ensures ok { OnOk result (out.new.items ≡ out.old.items ++ fraction_text digits.now) }
@@ -73,7 +72,7 @@ fn append_fraction<A: Allocator>(digits: &[u8], out: &mut Vec<u8, A>) -> Result<
     append_glyphs(digits, out)
 }
 
-/// Digits as their characters, or the first of them.
+/// Appends digits as characters; only the first of them if out of memory.
 fn append_glyphs<A: Allocator>(digits: &[u8], out: &mut Vec<u8, A>) -> Result<(), AllocError>
     requires { AreDigits digits.now }
     ensures ok { OnOk result (out.new.items ≡ out.old.items ++ glyphs digits.now) }

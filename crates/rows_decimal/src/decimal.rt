@@ -1,14 +1,14 @@
-//! Zero, copies, and the size of a decimal.
+//! Zero, copies, and the packed size of a decimal.
 
 ghost use Rattle.std.specs.Prelude.{◌≡◌, IfOk, length};
-ghost use Rattle.rows_decimal.specs.Decimals.{decimal_parts, zero_value, packed_form};
+ghost use Rattle.rows_decimal.specs.Decimals.{decimal_parts, zero_value, packed_encoding};
 
 use crate::digits::side_size;
 use crate::fields::Decimal;
 use std::alloc::{AllocError, Global};
 
 impl Decimal {
-    /// Zero: one digit, no sign. Want of memory is `AllocError`.
+    /// Returns zero: one digit, no sign. The error is out of memory.
     pub fn zero(alloc: Global) -> Result<Decimal, AllocError>
         ensures { IfOk result (λ d. decimal_parts d ≡ zero_value) }
     {
@@ -21,7 +21,7 @@ impl Decimal {
         })
     }
 
-    /// The same decimal in memory of its own. Want of memory is `AllocError`.
+    /// Returns an owned copy. The error is out of memory.
     pub fn clone(&self, alloc: Global) -> Result<Decimal, AllocError>
         ensures { IfOk result (λ d. decimal_parts d ≡ decimal_parts self.now) }
     {
@@ -32,9 +32,9 @@ impl Decimal {
         })
     }
 
-    /// How many bytes the packed form takes.
+    /// Returns the number of bytes of the packed format.
     pub fn bin_size(&self) -> usize
-        ensures { result ≡ length (packed_form (decimal_parts self.now)) }
+        ensures { result ≡ length (packed_encoding (decimal_parts self.now)) }
     {
         side_size(self.before.len()) + side_size(self.after.len())
     }

@@ -1,4 +1,4 @@
-//! A decimal as text.
+//! Displays a decimal.
 
 ghost use Rattle.std.specs.Prelude.{◌≡◌, ◌≤◌, ◌==◌, Some, length};
 ghost use Rattle.std.specs.Fmt.{WritesStyledOnOk};
@@ -10,7 +10,7 @@ use crate::digits::leading;
 use crate::fields::Decimal;
 use std::{fmt, str};
 
-/// How many characters are written at once: those of MySQL's longest decimals.
+/// The number of characters that are written at once: that of MySQL's longest decimals.
 const RUN: usize = 65;
 
 impl fmt::Display for Decimal {
@@ -18,7 +18,7 @@ impl fmt::Display for Decimal {
 
     ghost styled_output = { λ d _. Some (decimal_text (decimal_parts d)) };
 
-    /// The sign where it is negative, the digits before the point without zeros in front, or `0`,
+    /// Writes a minus if the decimal is negative, the digits before the point without leading zeros, or `0`,
     /// and a point and the digits after it, if there are any. Flags and widths are ignored.
     fn fmt<W: fmt::Write>(&self, f: &mut fmt::Formatter<W>) -> fmt::Result {
         put_sign(self.negative, f)?;
@@ -27,14 +27,14 @@ impl fmt::Display for Decimal {
     }
 }
 
-/// A minus where it is negative.
+/// Writes a minus if `negative`.
 fn put_sign<W: fmt::Write>(negative: bool, f: &mut fmt::Formatter<W>) -> fmt::Result
     ensures { WritesStyledOnOk W.write_str_gives f.old result (sign_text negative) f.new }
 {
     f.write_str(if negative { "-" } else { "" })
 }
 
-/// The digits before the point without zeros in front, or a zero.
+/// Writes the digits before the point without leading zeros, or a zero.
 fn put_whole<W: fmt::Write>(digits: &[u8], f: &mut fmt::Formatter<W>) -> fmt::Result
     requires { AreDigits digits.now }
     ensures { WritesStyledOnOk W.write_str_gives f.old result (whole_text digits.now) f.new }
@@ -46,7 +46,7 @@ fn put_whole<W: fmt::Write>(digits: &[u8], f: &mut fmt::Formatter<W>) -> fmt::Re
     put_glyphs(shown, f)
 }
 
-/// A point and the digits, if there are any.
+/// Writes a point and the digits, if there are any.
 fn put_fraction<W: fmt::Write>(digits: &[u8], f: &mut fmt::Formatter<W>) -> fmt::Result
     requires { AreDigits digits.now }
     ensures { WritesStyledOnOk W.write_str_gives f.old result (fraction_text digits.now) f.new }
@@ -58,7 +58,7 @@ fn put_fraction<W: fmt::Write>(digits: &[u8], f: &mut fmt::Formatter<W>) -> fmt:
     put_glyphs(digits, f)
 }
 
-/// Digits as their characters.
+/// Writes digits as characters.
 fn put_glyphs<W: fmt::Write>(digits: &[u8], f: &mut fmt::Formatter<W>) -> fmt::Result
     requires { AreDigits digits.now }
     ensures { WritesStyledOnOk W.write_str_gives f.old result (glyphs digits.now) f.new }
@@ -72,7 +72,7 @@ fn put_glyphs<W: fmt::Write>(digits: &[u8], f: &mut fmt::Formatter<W>) -> fmt::R
     Ok(())
 }
 
-/// As many digits as are written at once.
+/// Writes at most `RUN` digits as characters.
 fn put_run<W: fmt::Write>(digits: &[u8], f: &mut fmt::Formatter<W>) -> fmt::Result
     requires few { length digits.now ≤ 65 }
     requires are { AreDigits digits.now }
@@ -80,15 +80,15 @@ fn put_run<W: fmt::Write>(digits: &[u8], f: &mut fmt::Formatter<W>) -> fmt::Resu
 {
     let mut buffer = [b'0'; RUN];
     let text = &mut buffer[..digits.len()];
-    spell(digits, text);
+    write_glyphs(digits, text);
     match str::from_utf8(text) {
         Ok(text) => f.write_str(text),
         Err(_) => Err(fmt::Error),
     }
 }
 
-/// Writes the characters of digits over as many bytes.
-fn spell(digits: &[u8], text: &mut [u8])
+/// Writes the characters of digits over `text`.
+fn write_glyphs(digits: &[u8], text: &mut [u8])
     requires size { length digits.now ≡ length text.old }
     requires are { AreDigits digits.now }
     ensures { text.new ≡ glyphs digits.now }
@@ -98,7 +98,7 @@ fn spell(digits: &[u8], text: &mut [u8])
     }
 }
 
-/// The digits without the zeros in front.
+/// Returns the digits without leading zeros.
 pub(crate) fn significant(digits: &[u8]) -> &[u8]
     requires { AreDigits digits.now }
     ensures value { result.now ≡ significant_of digits.now }

@@ -1,11 +1,11 @@
 ghost use Rattle.std.specs.Prelude.{◌≤◌, ◌<◌, ◌+◌, length};
 ghost use Rattle.rows_decimal.specs.Digits.{AreDigits};
 
-/// A number of MySQL's type DECIMAL: a sign, and decimal digits before and after the point. A zero
-/// may be negative, and zeros in front are kept.
+/// A value of MySQL's type DECIMAL: a sign, and decimal digits before and after the point. A zero may be
+/// negative, and leading zeros are kept.
 #[derive(Debug, Drop)]
 pub struct Decimal {
-    /// Whether it is below zero.
+    /// Whether the sign is a minus.
     pub(crate) negative: bool,
     /// The digits before the point, each from 0 to 9, the highest first.
     pub(crate) before: Vec<u8>,
@@ -16,18 +16,18 @@ pub struct Decimal {
     ghost some: { 0 < length before.items + length after.items },
 }
 
-/// The bytes of the groups of digits before and after the point that are still to come.
+/// An iterator over the bytes of the digit groups before and after the point.
 #[derive(Drop)]
 pub(crate) struct GroupBytes<'a> {
-    /// The bytes of one group, which stand at the end.
+    /// The bytes of one group, right-aligned.
     pub(crate) bytes: [u8; 4],
-    /// How many of them are gone.
-    pub(crate) gone: usize,
-    /// The digits before the point whose bytes are all to come.
+    /// The number of bytes of the array that were read or aren't used.
+    pub(crate) bytes_used: usize,
+    /// The digits before the point whose bytes are still to come.
     pub(crate) before: &'a [u8],
-    /// Those after the point.
+    /// The digits after the point whose bytes are still to come.
     pub(crate) after: &'a [u8],
-    ghost within: { gone ≤ 4 },
+    ghost within: { bytes_used ≤ 4 },
     ghost before_are: { AreDigits before.now },
     ghost after_are: { AreDigits after.now },
 }

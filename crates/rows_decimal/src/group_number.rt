@@ -1,20 +1,20 @@
-//! The number of a group, from the bytes that pack it, and their sign.
+//! The number of a digit group from its packed bytes, and the sign of packed bytes.
 
 ghost use Rattle.std.specs.Prelude.{◌≡◌, ◌≤◌, ◌==◌, ◌&&◌, length};
 ghost use Rattle.byteorder.specs.Endian.{big_number};
-ghost use Rattle.wire_buf.specs.Spelling.{AreBytes};
+ghost use Rattle.wire_buf.specs.Encoding.{AreBytes};
 ghost use Rattle.rows_decimal.specs.Digits.{has_minus_bit as has_minus_bit_in};
-ghost use Rattle.rows_decimal.specs.PackedTexts.{turned};
+ghost use Rattle.rows_decimal.specs.PackedTexts.{flipped_back};
 
 use byteorder::{BigEndian, ByteOrder};
 
-/// The largest number of so many bytes.
+/// The largest number of 0 to 4 bytes.
 const LARGEST: [u32; 5] = [0, 0xff, 0xffff, 0xff_ffff, 0xffff_ffff];
 
-/// What the top bit of so many bytes counts.
+/// The value of the top bit of 0 to 4 bytes.
 const TOPS: [u32; 5] = [0, 0x80, 0x8000, 0x80_0000, 0x8000_0000];
 
-/// Whether packed bytes are those of a negative number.
+/// Returns whether packed bytes are those of a negative number: the top bit is clear.
 pub(crate) fn has_minus_bit(bytes: &[u8]) -> bool
     ensures sign { result ≡ has_minus_bit_in bytes.now }
     ensures bytes { AreBytes bytes.now }
@@ -25,24 +25,24 @@ pub(crate) fn has_minus_bit(bytes: &[u8]) -> bool
     }
 }
 
-/// Whether a group is the very first: there is no byte in front of the groups, and it is the first of them.
+/// Returns whether a group is the first of all: no bytes precede these groups, and `position` is 0.
 #[inline(always)]
-pub(crate) fn is_first(top: bool, place: usize) -> bool
-    ensures { result ≡ (top && (place == 0)) }
+pub(crate) fn is_first(top: bool, position: usize) -> bool
+    ensures { result ≡ (top && (position == 0)) }
 {
-    top && place == 0
+    top && position == 0
 }
 
-/// The number of a group, from its bytes as they are packed: of a negative decimal or not, and with the
-/// top bit of all or not.
+/// Returns the number of a group from its packed bytes. `negative`: the decimal is negative. `top`: the group
+/// has the top bit of the packed bytes.
 #[inline(always)]
 pub(crate) fn group_number(bytes: &[u8], negative: bool, top: bool) -> u32
     requires { length bytes.now ≤ 4 }
-    ensures { result ≡ big_number (length bytes.now) (turned negative top bytes.now) }
+    ensures { result ≡ big_number (length bytes.now) (flipped_back negative top bytes.now) }
 {
     let size = bytes.len();
-    let packed = number_of(bytes);
-    // (both are loaded whatever the signs are, so that no branch hangs on these)
+    let packed = bytes_number(bytes);
+    // (both are loaded whatever the sign, so that no branch depends on it)
     let (largest, highest) = (LARGEST[size], TOPS[size]);
     let number = if negative { largest - packed } else { packed };
     if !top {
@@ -55,9 +55,9 @@ pub(crate) fn group_number(bytes: &[u8], negative: bool, top: bool) -> u32
     }
 }
 
-/// The number in up to four bytes, the highest first.
+/// Returns the big-endian number of up to four bytes.
 #[inline(always)]
-fn number_of(bytes: &[u8]) -> u32
+fn bytes_number(bytes: &[u8]) -> u32
     requires { length bytes.now ≤ 4 }
     ensures { result ≡ big_number (length bytes.now) bytes.now }
 {

@@ -1,60 +1,61 @@
-//! The bytes of the groups of digits, one after the other.
+//! Iterates over the bytes of digit groups.
 
 ghost use Rattle.std.specs.Prelude.{◌≡◌, ◌≤◌, ◌<◌, ◌++◌, true, false, [], drop, length};
 ghost use Rattle.rows_decimal.specs.Digits.{AreDigits};
 ghost use Rattle.rows_decimal.specs.Steps.{sides_bytes, SplitsGroup, GivesByte};
-ghost use Rattle.rows_decimal.specs.GroupsLeft.{bytes_left};
+ghost use Rattle.rows_decimal.specs.RemainingGroups.{remaining_bytes};
 
 use crate::digits::{DIG_PER_DEC, GROUP_BYTES, group_size};
 use crate::fields::GroupBytes;
 use crate::packing::number;
 
 impl<'a> GroupBytes<'a> {
-    /// All bytes of the groups of these digits.
+    /// Returns an iterator over all bytes of the groups of these digits.
     pub(crate) fn new(before: &'a [u8], after: &'a [u8]) -> GroupBytes<'a>
         requires before { AreDigits before.now }
         requires after { AreDigits after.now }
-        ensures { bytes_left result ≡ sides_bytes before.now after.now }
+        ensures { remaining_bytes result ≡ sides_bytes before.now after.now }
     {
         GroupBytes {
             bytes: [0; GROUP_BYTES],
-            gone: GROUP_BYTES,
+            bytes_used: GROUP_BYTES,
             before,
             after,
         }
     }
 
-    /// The next byte, or none where none is left.
+    /// Returns the next byte, or None at the end.
     pub(crate) fn next(&mut self) -> Option<u8>
-        ensures { GivesByte result (bytes_left self.old) (bytes_left self.new) }
+        ensures { GivesByte result (remaining_bytes self.old) (remaining_bytes self.new) }
     {
-        if self.gone == GROUP_BYTES && !self.load() {
+        if self.bytes_used == GROUP_BYTES && !self.load() {
             return None;
         }
-        let byte = self.bytes[self.gone];
-        self.gone += 1;
+        let byte = self.bytes[self.bytes_used];
+        self.bytes_used += 1;
         Some(byte)
     }
 
-    /// Takes the bytes of the next group, if there is one.
+    /// Loads the bytes of the next group. Returns whether there is one.
     fn load(&mut self) -> bool
-        requires { self.old.gone ≡ 4 }
-        ensures some { result ≡ true → (bytes_left self.new ≡ bytes_left self.old) × (self.new.gone < 4) }
-        ensures none { result ≡ false → (bytes_left self.old ≡ []) × (self.new ≡ self.old) }
+        requires { self.old.bytes_used ≡ 4 }
+        ensures some { result ≡ true → (remaining_bytes self.new ≡ remaining_bytes self.old) × (self.new.bytes_used < 4) }
+        ensures none { result ≡ false → (remaining_bytes self.old ≡ []) × (self.new ≡ self.old) }
     {
         let (group, before, after) = split_group(self.before, self.after);
         if group.is_empty() {
             return false;
         }
         self.bytes = number(group).to_be_bytes();
-        self.gone = GROUP_BYTES - group_size(group.len());
+        self.bytes_used = GROUP_BYTES - group_size(group.len());
         self.before = before;
         self.after = after;
         true
     }
 }
 
-/// The digits of the first group, none where there is none, and those behind it on both sides.
+/// Returns the digits of the first group (none if there is no group), and the digits after it on both sides
+/// of the point.
 pub(crate) fn split_group<'a>(before: &'a [u8], after: &'a [u8]) -> (&'a [u8], &'a [u8], &'a [u8])
     requires before { AreDigits before.now }
     requires after { AreDigits after.now }

@@ -1,13 +1,14 @@
-//! MySQL's DECIMAL: its digits, its text, and the packed form of columns, JSON documents and keys.
+//! MySQL's DECIMAL: its digits, its text, and its packed format in columns, JSON documents and keys.
 //!
-//! [`Decimal`] holds a sign and the digits before and after the point. `specs/Digits.antt` says how
-//! digits are packed, `specs/Decimals.antt` what is read and written, `specs/Texts.antt` what is shown
-//! and taken as text, and `specs/Unpacked.antt` which decimal given bytes pack, and what its text is.
-//! [`laws`] ties these to one another, and has worked values.
+//! [`Decimal`] holds a sign and the digits before and after the point. `specs/Digits.antt` defines how digits
+//! are packed, `specs/Decimals.antt` what is read and written, `specs/Texts.antt` the text that is printed
+//! and parsed, and `specs/Unpacked.antt` which decimal given bytes pack, and its text. [`laws`] relates these
+//! to one another, and has worked values.
 #![tactic(auto)]
 
 mod append;
 mod decimal;
+mod digit_text;
 mod digits;
 mod display;
 mod fields;
@@ -20,7 +21,6 @@ mod packed_check;
 mod packed_text;
 mod packing;
 mod parse;
-mod places;
 mod unpacking;
 
 pub use digits::{DIG_BASE, DIG_PER_DEC, DIG_TO_BYTES, Digit, POWERS_10, decimal_bin_size};

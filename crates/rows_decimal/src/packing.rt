@@ -1,11 +1,11 @@
-//! The packed form of a decimal, written.
+//! Writes the packed format of a decimal.
 
 ghost use Rattle.std.specs.Prelude.{◌≡◌, ◌≤◌, ◌++◌, ◌-◌, ◌⊎◌, OnOk, IfOk, IfErr, length, map};
 ghost use Rattle.std.specs.Int.Digits.{number_from_digits};
 ghost use Rattle.std.specs.Io.KnownBytes.{Appends};
 ghost use Rattle.rows_decimal.specs.Digits.{AreDigits, group_bytes, top_flipped};
 ghost use Rattle.rows_decimal.specs.Steps.{sides_bytes};
-ghost use Rattle.rows_decimal.specs.Decimals.{decimal_parts, packed_form, FailsToWrite};
+ghost use Rattle.rows_decimal.specs.Decimals.{decimal_parts, packed_encoding, FailsToWrite};
 
 use crate::digits::{DIG_PER_DEC, GROUP_BYTES, group_size};
 use crate::fields::Decimal;
@@ -15,23 +15,27 @@ use std::io::Write;
 use wire_buf::{WireFault, write_all};
 
 impl Decimal {
-    /// Writes the packed form, which column values have: the digits in groups of nine from the point
-    /// outward, each group a number of up to four bytes with the highest first, the top bit of all
-    /// flipped, and all bits flipped where it is negative. A writer that fails is `Write`, and a front
-    /// of the bytes is then written; want of memory is `Memory`, and nothing is written.
+    /// Writes the packed format of column values: the digits in groups of nine from the point outward, each
+    /// group a big-endian number of up to four bytes, with the top bit of all bytes inverted, and all bits
+    /// inverted if the decimal is negative.
+    ///
+    /// - `Write`: the writer failed; a prefix of the bytes is written.
+    /// - `Memory`: out of memory; nothing is written.
+    ///
+    /// MySQL's source: `decimal2bin`.
     pub fn write_bin<W: Write>(&self, alloc: Global, output: &mut W) -> Result<(), WireFault>
         ensures ok { OnOk result (Appends (W.contents output.old) (W.contents output.new)
-            (packed_form (decimal_parts self.now))) }
-        ensures err { IfErr result (λ e. FailsToWrite e (packed_form (decimal_parts self.now))
+            (packed_encoding (decimal_parts self.now))) }
+        ensures err { IfErr result (λ e. FailsToWrite e (packed_encoding (decimal_parts self.now))
             (W.contents output.old) (W.contents output.new)) }
     {
         let bytes = self.pack(alloc)?;
         write_all(output, &bytes)
     }
 
-    /// The packed form.
+    /// Returns the packed bytes.
     fn pack(&self, alloc: Global) -> Result<Vec<u8>, AllocError>
-        ensures { IfOk result (λ bytes. bytes.items ≡ packed_form (decimal_parts self.now)) }
+        ensures { IfOk result (λ bytes. bytes.items ≡ packed_encoding (decimal_parts self.now)) }
     {
         let mut bytes = Vec::with_capacity(alloc, self.bin_size())?;
         put_groups(&self.before, &self.after, &mut bytes)?;
@@ -43,7 +47,7 @@ impl Decimal {
     }
 }
 
-/// Flips the top bit of the first byte.
+/// Inverts the top bit of the first byte.
 fn flip_top(bytes: &mut [u8])
     ensures { bytes.new ≡ top_flipped bytes.old }
 {
@@ -52,7 +56,7 @@ fn flip_top(bytes: &mut [u8])
     }
 }
 
-/// Flips all bits.
+/// Inverts all bits.
 fn flip_all(bytes: &mut [u8])
     ensures { bytes.new ≡ map (λ b. 255 - b) bytes.old }
 {
@@ -86,7 +90,7 @@ fn put_group(digits: &[u8], out: &mut Vec<u8>) -> Result<(), AllocError>
     out.extend_from_slice(&bytes[unused..])
 }
 
-/// The number of a group.
+/// Returns the number of a group.
 pub(crate) fn number(digits: &[u8]) -> u32
     requires few { length digits.now ≤ 9 }
     requires are { AreDigits digits.now }

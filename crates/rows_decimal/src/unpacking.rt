@@ -1,12 +1,12 @@
-//! The packed form of a decimal, read.
+//! Reads the packed format of a decimal.
 
 ghost use Rattle.std.specs.Prelude.{◌≡◌, ◌≤◌, ◌<◌, ◌-◌, ◌*◌, ◌^◌, ◌++◌, ◌/◌, ◌⊎◌, Some, None, OnOk, IfOk, IfErr, true, false, length, if◌then◌else◌};
 ghost use Rattle.rows_times.specs.declared.fault.RowsError.TheVariants.{Decimal as BadDecimal, Memory};
 ghost use Rattle.rows_decimal.specs.Digits.{AreDigits, group_size as group_size_of, side_size as side_size_of, group_bytes, nines_bytes, before_bytes, after_bytes, digits_in};
-ghost use Rattle.rows_decimal.specs.Steps.{Gains, NoDigits};
-ghost use Rattle.rows_decimal.specs.PackedTexts.{turned};
+ghost use Rattle.rows_decimal.specs.Steps.{AppendsDigits, NoDigits};
+ghost use Rattle.rows_decimal.specs.PackedTexts.{flipped_back};
 ghost use Rattle.rows_decimal.specs.Decimals.{decimal_parts, packed_size, some_digit, without_zero_groups, Unpacks, NonePacked, ReadsDecimal, FailsDecimal, ReadsPacked, FailsPacked};
-ghost use Rattle.rows_decimal.specs.Unpacked.{unpacked, kept_of, packed_value, packed_fault};
+ghost use Rattle.rows_decimal.specs.Unpacked.{unpacked, normalized_of, packed_value, packed_fault};
 
 use crate::digits::{DIG_PER_DEC, GROUP_BYTES, decimal_bin_size, group_size, leading, side_size};
 use crate::fields::Decimal;
@@ -17,14 +17,16 @@ use std::io::Read;
 use wire_buf::{read_exact, read_more};
 
 impl Decimal {
-    /// Reads the packed form of `precision` digits, `scale` of them after the point, as column values
-    /// have it. Leading groups of nine zeros, or of the digits left over, are dropped unless
-    /// `keep_precision`; where no digit is left on either side of the point it is one zero without
-    /// a sign.
+    /// Reads the packed format of a column value with `precision` digits, `scale` of them after the point.
+    /// Leading groups of zeros before the point (nine digits, or the shorter first group) are dropped unless
+    /// `keep_precision`; if no digit is left on either side, the result is one zero without a sign.
     ///
-    /// `Decimal` where `scale` is past `precision`, and nothing is read then, or where a group of k
-    /// digits is 10^k or more; `EndOfBody` where the bytes end too early, `Read` where the reader
-    /// fails, `Memory` for want of memory.
+    /// - `Decimal`: `scale` exceeds `precision`, and nothing is read; or a group of k digits is 10^k or more.
+    /// - `EndOfBody`: the input ended too early.
+    /// - `Read`: the reader failed.
+    /// - `Memory`: out of memory.
+    ///
+    /// MySQL's source: `bin2decimal`.
     pub fn read_bin<R: Read>(
         alloc: Global,
         input: &mut R,
@@ -45,12 +47,12 @@ impl Decimal {
         unpack(alloc, &bytes, precision - scale, scale, keep_precision)
     }
 
-    /// The decimal that the bytes pack, all of them: those of `precision` digits, `scale` of them after
-    /// the point. Leading zero groups are dropped as by `read_bin`.
+    /// Returns the decimal that all of the bytes pack, with `precision` digits, `scale` of them after the
+    /// point. Leading zero groups are dropped as in `read_bin`.
     ///
-    /// `Decimal` where they pack none: where `scale` is past `precision`, where they are not as many as
-    /// the digits take, or where a group of k digits is 10^k or more. Want of memory is `Memory`, and
-    /// there is no other refusal.
+    /// - `Decimal`: `scale` exceeds `precision`, there aren't exactly `decimal_bin_size(precision, scale)`
+    ///   bytes, or a group of k digits is 10^k or more.
+    /// - `Memory`: out of memory.
     pub fn from_bin(
         alloc: Global,
         bytes: &[u8],
@@ -58,7 +60,7 @@ impl Decimal {
         scale: usize,
         keep_precision: bool,
     ) -> Result<Decimal, RowsError>
-        ensures ok { IfOk result (λ d. kept_of keep_precision (unpacked precision scale bytes.now) ≡ Some (decimal_parts d)) }
+        ensures ok { IfOk result (λ d. normalized_of keep_precision (unpacked precision scale bytes.now) ≡ Some (decimal_parts d)) }
         ensures err { IfErr result (λ e. e ≡ Memory ⊎ ((e ≡ BadDecimal) × (unpacked precision scale bytes.now ≡ None))) }
     {
         if precision < scale {
@@ -70,17 +72,18 @@ impl Decimal {
         unpack(alloc, bytes, precision - scale, scale, keep_precision)
     }
 
-    /// The decimal at the front of bytes that have its precision and its scale in one byte each and
-    /// then its packed form, as JSON documents have it, whatever follows.
+    /// Returns the decimal at the start of bytes in a JSON document: its precision and its scale in one byte
+    /// each, then its packed format. The bytes after it are ignored.
     ///
-    /// `EndOfBody` where the bytes end too early, and `Decimal` where the scale is past the precision or
-    /// a group of k digits is 10^k or more. Want of memory is `Memory`, and there is no other refusal.
+    /// - `EndOfBody`: the bytes end too early.
+    /// - `Decimal`: the scale exceeds the precision, or a group of k digits is 10^k or more.
+    /// - `Memory`: out of memory.
     pub fn from_packed(
         alloc: Global,
         bytes: &[u8],
         keep_precision: bool,
     ) -> Result<Decimal, RowsError>
-        ensures ok { IfOk result (λ d. kept_of keep_precision (packed_value bytes.now) ≡ Some (decimal_parts d)) }
+        ensures ok { IfOk result (λ d. normalized_of keep_precision (packed_value bytes.now) ≡ Some (decimal_parts d)) }
         ensures err { IfErr result (λ e. e ≡ Memory ⊎ ((e ≡ packed_fault bytes.now) × (packed_value bytes.now ≡ None))) }
     {
         if bytes.len() < 2 {
@@ -98,8 +101,8 @@ impl Decimal {
         Decimal::from_bin(alloc, &rest[..size], precision, scale, keep_precision)
     }
 
-    /// Reads the packed form behind its precision and its scale in one byte each, as JSON documents
-    /// have it. The refusals are those of `read_bin`.
+    /// Reads the format of JSON documents: precision and scale in one byte each, then the packed format. The
+    /// errors are those of `read_bin`.
     pub fn read_packed<R: Read>(
         alloc: Global,
         input: &mut R,
@@ -123,7 +126,7 @@ impl Decimal {
     }
 }
 
-/// The decimal that the bytes pack, of so many digits before and after the point.
+/// Returns the decimal that the bytes pack, with `before` and `after` digits before and after the point.
 fn unpack(
     alloc: Global,
     bytes: &[u8],
@@ -136,17 +139,17 @@ fn unpack(
     ensures err { IfErr result (λ e. e ≡ Memory ⊎ ((e ≡ BadDecimal) × NonePacked before after bytes.now)) }
 {
     let negative = has_minus_bit(bytes);
-    let (front, back) = bytes.split_at(side_size(before));
+    let (prefix, back) = bytes.split_at(side_size(before));
     let mut whole = Vec::with_capacity(alloc, before)?;
-    take_before(front, negative, before, &mut whole)?;
+    unpack_before(prefix, negative, before, &mut whole)?;
     let mut fraction = Vec::with_capacity(alloc, after)?;
-    take_after(back, negative, front.is_empty(), after, &mut fraction)?;
+    unpack_after(back, negative, prefix.is_empty(), after, &mut fraction)?;
     drop_zero_groups(&mut whole, keep);
     let decimal = finish(alloc, negative, whole, fraction)?;
     Ok(decimal)
 }
 
-/// The decimal of these digits, or zero where there is none.
+/// Returns the decimal of these digits, or zero if there are none.
 fn finish(
     alloc: Global,
     negative: bool,
@@ -168,7 +171,7 @@ fn finish(
     })
 }
 
-/// Drops the leading groups that are zero, unless all digits are to be kept.
+/// Drops the leading zero groups, unless `keep`.
 fn drop_zero_groups(digits: &mut Vec<u8>, keep: bool)
     ensures { digits.new.items ≡ (if keep then digits.old.items else without_zero_groups digits.old.items) }
 {
@@ -181,31 +184,31 @@ fn drop_zero_groups(digits: &mut Vec<u8>, keep: bool)
     drop(digits.drain(..unused));
 }
 
-/// Appends the digits before the point, of packed bytes of a negative decimal or not.
-fn take_before(
+/// Appends the digits before the point from packed bytes. `negative`: the decimal is negative.
+fn unpack_before(
     bytes: &[u8],
     negative: bool,
     count: usize,
     digits: &mut Vec<u8>,
 ) -> Result<(), RowsError>
     requires { length bytes.now ≡ side_size_of count }
-    ensures ok { OnOk result (Gains before_bytes count (turned negative true bytes.now) digits.old.items digits.new.items) }
-    ensures err { IfErr result (λ e. e ≡ Memory ⊎ ((e ≡ BadDecimal) × NoDigits before_bytes count (turned negative true bytes.now))) }
+    ensures ok { OnOk result (AppendsDigits before_bytes count (flipped_back negative true bytes.now) digits.old.items digits.new.items) }
+    ensures err { IfErr result (λ e. e ≡ Memory ⊎ ((e ≡ BadDecimal) × NoDigits before_bytes count (flipped_back negative true bytes.now))) }
 {
     let left = count % DIG_PER_DEC;
-    let (front, rest) = bytes.split_at(group_size(left));
-    take_group(front, negative, true, left, digits)?;
-    take_nines(
+    let (prefix, rest) = bytes.split_at(group_size(left));
+    unpack_group(prefix, negative, true, left, digits)?;
+    unpack_nines(
         rest,
         negative,
-        front.is_empty(),
+        prefix.is_empty(),
         count / DIG_PER_DEC,
         digits,
     )
 }
 
-/// Appends the digits after the point; `top` says that there are none before it.
-fn take_after(
+/// Appends the digits after the point. `top`: there are none before it.
+fn unpack_after(
     bytes: &[u8],
     negative: bool,
     top: bool,
@@ -213,13 +216,13 @@ fn take_after(
     digits: &mut Vec<u8>,
 ) -> Result<(), RowsError>
     requires { length bytes.now ≡ side_size_of count }
-    ensures ok { OnOk result (Gains after_bytes count (turned negative top bytes.now) digits.old.items digits.new.items) }
-    ensures err { IfErr result (λ e. e ≡ Memory ⊎ ((e ≡ BadDecimal) × NoDigits after_bytes count (turned negative top bytes.now))) }
+    ensures ok { OnOk result (AppendsDigits after_bytes count (flipped_back negative top bytes.now) digits.old.items digits.new.items) }
+    ensures err { IfErr result (λ e. e ≡ Memory ⊎ ((e ≡ BadDecimal) × NoDigits after_bytes count (flipped_back negative top bytes.now))) }
 {
     let whole = count / DIG_PER_DEC;
-    let (front, rest) = bytes.split_at(GROUP_BYTES * whole);
-    take_nines(front, negative, top, whole, digits)?;
-    take_group(
+    let (prefix, rest) = bytes.split_at(GROUP_BYTES * whole);
+    unpack_nines(prefix, negative, top, whole, digits)?;
+    unpack_group(
         rest,
         negative,
         is_first(top, whole),
@@ -228,8 +231,8 @@ fn take_after(
     )
 }
 
-/// Appends the digits of groups of nine; `top` says that no group stands in front of them.
-fn take_nines(
+/// Appends the digits of groups of nine. `top`: no group precedes them.
+fn unpack_nines(
     bytes: &[u8],
     negative: bool,
     top: bool,
@@ -237,18 +240,18 @@ fn take_nines(
     digits: &mut Vec<u8>,
 ) -> Result<(), RowsError>
     requires { length bytes.now ≡ 4 * count }
-    ensures ok { OnOk result (Gains (nines_bytes count) (9 * count) (turned negative top bytes.now) digits.old.items digits.new.items) }
-    ensures err { IfErr result (λ e. e ≡ Memory ⊎ ((e ≡ BadDecimal) × NoDigits (nines_bytes count) (9 * count) (turned negative top bytes.now))) }
+    ensures ok { OnOk result (AppendsDigits (nines_bytes count) (9 * count) (flipped_back negative top bytes.now) digits.old.items digits.new.items) }
+    ensures err { IfErr result (λ e. e ≡ Memory ⊎ ((e ≡ BadDecimal) × NoDigits (nines_bytes count) (9 * count) (flipped_back negative top bytes.now))) }
 {
     for i in 0..count {
         let group = &bytes[GROUP_BYTES * i..GROUP_BYTES * i + GROUP_BYTES];
-        take_group(group, negative, is_first(top, i), DIG_PER_DEC, digits)?;
+        unpack_group(group, negative, is_first(top, i), DIG_PER_DEC, digits)?;
     }
     Ok(())
 }
 
-/// Appends the digits of one group; `top` says that it is the first of all.
-fn take_group(
+/// Appends the digits of one group. `top`: it is the first of all.
+fn unpack_group(
     bytes: &[u8],
     negative: bool,
     top: bool,
@@ -257,13 +260,13 @@ fn take_group(
 ) -> Result<(), RowsError>
     requires few { count ≤ 9 }
     requires size { length bytes.now ≡ group_size_of count }
-    ensures ok { OnOk result (Gains group_bytes count (turned negative top bytes.now) digits.old.items digits.new.items) }
-    ensures err { IfErr result (λ e. e ≡ Memory ⊎ ((e ≡ BadDecimal) × NoDigits group_bytes count (turned negative top bytes.now))) }
+    ensures ok { OnOk result (AppendsDigits group_bytes count (flipped_back negative top bytes.now) digits.old.items digits.new.items) }
+    ensures err { IfErr result (λ e. e ≡ Memory ⊎ ((e ≡ BadDecimal) × NoDigits group_bytes count (flipped_back negative top bytes.now))) }
 {
     push_digits(group_number(bytes, negative, top), count, digits)
 }
 
-/// Appends the last digits of a number, if it has no more.
+/// Appends the last `count` digits of a number, if it has no more.
 fn push_digits(number: u32, count: usize, digits: &mut Vec<u8>) -> Result<(), RowsError>
     requires { count ≤ 9 }
     ensures ok { OnOk result ((number < 10 ^ count)
@@ -271,25 +274,25 @@ fn push_digits(number: u32, count: usize, digits: &mut Vec<u8>) -> Result<(), Ro
     ensures err { IfErr result (λ e. e ≡ Memory ⊎ ((e ≡ BadDecimal) × (10 ^ count ≤ number))) }
 {
     let mut group = [0; DIG_PER_DEC];
-    let places = &mut group[..count];
-    if !put_digits(number, places) {
+    let positions = &mut group[..count];
+    if !put_digits(number, positions) {
         return Err(RowsError::Decimal);
     }
-    digits.extend_from_slice(places)?;
+    digits.extend_from_slice(positions)?;
     Ok(())
 }
 
-/// Writes the last digits of a number over all of the places, and answers whether it has no more.
-fn put_digits(number: u32, places: &mut [u8]) -> bool
-    ensures digits { places.new ≡ digits_in (length places.old) number }
-    ensures fits { result ≡ true → number < 10 ^ length places.old }
-    ensures past { result ≡ false → 10 ^ length places.old ≤ number }
+/// Writes the last digits of a number over `positions`. Returns whether it has no more.
+fn put_digits(number: u32, positions: &mut [u8]) -> bool
+    ensures digits { positions.new ≡ digits_in (length positions.old) number }
+    ensures fits { result ≡ true → number < 10 ^ length positions.old }
+    ensures past { result ≡ false → 10 ^ length positions.old ≤ number }
 {
     let mut left = number;
-    let mut at = places.len();
+    let mut at = positions.len();
     while at > 0 {
         at -= 1;
-        places[at] = (left % 10) as u8;
+        positions[at] = (left % 10) as u8;
         left /= 10;
     }
     left == 0

@@ -1,10 +1,10 @@
--- What `==` tells of rows events.
+-- What `==` means for rows events.
 use Rattle.std.proofs.Common.{◌≡◌, ap, rules}
 use Rattle.std.proofs.lemmas.Bool.Decides.{Decides-like, Decides-and, Decides-eqb}
 use Rattle.std.specs.Bool.{Decides}
 use lib.Pointwise.{bytes_decides}
 use denote.Enum.Bare.{same_true, true_same}
-use Rattle.wire_forms.specs.RawTexts.{text_of}
+use Rattle.wire_forms.specs.RawTexts.{raw_string}
 use Rattle.rows_meta.proofs.EqualityLemmas.{maybe_decides, true_decides}
 use Rattle.rows_events.specs.contracts.rows_event_type.RowsEventType.{the_type as event_type}
 use Rattle.rows_events.specs.contracts.rows_event.RowsEventPartialEq.TheImpl.{ghosts as event_equality}
@@ -19,8 +19,8 @@ events_decide a b =
     (Decides-and _ _ (same_true event_type (search rules) a.event_type b.event_type, true_same event_type a.event_type b.event_type)
     (Decides-and _ _ (Decides-eqb a.table_id.0 b.table_id.0)
     (Decides-and _ _ (Decides-and _ _ (Decides-eqb a.flags.0 b.flags.0) true_decides)
-    (Decides-and _ _ (maybe_decides _ (λ e. text_of e.0) (λ x y. Decides-like _ (λ w. w.0) (λ e. (e, tt)) (Decides-and _ _ (bytes_decides (text_of x.0) (text_of y.0)) true_decides)) a.extra_data.0 b.extra_data.0)
+    (Decides-and _ _ (maybe_decides _ (λ e. raw_string e.0) (λ x y. Decides-like _ (λ w. w.0) (λ e. (e, tt)) (Decides-and _ _ (bytes_decides (raw_string x.0) (raw_string y.0)) true_decides)) a.extra_data.0 b.extra_data.0)
     (Decides-and _ _ (Decides-and _ _ (Decides-eqb a.num_columns.0 b.num_columns.0) true_decides)
-    (Decides-and _ _ (maybe_decides _ (λ raw. text_of raw) (λ x y. Decides-like _ (λ w. w.0) (λ e. (e, tt)) (Decides-and _ _ (bytes_decides (text_of x) (text_of y)) true_decides)) a.before.0 b.before.0)
-    (Decides-and _ _ (maybe_decides _ (λ raw. text_of raw) (λ x y. Decides-like _ (λ w. w.0) (λ e. (e, tt)) (Decides-and _ _ (bytes_decides (text_of x) (text_of y)) true_decides)) a.after.0 b.after.0)
-    (Decides-and _ _ (bytes_decides (text_of a.rows_data) (text_of b.rows_data)) true_decides))))))))
+    (Decides-and _ _ (maybe_decides _ (λ raw. raw_string raw) (λ x y. Decides-like _ (λ w. w.0) (λ e. (e, tt)) (Decides-and _ _ (bytes_decides (raw_string x) (raw_string y)) true_decides)) a.before.0 b.before.0)
+    (Decides-and _ _ (maybe_decides _ (λ raw. raw_string raw) (λ x y. Decides-like _ (λ w. w.0) (λ e. (e, tt)) (Decides-and _ _ (bytes_decides (raw_string x) (raw_string y)) true_decides)) a.after.0 b.after.0)
+    (Decides-and _ _ (bytes_decides (raw_string a.rows_data) (raw_string b.rows_data)) true_decides))))))))

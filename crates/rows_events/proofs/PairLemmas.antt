@@ -9,14 +9,14 @@ use Rattle.rows_values.specs.declared.rows.column.Column.{Column}
 use Rattle.rows_times.specs.declared.fault.RowsError.{RowsError}
 use Rattle.rows_times.specs.declared.fault.RowsError.TheVariants.{Memory}
 use Rattle.rows_times.specs.Readings.{Reading, ◌>>=◌}
-use Rattle.rows_cells.specs.Images.{PlacedValue, ImageShape}
+use Rattle.rows_cells.specs.Images.{ColumnValue, ImageShape}
 use Rattle.rows_cells.specs.declared.image.ImageColumn.{ImageColumn}
 use Rattle.rows_cells.specs.EventRows.{images_at, row_at}
 use Rattle.rows_images.specs.RowImages.{IsReadRow, IsRowOf, image_read}
 use Rattle.rows_images.specs.declared.binlog_row.BinlogRow.{BinlogRow}
 use Rattle.rows_images.specs.declared.row_image.RowImage.{RowImage}
-use Rattle.rows_events.specs.EventImages.{shapes_read, Reads, ReadsBoth, ReadsEvent, HoldsPair, ReadsImages, ReadsPair}
-use Rattle.rows_events.specs.EventRowSteps.{StandsBefore, Fronts}
+use Rattle.rows_events.specs.EventImages.{shapes_read, ReadsImage, ReadsBoth, ReadsEventImages, HoldsPair, ReadsImages, ReadsPair}
+use Rattle.rows_events.specs.EventRowSteps.{IsBeforeRows, IsNextRead}
 use Rattle.rows_events.specs.EventShapes.{shapes_by, row_read}
 use Rattle.rows_events.specs.RowPairs.{TableView, IsImageRow, IsPairOf, columns_by}
 use Rattle.rows_events.specs.RowsEventTypes.{images_of, has_partial_after}
@@ -37,7 +37,7 @@ pub both_read : (i j : RowImage) (bytes mid rest : List ℕ) (x y : BinlogRow) �
 unfolding images_at
 both_read i j bytes mid rest x y h k = record { cells = h.image ∷ k.image ∷ []; read = rw (h.read, k.read) refl; holds = (h.row_is, k.row_is) }
 
--- the shapes of an event's images are those that its readers take
+-- the layouts of an event's images are those of its readers
 shapes_known : (t : TableView) (n : ℕ) (part : Bool) (before after : Option (List ℕ)) (images : EventImages) → ReadsBoth t n part before after images → shapes_by t.plan n part before after ≡ Ok (shapes_read images)
 shapes_known t n part (Some b) None (Before i) h = rw h.shape refl
 shapes_known t n part None (Some a) (After i) h = rw h.shape refl
@@ -48,16 +48,16 @@ columns_known : (o : Reading (List ImageColumn)) (json : Option ℕ) (s : ImageS
 columns_known (Ok c) json s h = let e : c ≡ s.columns = cc h in ap (λ (l : List ImageColumn). Ok l) e
 columns_known (Err e) json s h = absurd cc
 
-row_known : (t : TableView) (n : ℕ) (part : Bool) (bits : List ℕ) (image : RowImage) (cells : List PlacedValue) (row : BinlogRow) → Reads t n part bits image → IsRowOf image cells row → IsImageRow t n bits cells row
+row_known : (t : TableView) (n : ℕ) (part : Bool) (bits : List ℕ) (image : RowImage) (cells : List ColumnValue) (row : BinlogRow) → ReadsImage t n part bits image → IsRowOf image cells row → IsImageRow t n bits cells row
 row_known t n part bits image cells row h is = record {
   values = is.values;
   columns = rc_slice_items image.columns;
   columns_are = columns_known (columns_by t n bits) (if part then Some t.plan.json_columns else None) (image_read image) h.shape;
-  places = is.places;
+  columns_are_of = is.columns_are_of;
   definitions = h.definitions ∙ ap (λ (l : List Column). Ok (map parts_of l)) (sym is.columns);
 }
 
-pair_known : (t : TableView) (n : ℕ) (part : Bool) (before after : Option (List ℕ)) (images : EventImages) (cells : List (List PlacedValue)) (pair : Option BinlogRow × Option BinlogRow)
+pair_known : (t : TableView) (n : ℕ) (part : Bool) (before after : Option (List ℕ)) (images : EventImages) (cells : List (List ColumnValue)) (pair : Option BinlogRow × Option BinlogRow)
     → ReadsBoth t n part before after images → HoldsPair images cells pair → IsPairOf t n before after cells pair
 pair_known t n part (Some b) None (Before i) (x ∷ []) (Some r, None) h p = row_known t n false b i x r h p
 pair_known t n part (Some b) None (Before i) cells pair h p = absurd p
@@ -67,14 +67,14 @@ pair_known t n part (Some b) (Some a) (Both i j) (x ∷ y ∷ []) (Some r, Some 
 pair_known t n part (Some b) (Some a) (Both i j) cells pair h p = absurd p
 pair_known t n part before after images cells pair h p = absurd h
 
--- the row that was read is the one at the front
-pub front_known : (it : RowsEventRows) (t : TableView) (r : RowsBody) (bytes : List ℕ) (images : EventImages) (o : Result ((Option BinlogRow × Option BinlogRow) × Bor (List ℕ)) RowsError) → StandsBefore it t r bytes → it.images ≡ Some images
-    → IfOk o (λ x. ReadsPair images it.rest.now x.0 x.1.now) → IfErr o (λ e. e ≡ Memory ⊎ row_at (shapes_read images) it.rest.now ≡ Err e) → Fronts t r bytes o
-front_known it t r bytes images (Ok x) s some ok err =
-    let reads : ReadsEvent t r images = rw some at s.made in
+-- the row that was read is the one that the bytes begin with
+pub prefix_known : (it : RowsEventRows) (t : TableView) (r : RowsBody) (bytes : List ℕ) (images : EventImages) (o : Result ((Option BinlogRow × Option BinlogRow) × Bor (List ℕ)) RowsError) → IsBeforeRows it t r bytes → it.images ≡ Some images
+    → IfOk o (λ x. ReadsPair images it.rest.now x.0 x.1.now) → IfErr o (λ e. e ≡ Memory ⊎ row_at (shapes_read images) it.rest.now ≡ Err e) → IsNextRead t r bytes o
+prefix_known it t r bytes images (Ok x) s some ok err =
+    let reads : ReadsEventImages t r images = rw some at s.made in
     let shapes = shapes_known t r.columns (has_partial_after (images_of r.event_type)) r.before r.after images reads in
     record { cells = ok.cells; read = rw (shapes, sym s.rest_is) ok.read; pair_is = pair_known t r.columns (has_partial_after (images_of r.event_type)) r.before r.after images ok.cells x.0 reads ok.holds }
-front_known it t r bytes images (Err e) s some ok err =
-    let reads : ReadsEvent t r images = rw some at s.made in
+prefix_known it t r bytes images (Err e) s some ok err =
+    let reads : ReadsEventImages t r images = rw some at s.made in
     let shapes = shapes_known t r.columns (has_partial_after (images_of r.event_type)) r.before r.after images reads in
     elim err as (λ _. e ≡ Memory ⊎ row_read r t.plan bytes ≡ Err e) [ inl m ↦ inl m | inr f ↦ inr (rw (shapes, sym s.rest_is) f) ]

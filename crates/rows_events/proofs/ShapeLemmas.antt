@@ -1,4 +1,4 @@
--- The columns of images, by the bits that an event shows.
+-- The columns of images, by the bits that an event has.
 use Rattle.std.proofs.Common.{◌≡◌, ℕ, Bool, false, List, [], ◌∷◌, map, Option, Some, None, Ok, Err, refl, sym, ap, ◌∙◌, if◌then◌else◌}
 use Rattle.std.specs.Prelude.{filter, nat_lt, IfOk}
 use Rattle.std.specs.declared.result.Result.{Result}
@@ -8,7 +8,7 @@ use Rattle.rows_times.specs.Readings.{Reading, ◌>>=◌}
 use Rattle.rows_cells.specs.Images.{ImageShape}
 use Rattle.rows_cells.specs.declared.image.ImageColumn.{ImageColumn}
 use Rattle.rows_images.specs.Plans.{PlannedColumn}
-use Rattle.rows_images.specs.PickedColumns.{is_picked, picked_as, is_set, in_image, definition}
+use Rattle.rows_images.specs.PickedColumns.{is_picked, picked_as, bit_is_set, image_column, definition}
 use Rattle.std.specs.Rc.{rc_slice_items}
 use Rattle.rows_values.specs.Columns.{parts_of}
 use Rattle.rows_images.specs.PlanViews.{planned}
@@ -17,16 +17,16 @@ use Rattle.rows_images.specs.declared.plan.ColumnPlan.{ColumnPlan}
 use Rattle.rows_images.specs.RowImages.{image_read}
 use Rattle.rows_images.specs.declared.row_image.RowImage.{RowImage}
 use Rattle.rows_events.specs.RowPairs.{planned_table}
-use Rattle.rows_events.specs.EventImages.{Reads}
+use Rattle.rows_events.specs.EventImages.{ReadsImage}
 use Rattle.rows_events.specs.FieldViews.{ShowsBits}
 use Rattle.rows_events.specs.EventShapes.{column_bit, shape_by, shapes_by}
 
--- tests that agree let the same elements through
+-- tests that agree select the same elements
 same_filter : {A : Type 0} (f g : A → Bool) → ((x : A) → f x ≡ g x) → (xs : List A) → filter f xs ≡ filter g xs
 same_filter f g h [] = refl
 same_filter f g h (x ∷ xs) = rw (h x, same_filter f g h xs) refl
 
--- what is shown of the bits of an image
+-- the bits of an image as the event has them
 pub record Shown (n : ℕ) (all : Option (List ℕ)) (bits : Bits) : Type 0 where
   pub bytes : List ℕ
   pub all_are : all ≡ Some bytes
@@ -51,13 +51,13 @@ same_bit n all bits s i = ap (λ (k : ℕ). if nat_lt i k then Some (bit_of bits
 
 same_picked : {A : Type 0} (f : PlannedColumn → A) (n : ℕ) (all : Option (List ℕ)) (bits : Bits) (s : Shown n all bits) (columns : Reading (List PlannedColumn)) → picked_as f (bit_at bits) columns ≡ picked_as f (column_bit n s.bytes) columns
 same_picked f n all bits s (Err e) = refl
-same_picked f n all bits s (Ok cs) = ap (λ l. Ok (map f l)) (same_filter (is_picked (bit_at bits)) (is_picked (column_bit n s.bytes)) (λ c. ap is_set (same_bit n all bits s c.image.place)) cs)
+same_picked f n all bits s (Ok cs) = ap (λ l. Ok (map f l)) (same_filter (is_picked (bit_at bits)) (is_picked (column_bit n s.bytes)) (λ c. ap bit_is_set (same_bit n all bits s c.image.column)) cs)
 
--- the image that the bits pick is the one that the event says
+-- the image that the bits select is that of the event
 pub same_shape : (p : TablePlan) (n : ℕ) (part : Bool) (all : Option (List ℕ)) (bits : Bits) (s : Shown n all bits) → shape_picked p (len_of bits) part (bit_at bits) ≡ shape_by p n part s.bytes
 same_shape p n part all bits s =
     ap (λ (k : ℕ). shape_picked p k part (bit_at bits)) s.len
-    ∙ ap (λ (r : Reading (List ImageColumn)). r >>= λ columns. Ok (record { columns = columns; json_columns = if part then Some p.json_columns else None })) (same_picked in_image n all bits s (p.first n))
+    ∙ ap (λ (r : Reading (List ImageColumn)). r >>= λ columns. Ok (record { columns = columns; json_columns = if part then Some p.json_columns else None })) (same_picked image_column n all bits s (p.first n))
 
 pub one_image : (p : TablePlan) (n : ℕ) (part : Bool) (before after : Option (List ℕ)) (bytes : List ℕ) (s : ImageShape) → before ≡ Some bytes → after ≡ None → shape_by p n false bytes ≡ Ok s → shapes_by p n part before after ≡ Ok (s ∷ [])
 one_image p n part before after bytes s b a h = rw (b, a, h) refl
@@ -69,20 +69,20 @@ pub two_images : (p : TablePlan) (n : ℕ) (part : Bool) (before after : Option 
     → shape_by p n false x ≡ Ok s → shape_by p n part y ≡ Ok t → shapes_by p n part before after ≡ Ok (s ∷ t ∷ [])
 two_images p n part before after x y s t b a h k = rw (b, a, h, k) refl
 
--- what holds of a success holds of it still
+-- what follows from a success still holds
 pub ok_still : {A E : Type 0} (r : Result A E) (P Q : Type 0) → (P → Q) → IfOk r (λ x. P) → IfOk r (λ x. Q)
 ok_still (Ok x) P Q f h = f h
 ok_still (Err e) P Q f h = h
 
--- the image that was picked is the one that the event says
+-- the image that was selected is that of the event
 pub picked_shape : (p : TablePlan) (n : ℕ) (said part : Bool) (all : Option (List ℕ)) (bits : Bits) (s : Shown n all bits) (o : Reading ImageShape) → said ≡ part → shape_picked p (len_of bits) said (bit_at bits) ≡ o → shape_by p n part s.bytes ≡ o
 picked_shape p n said part all bits s o e h = sym (same_shape p n part all bits s) ∙ ap (λ (b : Bool). shape_picked p (len_of bits) b (bit_at bits)) (sym e) ∙ h
 
--- the reader that was made of the bits that an event shows reads the image that the event says
+-- the reader made from an event's bits reads the event's image
 pub reads_image : (plan : ColumnPlan) (n : ℕ) (said part : Bool) (all : Option (List ℕ)) (bits : Bits) (s : Shown n all bits) (image : RowImage) → said ≡ part
     → shape_picked (table_plan plan) (len_of bits) said (bit_at bits) ≡ Ok (image_read image)
     → picked_as (definition plan.database.items plan.table.items) (bit_at bits) (planned plan.run (len_of bits)) ≡ Ok (map parts_of (rc_slice_items image.definitions))
-    → Reads (planned_table plan) n part s.bytes image
+    → ReadsImage (planned_table plan) n part s.bytes image
 reads_image plan n said part all bits s image e shape defined = record {
   shape = picked_shape (table_plan plan) n said part all bits s (Ok (image_read image)) e shape;
   definitions = sym (same_picked (definition plan.database.items plan.table.items) n all bits s (planned plan.run n))

@@ -1,4 +1,4 @@
--- What the code's columns of images stand for.
+-- The specification's values for the crate's columns of images.
 use Rattle.std.specs.Prelude.{List, [], ◌∷◌, if◌then◌else◌}
 use Rattle.rows_cells.specs.Images.{ImageShape}
 use Rattle.rows_images.specs.ImageShapes.{shape_of}

@@ -1,25 +1,25 @@
--- The images of an event's rows: which columns of the table each has, by the plan of the table; and the rows that are found so.
+-- The layouts of an event's images, by the plan of its table: the columns of the table in each; and the rows that are read with them (MySQL Internals: Rows_event).
 use Rattle.std.specs.Prelude.{ℕ, Bool, false, List, [], ◌∷◌, Option, Some, None, nat_lt, if◌then◌else◌}
 use Rattle.std.specs.declared.result.Result.TheVariants.{Ok, Err}
 use Rattle.rows_values.specs.BitLists.{lowest_bit}
 use Rattle.rows_times.specs.declared.fault.RowsError.TheVariants.{EmptyPair}
 use Rattle.rows_times.specs.Readings.{Reading, ◌>>=◌}
 use Rattle.rows_jsonb.specs.Items.{Walked, items_at}
-use Rattle.rows_cells.specs.Images.{PlacedValue, ImageShape}
+use Rattle.rows_cells.specs.Images.{ColumnValue, ImageShape}
 use Rattle.rows_cells.specs.EventRows.{row_at}
 use Rattle.rows_images.specs.ImageShapes.{TablePlan, shape_picked}
 use Rattle.rows_events.specs.RowsEventTypes.{images_of, has_partial_after}
 use Rattle.rows_events.specs.RowsEvents.{RowsBody}
 
--- bit i of those that stand for n columns
+-- bit i of the bits for n columns
 abbrev pub column_bit : ℕ → List ℕ → ℕ → Option Bool
 column_bit n bits i = if nat_lt i n then Some (lowest_bit bits i) else None
 
--- the image whose columns these bits say
+-- the image whose columns these bits select
 abbrev pub shape_by : TablePlan → ℕ → Bool → List ℕ → Reading ImageShape
 shape_by p n is_partial bits = shape_picked p n is_partial (column_bit n bits)
 
--- the images of a row in order; a row without images takes no bytes
+-- the images of a row in order; without images it is `EmptyPair`, since a row would take no bytes
 abbrev pub shapes_by : TablePlan → ℕ → Bool → Option (List ℕ) → Option (List ℕ) → Reading (List ImageShape)
 shapes_by p n is_partial None None = Err EmptyPair
 shapes_by p n is_partial (Some before) None = shape_by p n false before >>= λ first. Ok (first ∷ [])
@@ -32,10 +32,10 @@ shapes_by p n is_partial (Some before) (Some after) = do
 abbrev pub event_shapes : RowsBody → TablePlan → Reading (List ImageShape)
 event_shapes r p = shapes_by p r.columns (has_partial_after (images_of r.event_type)) r.before r.after
 
--- a row at the front of rows data, and what follows it
-abbrev pub row_read : RowsBody → TablePlan → List ℕ → Reading (List (List PlacedValue) × List ℕ)
+-- the row that rows data begins with, and the bytes after it
+abbrev pub row_read : RowsBody → TablePlan → List ℕ → Reading (List (List ColumnValue) × List ℕ)
 row_read r p bytes = event_shapes r p >>= λ shapes. row_at shapes bytes
 
--- the rows of an event: all, or those before the first that can't be read, and why
-abbrev pub event_rows : RowsBody → TablePlan → Walked (List (List PlacedValue))
+-- the rows of an event: all, or those before the first that can't be read, and the error
+abbrev pub event_rows : RowsBody → TablePlan → Walked (List (List ColumnValue))
 event_rows r p = items_at (row_read r p) r.rows_data

@@ -1,10 +1,10 @@
--- What the code's rows events show.
-use Rattle.wire_forms.specs.RawTexts.{text_of}
+-- The specification's values for the crate's rows events.
+use Rattle.wire_forms.specs.RawTexts.{raw_string}
 use Rattle.rows_events.specs.FieldViews.{maybe_text, maybe_extra}
 use Rattle.rows_events.specs.RowsEvents.{RowsBody}
 use Rattle.rows_events.specs.declared.rows_event.RowsEvent.{RowsEvent}
 
--- what an event says
+-- the contents of an event
 abbrev pub body_of : RowsEvent → RowsBody
 body_of e = record {
   event_type = e.event_type;
@@ -14,5 +14,5 @@ body_of e = record {
   columns = e.num_columns.0;
   before = maybe_text e.before;
   after = maybe_text e.after;
-  rows_data = text_of e.rows_data;
+  rows_data = raw_string e.rows_data;
 }

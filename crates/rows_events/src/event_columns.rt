@@ -1,8 +1,8 @@
-//! The columns of the images of an event's rows.
+//! The columns of the images in an event's rows.
 
 ghost use Rattle.std.specs.Prelude.{◌≡◌, ◌⊎◌, ◌∷◌, [], IfOk, IfErr, OnErr, Ok, Err};
 ghost use Rattle.rows_times.specs.declared.fault.RowsError.TheVariants.{Memory};
-ghost use Rattle.rows_cells.specs.RowViews.{row_shape, IsBetween};
+ghost use Rattle.rows_cells.specs.RowViews.{row_shape, IsBetweenRows};
 ghost use Rattle.rows_images.specs.ImageShapes.{table_plan, no_columns};
 ghost use Rattle.rows_events.specs.EventShapes.{event_shapes};
 ghost use Rattle.rows_events.specs.EventColumnViews.{shapes_of};
@@ -14,7 +14,7 @@ use rows_images::{ColumnPlan, ImageColumns};
 use rows_times::RowsError;
 use std::alloc::Global;
 
-/// The columns of the images of a rows event. It keeps its memory from event to event.
+/// The columns of a rows event's images. It keeps its memory from event to event.
 #[derive(Drop)]
 pub struct EventColumns {
     first: ImageColumns,
@@ -23,7 +23,7 @@ pub struct EventColumns {
 }
 
 impl EventColumns {
-    /// The columns of no event.
+    /// Creates it without columns.
     pub fn new(alloc: Global) -> EventColumns
         ensures { shapes_of result ≡ no_columns ∷ [] }
     {
@@ -34,10 +34,10 @@ impl EventColumns {
         }
     }
 
-    /// Takes the columns of an event's images, by the plan of its table, in place of those before.
+    /// Replaces the columns by those of this event's images, by the plan of its table. On an error there are no columns.
     ///
-    /// The fault of the first column of the event that has no plan, or of the optional metadata; `Memory` where
-    /// memory is refused, and for a table of 2^32 JSON columns or more. A refusal leaves the columns of no event.
+    /// - The error of the first column of the event that has no plan, or of the optional metadata.
+    /// - `Memory`: out of memory, or a table of 2^32 or more JSON columns.
     pub fn fill(&mut self, event: &RowsEvent<'_>, plan: &ColumnPlan) -> Result<(), RowsError>
         ensures ok { IfOk result (λ _. event_shapes (body_of event.now) (table_plan plan.now) ≡ Ok (shapes_of self.new)) }
         ensures err { IfErr result (λ e. e ≡ Memory ⊎ event_shapes (body_of event.now) (table_plan plan.now) ≡ Err e) }
@@ -66,7 +66,7 @@ impl EventColumns {
         }
     }
 
-    /// The images that each row of the event has.
+    /// Returns the images that each row of the event has.
     pub fn row_plan(&self) -> RowPlan<'_>
         ensures { row_shape result ≡ shapes_of self.now }
     {
@@ -82,10 +82,10 @@ impl EventColumns {
 }
 
 impl RowsEvent<'_> {
-    /// The rows of the event, one part after the other, by the columns of its images. It takes no memory.
+    /// Returns a cursor over the parts of the event's rows, by the columns of its images. It takes no memory.
     pub fn cursor<'p>(&self, columns: &'p EventColumns) -> RowsCursor<'p, '_>
         ensures plan { row_shape result.plan ≡ shapes_of columns.now }
-        ensures rows { IsBetween result (body_of self.now).rows_data }
+        ensures rows { IsBetweenRows result (body_of self.now).rows_data }
     {
         RowsCursor::of(columns.row_plan(), self.rows_data())
     }

@@ -1,11 +1,11 @@
-//! The readers of an event's images into rows in memory of their own.
+//! Reading an event's images into owned rows.
 
 ghost use Rattle.std.specs.Prelude.{◌≡◌, ◌⊎◌, ◌<◌, length, IfOk, IfErr, Err};
 ghost use Rattle.rows_times.specs.declared.fault.RowsError.TheVariants.{Memory};
 ghost use Rattle.rows_cells.specs.EventRows.{images_at, row_at};
 ghost use Rattle.rows_images.specs.ImageShapes.{table_plan};
 ghost use Rattle.rows_events.specs.EventShapes.{event_shapes};
-ghost use Rattle.rows_events.specs.EventImages.{shapes_read, ReadsEvent, ReadsImages, ReadsPair};
+ghost use Rattle.rows_events.specs.EventImages.{shapes_read, ReadsEventImages, ReadsImages, ReadsPair};
 ghost use Rattle.rows_events.specs.RowPairs.{planned_table};
 ghost use Rattle.rows_events.specs.Views.{body_of};
 
@@ -14,30 +14,28 @@ use rows_images::{BinlogRow, ColumnPlan, RowImage};
 use rows_times::RowsError;
 use std::alloc::Global;
 
-/// A row of an event before the change and after it, as far as the event has them.
+/// A row before the change and after it, as far as the event has them.
 pub(crate) type RowPair = (Option<BinlogRow>, Option<BinlogRow>);
 
 /// The readers of the images that each row of an event has.
 #[derive(Drop)]
 pub(crate) enum EventImages {
-    /// Of rows before they were deleted.
+    /// Deleted rows.
     Before(RowImage),
-    /// Of rows that were inserted.
+    /// Inserted rows.
     After(RowImage),
-    /// Of rows before they were updated, and after.
+    /// Rows before they were updated, and after.
     Both(RowImage, RowImage),
 }
 
 impl EventImages {
-    /// The readers of an event's images, by the plan of its table.
-    ///
-    /// The refusals of [`RowImage::new`].
+    /// Creates the readers of an event's images, by the plan of its table. Returns the errors of [`RowImage::new`].
     pub(crate) fn new(
         alloc: Global,
         event: &RowsEvent<'_>,
         plan: &ColumnPlan,
     ) -> Result<EventImages, RowsError>
-        ensures ok { IfOk result (ReadsEvent (planned_table plan.now) (body_of event.now)) }
+        ensures ok { IfOk result (ReadsEventImages (planned_table plan.now) (body_of event.now)) }
         ensures err { IfErr result (λ e. e ≡ Memory ⊎ event_shapes (body_of event.now) (table_plan plan.now) ≡ Err e) }
     {
         let is_partial = event.images().has_partial_after();
@@ -64,9 +62,10 @@ impl EventImages {
         }
     }
 
-    /// The row at the front of the bytes, and what follows it.
+    /// Reads the row that the bytes begin with; returns it and the bytes after it.
     ///
-    /// The refusals of [`RowImage::read`]; `EmptyPair` where the row takes no bytes.
+    /// - The errors of [`RowImage::read`].
+    /// - `EmptyPair`: the row takes no bytes.
     #[tactic(auto, unfolding(rows_cells::specs::EventRows::row_at))]
     pub(crate) fn read<'a>(
         &self,
@@ -87,7 +86,7 @@ impl EventImages {
         Ok((pair, rest))
     }
 
-    /// The images at the front of the bytes, and what follows them.
+    /// Reads the images that the bytes begin with; returns them and the bytes after them.
     #[tactic(auto, unfolding(rows_cells::specs::EventRows::images_at))]
     fn read_images<'a>(
         &self,

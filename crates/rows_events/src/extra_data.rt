@@ -1,21 +1,22 @@
-//! Extra data of rows events.
+//! The extra data of rows events.
 
 ghost use Rattle.std.specs.Prelude.{◌≡◌, List, ℕ};
-ghost use Rattle.wire_buf.specs.Spelling.{Lacks};
+ghost use Rattle.wire_buf.specs.Encoding.{Lacks};
 ghost use Rattle.wire_buf.specs.declared.fault.WireFault.TheVariants.{Eof};
-ghost use Rattle.wire_forms.specs.RawTexts.{text_of};
-ghost use Rattle.rows_events.specs.Fields.{IsExtra, extra_spelling};
+ghost use Rattle.wire_forms.specs.RawTexts.{raw_string};
+ghost use Rattle.rows_events.specs.Fields.{IsExtra, extra_encoded};
 
 use std::alloc::{Allocator, Global};
 use wire_buf::{AnySize, Inner, MyDeserialize, MySerialize, ParseBuf, WireFault};
 use wire_forms::{BareBytes, RawBytes};
 use wire_ints::{LeU16, RawInt};
 
-/// Data behind its size in two bytes, which counts these two. A size below 2 is that of no data.
+/// Extra data: its size in two bytes, which counts these two, and the data. A size below 2 means no data. MySQL Internals:
+/// Rows_event.
 #[derive(Debug, PartialEq, Eq, Drop)]
 pub struct ExtraData<'a>(pub RawBytes<'a, BareBytes<65533>>);
 
-/// `Eof` where bytes are missing.
+/// Returns `Eof` if bytes are missing.
 impl<'de> MyDeserialize<'de> for ExtraData<'de> {
     const SIZE: Option<usize> = None;
 
@@ -27,11 +28,11 @@ impl<'de> MyDeserialize<'de> for ExtraData<'de> {
 
     ghost View = { List ℕ };
 
-    ghost view = { λ v. text_of v.0 };
+    ghost view = { λ v. raw_string v.0 };
 
-    ghost spells = { λ ctx. IsExtra };
+    ghost encodes = { λ ctx. IsExtra };
 
-    ghost refusal = { λ ctx x e. e ≡ Eof };
+    ghost fails_with = { λ ctx x e. e ≡ Eof };
 
     fn deserialize(
         alloc: Global,
@@ -47,15 +48,15 @@ impl<'de> MyDeserialize<'de> for ExtraData<'de> {
     ghost sized = { λ ctx v bytes rest h. tt };
 }
 
-/// `Form` where there are more than 65,533 bytes of data.
+/// Returns `Form` if there are more than 65,533 bytes of data.
 impl MySerialize for ExtraData<'_> {
     ghost View = { List ℕ };
 
-    ghost view = { λ v. text_of v.0 };
+    ghost view = { λ v. raw_string v.0 };
 
-    ghost form = { IsExtra };
+    ghost encoding = { IsExtra };
 
-    ghost spelling = { extra_spelling };
+    ghost encoded = { extra_encoded };
 
     fn serialize<A: Allocator>(&self, buf: &mut Vec<u8, A>) -> Result<(), WireFault> {
         let len = self.0.len();

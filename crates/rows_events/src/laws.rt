@@ -1,4 +1,4 @@
-//! Laws of rows events. Each is a function that does nothing, whose contract is the law.
+//! Laws about rows events. Each is a function without code; its contract is the law.
 
 ghost use Rattle.std.specs.Prelude.{◌≡◌, ◌↔◌, true};
 ghost use Rattle.rows_events.specs.RowsEvents.{IsWrittenWhole};
@@ -7,13 +7,13 @@ ghost use Rattle.rows_events.specs.contracts.rows_event.RowsEventPartialEq.TheIm
 
 use crate::rows_event::RowsEvent;
 
-/// An event that was read by the post-header lengths of servers today is written whole. So what is written
-/// for it is read, by these lengths, as the same event.
+/// An event that was read with the post-header lengths that servers use today is written completely. So reading the written
+/// bytes, with these lengths, gives the same event.
 pub fn events_are_written_whole()
     ensures { IsWrittenWhole }
 {}
 
-/// Events are equal by `==` exactly where they say the same.
+/// Events are equal by `==` exactly if their contents are.
 pub fn equal_events_say_the_same()
     ensures { (a b : RowsEvent) → (event_equality.eq a b ≡ true) ↔ (body_of a ≡ body_of b) }
 {}

@@ -1,13 +1,13 @@
-//! Rows events: which rows of a table were inserted, updated or deleted.
+//! Rows events: the rows of a table that were inserted, updated or deleted. MySQL Internals: Rows_event.
 //!
-//! A rows event is a row of pieces (`specs/RowsEvents.antt`), which is read and written by that one relation.
+//! A rows event is a sequence of fields (`specs/RowsEvents.antt`); one definition covers reading and writing.
 #![tactic(auto)]
 
 mod event_columns;
 mod event_images;
 mod extra_data;
 pub mod laws;
-mod maybe;
+mod optional_field;
 mod rows;
 mod rows_event;
 mod rows_event_ctx;

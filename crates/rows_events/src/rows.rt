@@ -1,11 +1,11 @@
-//! The rows of an event, one after the other, in memory of their own.
+//! The owned rows of an event, read one at a time.
 
 ghost use Rattle.std.specs.Prelude.{◌≡◌, ◌⊎◌, ◌<◌, IfOk, IfErr, IsSome, Err, length};
 ghost use Rattle.std.specs.Iterator.{at_most};
 ghost use Rattle.rows_times.specs.declared.fault.RowsError.TheVariants.{Memory};
 ghost use Rattle.rows_events.specs.EventShapes.{event_shapes};
-ghost use Rattle.rows_events.specs.EventImages.{ReadsEvent};
-ghost use Rattle.rows_events.specs.EventRowSteps.{table_of, StandsBefore, TakesRow, MakesImages, ReadsNext, PlansImages, IsRest};
+ghost use Rattle.rows_events.specs.EventImages.{ReadsEventImages};
+ghost use Rattle.rows_events.specs.EventRowSteps.{source_table, IsBeforeRows, TakesRow, MakesImages, ReadsNext, PlansImages, IsRest};
 ghost use Rattle.rows_events.specs.RowPairs.{mapped_table, planned_table};
 ghost use Rattle.rows_events.specs.Views.{body_of};
 
@@ -18,20 +18,20 @@ use rows_meta::TableMapEvent;
 use rows_times::RowsError;
 use std::alloc::Global;
 
-/// What the plan of the table is taken from.
+/// The source of the table's plan.
 #[derive(Clone, Copy)]
 enum Source<'a> {
-    /// The table map, of which the plan is made before the first row.
+    /// The table map; its plan is made before the first row.
     Map(&'a TableMapEvent<'a>),
     /// The plan.
     Plan(&'a ColumnPlan),
 }
 
 impl Source<'_> {
-    /// The readers of an event's images.
+    /// Creates the readers of an event's images.
     fn images(&self, alloc: Global, event: &RowsEvent<'_>) -> Result<EventImages, RowsError>
-        ensures ok { IfOk result (ReadsEvent (table_of self.now) (body_of event.now)) }
-        ensures err { IfErr result (λ e. e ≡ Memory ⊎ event_shapes (body_of event.now) (table_of self.now).plan ≡ Err e) }
+        ensures ok { IfOk result (ReadsEventImages (source_table self.now) (body_of event.now)) }
+        ensures err { IfErr result (λ e. e ≡ Memory ⊎ event_shapes (body_of event.now) (source_table self.now).plan ≡ Err e) }
     {
         match *self {
             Source::Plan(plan) => EventImages::new(alloc, event, plan),
@@ -46,23 +46,23 @@ impl Source<'_> {
     }
 }
 
-/// The rows of an event that are still to come: for each the row before the change and the row after it, as far
-/// as the event has them. A row that can't be read is a fault, and nothing follows it.
+/// The remaining rows of an event: each as it was before the change and after it, as far as the event has them. A row that can't
+/// be read is an error, and no row follows it.
 #[derive(Drop)]
 pub struct RowsEventRows<'a> {
     alloc: Global,
     event: &'a RowsEvent<'a>,
     source: Source<'a>,
-    /// The readers of the images, once a row was asked for.
+    /// The readers of the images, created when the first row is asked for.
     images: Option<EventImages>,
     rest: &'a [u8],
 }
 
 impl<'a> RowsEvent<'a> {
-    /// The rows of the event, whose table is the one of this map. Nothing is read, and no memory taken, before
-    /// the first row is asked for.
+    /// Iterates over the rows of the event, whose table this map describes. It reads nothing and takes no memory before the first
+    /// row is asked for.
     pub fn rows<'b>(&'b self, alloc: Global, table_map: &'b TableMapEvent<'b>) -> RowsEventRows<'b>
-        ensures { StandsBefore result (mapped_table table_map.now) (body_of self.now) (body_of self.now).rows_data }
+        ensures { IsBeforeRows result (mapped_table table_map.now) (body_of self.now) (body_of self.now).rows_data }
     {
         RowsEventRows {
             alloc,
@@ -73,9 +73,9 @@ impl<'a> RowsEvent<'a> {
         }
     }
 
-    /// The rows of the event, by the plan of its table: those that `rows` gives on the table map.
+    /// Iterates over the rows of the event, by the plan of its table: the same rows as `rows` returns for the table map.
     pub fn rows_by<'b>(&'b self, alloc: Global, plan: &'b ColumnPlan) -> RowsEventRows<'b>
-        ensures { StandsBefore result (planned_table plan.now) (body_of self.now) (body_of self.now).rows_data }
+        ensures { IsBeforeRows result (planned_table plan.now) (body_of self.now) (body_of self.now).rows_data }
     {
         RowsEventRows {
             alloc,
@@ -88,7 +88,7 @@ impl<'a> RowsEvent<'a> {
 }
 
 impl<'a> RowsEventRows<'a> {
-    /// Makes the readers of the images, where they aren't made yet.
+    /// Creates the readers of the images, unless they exist.
     fn make_images(&mut self) -> Result<(), RowsError>
         ensures makes { MakesImages self.old result self.new }
         ensures some { IfOk result (λ _. IsSome self.new.images) }
@@ -106,10 +106,11 @@ impl<'a> RowsEventRows<'a> {
         }
     }
 
-    /// The columns of the images of the rows, which `columns` takes in place of those before. By them, what is left can be
-    /// read where it stands, without memory for each row.
+    /// Returns the columns of the rows' images, which replace those in `columns`. With them the remaining rows can be read in
+    /// place, without memory for each row.
     ///
-    /// The refusals of [`EventColumns::fill`]; `Memory` also where the plan of a table map can't be made.
+    /// - The errors of [`EventColumns::fill`].
+    /// - `Memory`: also if there is no memory for the plan of a table map.
     pub fn images_in<'p>(&self, columns: &'p mut EventColumns) -> Result<RowPlan<'p>, RowsError>
         ensures { PlansImages self.now result }
     {
@@ -128,17 +129,17 @@ impl<'a> RowsEventRows<'a> {
         }
     }
 
-    /// The bytes of the rows that are still to come.
+    /// Returns the bytes of the remaining rows.
     pub fn rest(&self) -> &'a [u8]
         ensures { IsRest self.now result.now }
     {
         self.rest
     }
 
-    /// The row at the front of the bytes that are left, and what follows it.
-    fn read_front(&self) -> Result<(RowPair, &'a [u8]), RowsError>
+    /// Reads the row that the remaining bytes begin with; returns it and the bytes after it.
+    fn read_next(&self) -> Result<(RowPair, &'a [u8]), RowsError>
         requires { IsSome self.now.images }
-        ensures front { ReadsNext self.now result }
+        ensures prefix { ReadsNext self.now result }
         ensures fewer { IfOk result (λ x. length x.1.now < length self.now.rest.now) }
     {
         self.images.as_ref().unwrap().read(self.alloc, self.rest)
@@ -152,7 +153,7 @@ impl<'a> Iterator for RowsEventRows<'a> {
 
     ghost remaining = { λ it. at_most (length it.rest.now) };
 
-    /// The faults of [`ColumnPlan`] and of [`EventImages::read`]; `Memory` where memory is refused.
+    /// Returns the next row, the errors of [`ColumnPlan`] and of [`EventImages::read`], or `Memory` if out of memory.
     fn next(&mut self) -> Option<Result<RowPair, RowsError>> {
         if self.rest.is_empty() {
             return None;
@@ -161,7 +162,7 @@ impl<'a> Iterator for RowsEventRows<'a> {
             self.rest = &[];
             return Some(Err(fault));
         }
-        match self.read_front() {
+        match self.read_next() {
             Ok((pair, rest)) => {
                 self.rest = rest;
                 Some(Ok(pair))

@@ -2,14 +2,14 @@ ghost use Rattle.std.specs.Prelude.{◌≡◌};
 
 use crate::rows_event_type::RowsEventType;
 
-/// What a reader of a rows event has to know beforehand.
+/// What has to be known to read a rows event.
 #[derive(Clone, Copy, Debug, PartialEq, Eq, Hash)]
 pub struct RowsEventCtx {
     /// The event's type.
     pub event_type: RowsEventType,
-    /// The post-header length of this type. Where it is 6, the table's id has four bytes.
+    /// The post-header length of this type. If it is 6, the table id has four bytes, otherwise six.
     pub post_header_len: usize,
-    /// The post-header length of `WRITE_ROWS_EVENT`. Events whose type has the same have extra data.
+    /// The post-header length of `WRITE_ROWS_EVENT`. Events whose type has the same length have extra data.
     pub write_post_header_len: usize,
 }
 
@@ -17,7 +17,7 @@ impl RowsEventCtx {
     ghost use Rattle.rows_events.specs.Fields.{only_if};
     ghost use Rattle.rows_events.specs.RowsEvents.{has_extra};
 
-    /// The context of the extra data, where such stands in the event.
+    /// Returns the context of the extra data, if the event has it.
     pub(crate) fn extra_data(&self) -> Option<()>
         ensures { result ≡ only_if (has_extra self.now) (tt {0}) }
     {

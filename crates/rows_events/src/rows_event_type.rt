@@ -5,7 +5,7 @@ ghost use Rattle.rows_events.specs.RowsEventTypes.{rows_event_type, images_of, w
 
 use rows_consts::EventType;
 
-/// The type of a rows event: an [`EventType`] of which nothing else is possible.
+/// The type of a rows event: an [`EventType`] restricted to rows events.
 #[derive(Clone, Copy, Debug, PartialEq, Eq, Hash)]
 pub enum RowsEventType {
     /// `WRITE_ROWS_EVENT_V1`.
@@ -25,8 +25,8 @@ pub enum RowsEventType {
 }
 
 impl RowsEventType {
-    /// The type as one of a rows event; None where it is the type of another event, or one of the three
-    /// `PRE_GA_` types, whose events aren't read.
+    /// Returns the type as one of a rows event; None if it is the type of another event, or one of the three `PRE_GA_` types,
+    /// whose events aren't supported.
     pub fn of(event_type: EventType) -> Option<RowsEventType>
         ensures { result ≡ rows_event_type event_type }
     {
@@ -42,7 +42,7 @@ impl RowsEventType {
         }
     }
 
-    /// The type as one of an event.
+    /// Returns the type as an `EventType`.
     pub fn event_type(self) -> EventType
         ensures { rows_event_type result ≡ Some self }
     {
@@ -57,7 +57,7 @@ impl RowsEventType {
         }
     }
 
-    /// The images that each row of an event of the type has.
+    /// Returns the images that each row has in events of this type.
     pub fn images(self) -> RowImages
         ensures { result ≡ images_of self }
     {
@@ -69,7 +69,7 @@ impl RowsEventType {
         }
     }
 
-    /// Whether what is written for an event of the type has extra data: all but those of version 1.
+    /// Returns whether events of this type are written with extra data: all except those of version 1.
     pub(crate) fn writes_extra_data(self) -> bool
         ensures { result ≡ writes_extra self }
     {
@@ -85,21 +85,21 @@ impl RowsEventType {
     }
 }
 
-/// What stands in a rows event for each row: the row before the change, after it, or both.
+/// The images that a rows event has for each row: before the change, after it, or both.
 #[derive(Clone, Copy, Debug, PartialEq, Eq, Hash)]
 pub enum RowImages {
-    /// A row that was deleted.
+    /// A deleted row.
     Before,
-    /// A row that was inserted.
+    /// An inserted row.
     After,
-    /// A row before it was updated, and after.
+    /// An updated row, before and after the update.
     BeforeAndAfter,
-    /// The same; after the update a JSON document may stand as its changes.
+    /// An updated row, before and after the update; JSON documents in the after image may be encoded as diffs.
     BeforeAndPartialAfter,
 }
 
 impl RowImages {
-    /// Whether each row has an image before the change.
+    /// Returns whether each row has a before image.
     pub fn has_before(self) -> bool
         ensures { result ≡ has_before_of self }
     {
@@ -110,7 +110,7 @@ impl RowImages {
         }
     }
 
-    /// Whether each row has an image after the change.
+    /// Returns whether each row has an after image.
     pub fn has_after(self) -> bool
         ensures { result ≡ has_after_of self }
     {
@@ -120,7 +120,7 @@ impl RowImages {
         }
     }
 
-    /// Whether a JSON document may stand as its changes in the image after the change.
+    /// Returns whether JSON documents in the after image may be encoded as diffs.
     pub fn has_partial_after(self) -> bool
         ensures { result ≡ has_partial_after_of self }
     {

@@ -5,13 +5,13 @@ ghost use Rattle.rows_flags.specs.FlagTables.{gtid_flags};
 use bitflags::{Flag, Flags, bitflag_items};
 use thiserror::Error;
 
-/// What a GTID event says of its transaction.
+/// The flags of a GTID event.
 #[derive(Clone, Copy, Debug, Default, PartialEq, Eq, Hash)]
 pub struct GtidFlags(u8);
 
 bitflag_items! {
     impl GtidFlags: u8 {
-        /// The transaction may hold statements, and not rows alone.
+        /// The transaction may contain statements, not only row changes.
         const MAY_HAVE_SBR = 1;
     }
 }
@@ -25,23 +25,23 @@ impl Flags for GtidFlags {
 
     ghost set_of = { λ flags. flags.0 };
 
-    /// All flags, with their names.
+    /// Returns all flags with their names.
     fn flags<'a>() -> &'a [Flag<GtidFlags>] {
         GtidFlags::FLAGS
     }
 
-    /// The bits of the set as a number.
+    /// Returns the set's bits as a number.
     fn bits(&self) -> u8 {
         self.0
     }
 
-    /// The set of these bits; bits that are no flag are kept.
+    /// Returns the set of these bits, including bits that are no flag.
     fn from_bits_retain(bits: u8) -> GtidFlags {
         GtidFlags(bits)
     }
 }
 
-/// Bits of which some are no flag of `GtidFlags`.
+/// A number with a bit that is no flag of `GtidFlags`.
 #[derive(Clone, Copy, Debug, PartialEq, Eq, Hash, Error)]
 #[error("Unknown flags in the raw value of GtidFlags (raw={0:b})")]
 pub struct UnknownGtidFlags(pub u8);
@@ -51,7 +51,7 @@ impl TryFrom<u8> for GtidFlags {
 
     ghost try_from_gives = { IsFlagsOf gtid_flags (λ flags. flags.0) (λ unknown. unknown.0) };
 
-    /// The set of the bits of a number; refused where a bit is no flag.
+    /// Returns the set of flags that the bits make up. Returns an error if a bit is no flag.
     fn try_from(bits: u8) -> Result<GtidFlags, UnknownGtidFlags> {
         GtidFlags::from_bits(bits).ok_or(UnknownGtidFlags(bits))
     }
@@ -60,7 +60,7 @@ impl TryFrom<u8> for GtidFlags {
 impl From<GtidFlags> for u8 {
     ghost from_gives = { λ flags bits. bits ≡ flags.0 };
 
-    /// The bits of the set as a number.
+    /// Returns the set's bits as a number.
     fn from(flags: GtidFlags) -> u8 {
         flags.0
     }
@@ -69,7 +69,7 @@ impl From<GtidFlags> for u8 {
 impl From<UnknownGtidFlags> for u8 {
     ghost from_gives = { λ unknown bits. bits ≡ unknown.0 };
 
-    /// The bits that were refused, the known ones among them.
+    /// Returns the number's bits, both known and unknown ones.
     fn from(unknown: UnknownGtidFlags) -> u8 {
         unknown.0
     }

@@ -1,7 +1,7 @@
-//! The sets of flags of MySQL's binary logs, and their conversions.
+//! The flag sets of MySQL's binary logs, and their conversions.
 //!
-//! `specs/` has the bits of each flag. How numbers are taken as sets of flags, and when they are
-//! refused, is said once for all of them in `wire_consts`.
+//! `specs/` has the bits of each flag. `wire_consts` specifies, once for all sets, how a number is converted
+//! to a set and when that is an error.
 #![tactic(auto)]
 
 mod event_flags;

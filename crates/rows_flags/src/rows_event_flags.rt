@@ -5,13 +5,13 @@ ghost use Rattle.rows_flags.specs.FlagTables.{rows_event_flags};
 use bitflags::{Flag, Flags, bitflag_items};
 use thiserror::Error;
 
-/// What a rows event says of its rows.
+/// The flags of a rows event.
 #[derive(Clone, Copy, Debug, Default, PartialEq, Eq, Hash)]
 pub struct RowsEventFlags(u16);
 
 bitflag_items! {
     impl RowsEventFlags: u16 {
-        /// The last rows event of a statement.
+        /// This is the last rows event of a statement.
         const STMT_END = 1;
         /// Foreign keys weren't checked.
         const NO_FOREIGN_KEY_CHECKS = 2;
@@ -31,23 +31,23 @@ impl Flags for RowsEventFlags {
 
     ghost set_of = { λ flags. flags.0 };
 
-    /// All flags, with their names.
+    /// Returns all flags with their names.
     fn flags<'a>() -> &'a [Flag<RowsEventFlags>] {
         RowsEventFlags::FLAGS
     }
 
-    /// The bits of the set as a number.
+    /// Returns the set's bits as a number.
     fn bits(&self) -> u16 {
         self.0
     }
 
-    /// The set of these bits; bits that are no flag are kept.
+    /// Returns the set of these bits, including bits that are no flag.
     fn from_bits_retain(bits: u16) -> RowsEventFlags {
         RowsEventFlags(bits)
     }
 }
 
-/// Bits of which some are no flag of `RowsEventFlags`.
+/// A number with a bit that is no flag of `RowsEventFlags`.
 #[derive(Clone, Copy, Debug, PartialEq, Eq, Hash, Error)]
 #[error("Unknown flags in the raw value of RowsEventFlags (raw={0:b})")]
 pub struct UnknownRowsEventFlags(pub u16);
@@ -57,7 +57,7 @@ impl TryFrom<u16> for RowsEventFlags {
 
     ghost try_from_gives = { IsFlagsOf rows_event_flags (λ flags. flags.0) (λ unknown. unknown.0) };
 
-    /// The set of the bits of a number; refused where a bit is no flag.
+    /// Returns the set of flags that the bits make up. Returns an error if a bit is no flag.
     fn try_from(bits: u16) -> Result<RowsEventFlags, UnknownRowsEventFlags> {
         RowsEventFlags::from_bits(bits).ok_or(UnknownRowsEventFlags(bits))
     }
@@ -66,7 +66,7 @@ impl TryFrom<u16> for RowsEventFlags {
 impl From<RowsEventFlags> for u16 {
     ghost from_gives = { λ flags bits. bits ≡ flags.0 };
 
-    /// The bits of the set as a number.
+    /// Returns the set's bits as a number.
     fn from(flags: RowsEventFlags) -> u16 {
         flags.0
     }
@@ -75,7 +75,7 @@ impl From<RowsEventFlags> for u16 {
 impl From<UnknownRowsEventFlags> for u16 {
     ghost from_gives = { λ unknown bits. bits ≡ unknown.0 };
 
-    /// The bits that were refused, the known ones among them.
+    /// Returns the number's bits, both known and unknown ones.
     fn from(unknown: UnknownRowsEventFlags) -> u16 {
         unknown.0
     }

@@ -5,7 +5,7 @@ ghost use Rattle.rows_flags.specs.FlagTables.{user_var_flags};
 use bitflags::{Flag, Flags, bitflag_items};
 use thiserror::Error;
 
-/// What a user variable event says of its value.
+/// The flags of a user variable event's value.
 #[derive(Clone, Copy, Debug, Default, PartialEq, Eq, Hash)]
 pub struct UserVarFlags(u8);
 
@@ -25,23 +25,23 @@ impl Flags for UserVarFlags {
 
     ghost set_of = { λ flags. flags.0 };
 
-    /// All flags, with their names.
+    /// Returns all flags with their names.
     fn flags<'a>() -> &'a [Flag<UserVarFlags>] {
         UserVarFlags::FLAGS
     }
 
-    /// The bits of the set as a number.
+    /// Returns the set's bits as a number.
     fn bits(&self) -> u8 {
         self.0
     }
 
-    /// The set of these bits; bits that are no flag are kept.
+    /// Returns the set of these bits, including bits that are no flag.
     fn from_bits_retain(bits: u8) -> UserVarFlags {
         UserVarFlags(bits)
     }
 }
 
-/// Bits of which some are no flag of `UserVarFlags`.
+/// A number with a bit that is no flag of `UserVarFlags`.
 #[derive(Clone, Copy, Debug, PartialEq, Eq, Hash, Error)]
 #[error("Unknown flags in the raw value of UserVarFlags (raw={0:b})")]
 pub struct UnknownUserVarFlags(pub u8);
@@ -51,7 +51,7 @@ impl TryFrom<u8> for UserVarFlags {
 
     ghost try_from_gives = { IsFlagsOf user_var_flags (λ flags. flags.0) (λ unknown. unknown.0) };
 
-    /// The set of the bits of a number; refused where a bit is no flag.
+    /// Returns the set of flags that the bits make up. Returns an error if a bit is no flag.
     fn try_from(bits: u8) -> Result<UserVarFlags, UnknownUserVarFlags> {
         UserVarFlags::from_bits(bits).ok_or(UnknownUserVarFlags(bits))
     }
@@ -60,7 +60,7 @@ impl TryFrom<u8> for UserVarFlags {
 impl From<UserVarFlags> for u8 {
     ghost from_gives = { λ flags bits. bits ≡ flags.0 };
 
-    /// The bits of the set as a number.
+    /// Returns the set's bits as a number.
     fn from(flags: UserVarFlags) -> u8 {
         flags.0
     }
@@ -69,7 +69,7 @@ impl From<UserVarFlags> for u8 {
 impl From<UnknownUserVarFlags> for u8 {
     ghost from_gives = { λ unknown bits. bits ≡ unknown.0 };
 
-    /// The bits that were refused, the known ones among them.
+    /// Returns the number's bits, both known and unknown ones.
     fn from(unknown: UnknownUserVarFlags) -> u8 {
         unknown.0
     }

@@ -1,4 +1,4 @@
--- Values that are kept stay those of their cells when they are made owned.
+-- Values keep their contents when they are made owned.
 use Rattle.std.proofs.Common.{◌≡◌, List, map, Ok, sym, ap, ◌∙◌}
 use Rattle.rows_jsonb.specs.JsonbValues.{JsonbValue}
 use Rattle.rows_jsonb.specs.JsonbViews.{jsonb_value}
@@ -8,11 +8,11 @@ use Rattle.rows_jsonb.specs.JsonDiffViews.{diff_view}
 use Rattle.rows_cells.specs.declared.binlog_value.BinlogValue.{BinlogValue}
 use Rattle.rows_cells.specs.declared.binlog_value.BinlogValue.TheVariants as made
 use Rattle.rows_cells.specs.CellValues.{CellValue, json, json_diffs}
-use Rattle.rows_cells.specs.CellViews.{value_view, Holds}
+use Rattle.rows_cells.specs.CellViews.{cell_value_of, Holds}
 use Rattle.rows_cells.specs.BinlogValues.{kept_view}
 
 pub same_held : (v : CellValue) (a b : BinlogValue) → kept_view b ≡ kept_view a → Holds v a → Holds v b
-same_held v (made.Value w) (made.Value x) e h = let s : value_view x ≡ value_view w = cc e in h ∙ sym s
+same_held v (made.Value w) (made.Value x) e h = let s : cell_value_of x ≡ cell_value_of w = cc e in h ∙ sym s
 same_held v (made.Value w) (made.Jsonb x) e h = absurd (cc e)
 same_held v (made.Value w) (made.JsonDiff x) e h = absurd (cc e)
 same_held (json b) (made.Jsonb d) (made.Jsonb x) e h = let s : jsonb_value x ≡ jsonb_value d = cc e in h ∙ ap (λ (j : JsonbValue). Ok j) (sym s)

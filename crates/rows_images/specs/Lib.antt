@@ -3,7 +3,7 @@ pub mod PlanViews
 pub mod Walks
 pub mod PickedColumns
 pub mod ImageShapes
-pub mod ImagePlaces
+pub mod ImageColumnIndexes
 pub mod OwnedRows
 pub mod PlainRows
 pub mod RowImages

@@ -8,32 +8,32 @@ use Rattle.rows_cells.specs.declared.image.ImageColumn.{ImageColumn}
 use Rattle.rows_images.specs.Plans.{PlannedColumn}
 
 -- a column past the last bit is in no image
-abbrev pub is_set : Option Bool → Bool
-is_set None = false
-is_set (Some b) = b
+abbrev pub bit_is_set : Option Bool → Bool
+bit_is_set None = false
+bit_is_set (Some b) = b
 
 abbrev pub is_picked : (ℕ → Option Bool) → PlannedColumn → Bool
-is_picked bit c = is_set (bit c.image.place)
+is_picked bit c = bit_is_set (bit c.image.column)
 
 -- the columns whose bits are set
 abbrev pub picked : (ℕ → Option Bool) → List PlannedColumn → List PlannedColumn
 picked bit columns = filter (is_picked bit) columns
 
--- of these columns, if there are any, those whose bits are set, as f sees them
+-- of these columns, those whose bits are set, as f maps them; or the error
 abbrev pub picked_as : {A : Type 0} → (PlannedColumn → A) → (ℕ → Option Bool) → Reading (List PlannedColumn) → Reading (List A)
 picked_as f bit columns = columns >>= λ cs. Ok (map f (picked bit cs))
 
--- these, and then those of an image
+-- these columns, and then those of an image
 abbrev pub appended : List ImageColumn → Reading (List ImageColumn) → Reading (List ImageColumn)
 appended before image = image >>= λ columns. Ok (before ++ columns)
 
--- how a column stands in an image
-abbrev pub in_image : PlannedColumn → ImageColumn
-in_image c = c.image
+-- a column as one of an image
+abbrev pub image_column : PlannedColumn → ImageColumn
+image_column c = c.image
 
 -- UNSIGNED_FLAG and PRI_KEY_FLAG
-abbrev pub flags_of : Bool → Bool → ColumnFlags
-flags_of is_unsigned is_key = record { 0 = (if is_unsigned then 32 else 0) + (if is_key then 2 else 0) }
+abbrev pub column_flags : Bool → Bool → ColumnFlags
+column_flags is_unsigned is_key = record { 0 = (if is_unsigned then 32 else 0) + (if is_key then 2 else 0) }
 
 -- the definition of a column in a table of a database
 abbrev pub definition : List ℕ → List ℕ → PlannedColumn → ColumnParts
@@ -43,6 +43,6 @@ definition database table c = record {
   table = table;
   org_table = table;
   name = c.name;
-  flags = flags_of c.is_unsigned c.is_key;
+  flags = column_flags c.is_unsigned c.is_key;
   character_set = c.character_set;
 }

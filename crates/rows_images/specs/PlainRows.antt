@@ -1,4 +1,4 @@
--- When the values of a row are plain, and which one is refused first.
+-- Conversion of a row to plain values, and the first value that has none.
 use Rattle.std.specs.Prelude.{◌≡◌, List, ◌∷◌, ◌++◌, length, map, Option, Some, None}
 use Rattle.std.specs.declared.result.Result.{Result}
 use Rattle.std.specs.declared.result.Result.TheVariants.{Ok, Err}
@@ -9,23 +9,23 @@ use Rattle.rows_cells.specs.declared.conversions.BinlogValueToValueError.TheVari
 use Rattle.rows_cells.specs.BinlogValues.{plain_value}
 use Rattle.rows_images.specs.declared.into_row.BinlogRowToRowError.{BinlogRowToRowError}
 
--- the refusal, or the value as one that is there
+-- the error, or the value as one that wasn't taken
 abbrev pub some_plain : Result Value BinlogValueToValueError → Result (Option Value) BinlogValueToValueError
 some_plain (Ok v) = Ok (Some v)
 some_plain (Err e) = Err e
 
--- the plain value, or why it is none; a value that was taken stays none
+-- the plain value, or the error; a value that was taken stays None
 abbrev pub plain_cell : Option BinlogValue → Result (Option Value) BinlogValueToValueError
 plain_cell None = Ok None
 plain_cell (Some v) = some_plain (plain_value v)
 
--- the refusal for want of memory
+-- the error for out of memory
 abbrev pub out_of_memory : BinlogRowToRowError
 out_of_memory = record { column_offset = 0; error = Memory }
 
--- the values before the offset are plain, and the one there is refused with the error
-pub record IsFirstRefused (values : List (Option BinlogValue)) (refusal : BinlogRowToRowError) : Type 0 where
+-- the values before the offset are plain, and the one at the offset is the error
+pub record IsFirstNotPlain (values : List (Option BinlogValue)) (fails_with : BinlogRowToRowError) : Type 0 where
   pub before : List (Option Value)
-  pub behind : List (Result (Option Value) BinlogValueToValueError)
-  pub values_are : map plain_cell values ≡ map Ok before ++ (Err refusal.error ∷ behind)
-  pub offset_is : refusal.column_offset ≡ length before
+  pub after : List (Result (Option Value) BinlogValueToValueError)
+  pub values_are : map plain_cell values ≡ map Ok before ++ (Err fails_with.error ∷ after)
+  pub offset_is : fails_with.column_offset ≡ length before

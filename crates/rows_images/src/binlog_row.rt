@@ -1,15 +1,15 @@
-//! A row, and its values one by one.
+//! A row, and access to its values.
 
 ghost use Rattle.std.specs.Prelude.{◌≡◌, ◌<◌, length, map, slice_set, option_copied, IfOk, All, IsSome, IsTrue, ◌↔◌, [], Some, None};
 ghost use Rattle.std.specs.Rc.{rc_slice_items};
-ghost use Rattle.rows_images.specs.ImagePlaces.{image_items, value_count, place_at};
+ghost use Rattle.rows_images.specs.ImageColumnIndexes.{image_items, value_count, column_at_index};
 
 use rows_cells::{BinlogValue, ImageColumn};
 use rows_values::Column;
 use std::alloc::{AllocError, Global};
 use std::rc::RcSlice;
 
-/// A row of a table as a binary log has it: the columns in an image, and their values, borrowed from nothing.
+/// A row of a table from a binary log: the columns in an image and their values. It borrows nothing.
 #[derive(PartialEq, Drop)]
 pub struct BinlogRow {
     pub(crate) values: Vec<Option<BinlogValue<'static>>>,
@@ -19,15 +19,15 @@ pub struct BinlogRow {
 }
 
 impl BinlogRow {
-    ghost use Rattle.rows_images.specs.OwnedRows.{values_of, columns_of, image_of, value_at};
+    ghost use Rattle.rows_images.specs.OwnedRows.{row_values, row_columns, image_of, row_value};
 
-    /// A row of these values and columns. The place of each value is its index.
+    /// Creates a row of these values and columns. The column index of each value is its index.
     pub fn new(
         values: Vec<Option<BinlogValue<'static>>>,
         columns: RcSlice<Column, Global>,
     ) -> BinlogRow
-        ensures values { values_of result ≡ values.entry.items }
-        ensures columns { columns_of result ≡ rc_slice_items columns }
+        ensures values { row_values result ≡ values.entry.items }
+        ensures columns { row_columns result ≡ rc_slice_items columns }
         ensures image { image_of result ≡ None }
     {
         BinlogRow {
@@ -37,16 +37,16 @@ impl BinlogRow {
         }
     }
 
-    /// A row of these values and columns, where each value is that of the image's column at its index, whose
-    /// place it has.
+    /// Creates a row of these values and columns, where each value belongs to the image's column at the same index and has that
+    /// column's index in the table.
     pub fn of_image(
         values: Vec<Option<BinlogValue<'static>>>,
         columns: RcSlice<Column, Global>,
         image: RcSlice<ImageColumn, Global>,
     ) -> BinlogRow
         requires { length (rc_slice_items image) ≡ length values.items }
-        ensures values { values_of result ≡ values.entry.items }
-        ensures columns { columns_of result ≡ rc_slice_items columns }
+        ensures values { row_values result ≡ values.entry.items }
+        ensures columns { row_columns result ≡ rc_slice_items columns }
         ensures image { image_of result ≡ Some (rc_slice_items image) }
     {
         BinlogRow {
@@ -56,68 +56,67 @@ impl BinlogRow {
         }
     }
 
-    /// How many values the row has, with those that were taken.
+    /// Returns the number of values, including those that were taken.
     pub fn len(&self) -> usize
-        ensures { result ≡ length (values_of self.now) }
+        ensures { result ≡ length (row_values self.now) }
     {
         self.values.len()
     }
 
-    /// Whether the row has no values, not even taken ones.
+    /// Returns whether the row has no values, not even taken ones.
     pub fn is_empty(&self) -> bool
-        ensures { IsTrue result ↔ (values_of self.now ≡ []) }
+        ensures { IsTrue result ↔ (row_values self.now ≡ []) }
     {
         self.values.is_empty()
     }
 
-    /// The columns of the row.
+    /// Returns the columns of the row.
     pub fn columns_ref(&self) -> &[Column]
-        ensures { result.now ≡ columns_of self.now }
+        ensures { result.now ≡ row_columns self.now }
     {
         self.columns.as_slice()
     }
 
-    /// The columns of the row, which both owners then have in common. Want of memory is refused.
+    /// Returns the columns of the row, shared with it, or an error if out of memory.
     pub fn columns(&self) -> Result<RcSlice<Column, Global>, AllocError>
-        ensures { IfOk result (λ columns. rc_slice_items columns ≡ columns_of self.now) }
+        ensures { IfOk result (λ columns. rc_slice_items columns ≡ row_columns self.now) }
     {
         self.columns.clone()
     }
 
-    /// The value at this index; None past the last, and where it was taken.
+    /// Returns the value at this index; None past the last, and if it was taken.
     pub fn as_ref(&self, index: usize) -> Option<&BinlogValue<'static>>
-        ensures { option_copied result ≡ value_at (values_of self.now) index }
+        ensures { option_copied result ≡ row_value (row_values self.now) index }
     {
         self.values.get(index)?.as_ref()
     }
 
-    /// Takes the value at this index out of the row, which then has none there; None past the last, and where
-    /// it was taken before.
+    /// Takes the value at this index out of the row and leaves None; returns None past the last, and if it was taken before.
     pub fn take(&mut self, index: usize) -> Option<BinlogValue<'static>>
-        ensures taken { result ≡ value_at (values_of self.old) index }
-        ensures values { values_of self.new ≡ slice_set (values_of self.old) index None }
-        ensures columns { columns_of self.new ≡ columns_of self.old }
+        ensures taken { result ≡ row_value (row_values self.old) index }
+        ensures values { row_values self.new ≡ slice_set (row_values self.old) index None }
+        ensures columns { row_columns self.new ≡ row_columns self.old }
         ensures image { image_of self.new ≡ image_of self.old }
     {
         self.values.get_mut(index)?.take()
     }
 
-    /// The place in the table, from 0, of the column of the value at this index: the index itself in a row
-    /// that was made by `new`.
+    /// Returns the index in the table, from 0, of the column of the value at `index`. In a row that `new` made this is `index`
+    /// itself.
     pub fn place(&self, index: usize) -> usize
-        requires { index < length (values_of self.now) }
-        ensures { place_at (image_of self.now) index ≡ Some result }
+        requires { index < length (row_values self.now) }
+        ensures { column_at_index (image_of self.now) index ≡ Some result }
     {
         match &self.image {
-            Some(image) => image[index].place as usize,
+            Some(image) => image[index].column as usize,
             None => index,
         }
     }
 
-    /// The values of a row of which none was taken. Want of memory is refused.
+    /// Returns the values of a row from which none was taken, or an error if out of memory.
     pub fn unwrap(self, alloc: Global) -> Result<Vec<BinlogValue<'static>>, AllocError>
-        requires { All IsSome (values_of self) }
-        ensures { IfOk result (λ values. map Some values.items ≡ values_of self) }
+        requires { All IsSome (row_values self) }
+        ensures { IfOk result (λ values. map Some values.items ≡ row_values self) }
     {
         let mut values = Vec::with_capacity(alloc, self.values.len())?;
         for value in self.values {

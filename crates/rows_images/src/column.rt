@@ -3,17 +3,17 @@
 use rows_cells::ImageColumn;
 use wire_consts::ColumnType;
 
-/// What a plan has of a column, but for its name.
+/// What a plan has about a column, except its name.
 #[derive(Clone, Copy, Debug, PartialEq, Eq)]
 pub struct PlannedColumn {
-    /// The real type: a DATE has the cells of `NEWDATE`, and a STRING may be an ENUM or a SET.
+    /// The real type: `NEWDATE` for a DATE; a STRING may be an ENUM or a SET.
     pub real_type: ColumnType,
-    /// The column's place in the table, and the form of its cells.
+    /// The column's index in the table, and the format of its cells.
     pub image: ImageColumn,
-    /// Whether its numbers are unsigned.
+    /// Whether the column is numeric and unsigned.
     pub is_unsigned: bool,
-    /// The number of its collation; 0 where the table map has none.
+    /// The number of its collation; 0 if the table map has none.
     pub character_set: u16,
-    /// Whether it belongs to the primary key.
+    /// Whether the column is in the primary key.
     pub is_key: bool,
 }

@@ -1,4 +1,4 @@
-//! The columns of an image, as a reader of images takes them.
+//! The columns of an image, for reading images.
 
 ghost use Rattle.std.specs.Prelude.{◌≡◌, ◌⊎◌, IfOk, IfErr, OnErr, Ok, Err, Some, None, if◌then◌else◌};
 ghost use Rattle.rows_times.specs.declared.fault.RowsError.TheVariants.{Memory};
@@ -16,12 +16,12 @@ use std::alloc::Global;
 #[derive(Drop)]
 pub struct ImageColumns {
     columns: Vec<ImageColumn>,
-    /// Where JSON documents may stand as their changes, how many JSON columns the table has.
+    /// The number of JSON columns in the table, if JSON documents may be encoded as diffs.
     json_columns: Option<u32>,
 }
 
 impl ImageColumns {
-    /// No columns.
+    /// Creates it without columns.
     pub fn new(alloc: Global) -> ImageColumns
         ensures { shape_of result ≡ no_columns }
     {
@@ -31,7 +31,7 @@ impl ImageColumns {
         }
     }
 
-    /// Drops the columns, and keeps their memory.
+    /// Removes the columns, and keeps their memory.
     pub fn clear(&mut self)
         ensures { shape_of self.new ≡ no_columns }
     {
@@ -39,11 +39,11 @@ impl ImageColumns {
         self.json_columns = None;
     }
 
-    /// Takes the columns whose bits are set, in place of those before. `is_partial` says that JSON documents may
-    /// stand as their changes.
+    /// Replaces the columns by those whose bits are set. `is_partial` says that JSON documents may be encoded as diffs. On an
+    /// error there are no columns.
     ///
-    /// The refusals of [`ColumnPlan::image_columns`]; `Memory` also for a table of 2^32 JSON columns or more. A refusal leaves
-    /// no columns.
+    /// - The errors of [`ColumnPlan::image_columns`].
+    /// - `Memory`: also for a table of 2^32 or more JSON columns.
     pub fn fill(
         &mut self,
         plan: &ColumnPlan,
@@ -64,15 +64,14 @@ impl ImageColumns {
         Ok(())
     }
 
-    /// The columns in order; and where JSON documents may stand as their changes, how many JSON columns the table
-    /// has.
+    /// Returns the columns in order, and the number of JSON columns in the table if JSON documents may be encoded as diffs.
     pub fn into_parts(self) -> (Vec<ImageColumn>, Option<u32>)
         ensures { record { columns = result.0.items; json_columns = result.1 } ≡ shape_of self }
     {
         (self.columns, self.json_columns)
     }
 
-    /// The columns as a reader of images takes them.
+    /// Returns the layout of the image, for reading.
     pub fn plan(&self) -> ImagePlan<'_>
         ensures { image_shape result ≡ shape_of self.now }
     {
@@ -83,7 +82,7 @@ impl ImageColumns {
     }
 }
 
-/// How many JSON columns the table has, where documents may stand as their changes.
+/// Returns the number of JSON columns in the table if JSON documents may be encoded as diffs, otherwise None.
 fn json_columns(plan: &ColumnPlan, is_partial: bool) -> Result<Option<u32>, RowsError>
     ensures ok { IfOk result (λ json. json ≡ (if is_partial then Some plan.now.json_columns else None)) }
     ensures err { IfErr result (λ e. e ≡ Memory) }

@@ -1,9 +1,9 @@
-//! Rows of plain values, made of rows as a binary log has them.
+//! Conversion of binary log rows to rows of plain values.
 
 ghost use Rattle.std.specs.Prelude.{◌≡◌, ◌⊎◌, map, IfOk, IfErr, Ok};
 ghost use Rattle.rows_values.specs.Rows.{values_of as plain_values_of, columns_of as plain_columns_of};
-ghost use Rattle.rows_images.specs.OwnedRows.{values_of, columns_of};
-ghost use Rattle.rows_images.specs.PlainRows.{plain_cell, out_of_memory, IsFirstRefused};
+ghost use Rattle.rows_images.specs.OwnedRows.{row_values, row_columns};
+ghost use Rattle.rows_images.specs.PlainRows.{plain_cell, out_of_memory, IsFirstNotPlain};
 
 use crate::binlog_row::BinlogRow;
 use rows_cells::{BinlogValue, BinlogValueToValueError};
@@ -11,20 +11,20 @@ use rows_values::{Row, Value, new_row_raw};
 use std::alloc::{AllocError, AllocFailed, Global};
 use thiserror::Error;
 
-/// Why a row is no row of plain values.
+/// Why a row can't be converted to a row of plain values.
 #[derive(Clone, Copy, Debug, PartialEq, Eq, Error)]
 #[error("Can't convert BinlogRow to Row at column offset {column_offset}: {error}")]
 pub struct BinlogRowToRowError {
-    /// The index of the first value that is no plain value; 0 for want of memory.
+    /// The index of the first value that isn't plain; 0 if out of memory.
     pub column_offset: usize,
-    /// Why it is none.
+    /// Why it isn't plain.
     pub error: BinlogValueToValueError,
 }
 
 impl From<AllocError> for BinlogRowToRowError {
-    ghost from_gives = { λ e refusal. refusal ≡ out_of_memory };
+    ghost from_gives = { λ e fails_with. fails_with ≡ out_of_memory };
 
-    /// Want of memory is `Memory`, at 0.
+    /// Out of memory is `Memory`, at index 0.
     fn from(_error: AllocError) -> BinlogRowToRowError {
         BinlogRowToRowError {
             column_offset: 0,
@@ -34,22 +34,23 @@ impl From<AllocError> for BinlogRowToRowError {
 }
 
 impl<T: Drop> From<AllocFailed<T>> for BinlogRowToRowError {
-    ghost from_gives = { λ e refusal. refusal ≡ out_of_memory };
+    ghost from_gives = { λ e fails_with. fails_with ≡ out_of_memory };
 
-    /// Want of memory is `Memory`, at 0; the value that found no place is dropped.
+    /// Out of memory is `Memory`, at index 0; the value that wasn't added is dropped.
     fn from(_error: AllocFailed<T>) -> BinlogRowToRowError {
         BinlogRowToRowError::from(AllocError)
     }
 }
 
 impl BinlogRow {
-    /// The row of the same columns and of the plain values; a value that was taken is none in it either.
+    /// Returns the row with the same columns and the plain values; a value that was taken stays None.
     ///
-    /// `ToJson` and `JsonDiff` with the index of the first value that is refused; `Memory` at 0.
+    /// - `ToJson`, `JsonDiff`: with the index of the first value that isn't plain.
+    /// - `Memory`: out of memory, with index 0.
     pub fn into_row(self, alloc: Global) -> Result<Row, BinlogRowToRowError>
-        ensures values { IfOk result (λ row. map plain_cell (values_of self) ≡ map Ok (plain_values_of row)) }
-        ensures columns { IfOk result (λ row. plain_columns_of row ≡ columns_of self) }
-        ensures err { IfErr result (λ e. e ≡ out_of_memory ⊎ IsFirstRefused (values_of self) e) }
+        ensures values { IfOk result (λ row. map plain_cell (row_values self) ≡ map Ok (plain_values_of row)) }
+        ensures columns { IfOk result (λ row. plain_columns_of row ≡ row_columns self) }
+        ensures err { IfErr result (λ e. e ≡ out_of_memory ⊎ IsFirstNotPlain (row_values self) e) }
     {
         let mut plain = Vec::with_capacity(alloc, self.values.len())?;
         for value in self.values {
@@ -67,7 +68,7 @@ impl BinlogRow {
     }
 }
 
-/// The plain value, or again none; else why it is none.
+/// Returns the plain value, None for None, or the error.
 fn plain_of(value: Option<BinlogValue<'static>>) -> Result<Option<Value>, BinlogValueToValueError>
     ensures { result ≡ plain_cell value.entry }
 {

@@ -1,9 +1,9 @@
-//! The images of a table's rows: which columns they have, and rows in memory of their own that are read from them.
+//! The images of a table's rows: which columns they have, and the owned rows that are read from them.
 //!
-//! `ColumnPlan` is the plan of a table's columns: what a row's reader needs of each, made once from the table map and
-//! its optional metadata (`specs/Plans.antt`). `specs/OwnedRows.antt` says what a row in memory of its own has,
-//! `specs/PlainRows.antt` when it is a row of plain values, `specs/RowImages.antt` which row is read from an image, and
-//! `specs/RowFields.antt` which bytes spell a row.
+//! `ColumnPlan` is the plan of a table's columns: what reading a row needs to know about each, computed once from the table map
+//! and its optional metadata (`specs/Plans.antt`). `specs/OwnedRows.antt` defines the contents of an owned row,
+//! `specs/PlainRows.antt` its conversion to plain values, `specs/RowImages.antt` the row that is read from an image, and
+//! `specs/RowFields.antt` which bytes encode a row.
 #![tactic(auto)]
 
 mod binlog_row;

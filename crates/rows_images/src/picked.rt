@@ -4,11 +4,11 @@ ghost use Rattle.std.specs.Prelude.{◌≡◌, ◌⊎◌, ◌++◌, ◌∷◌, d
 ghost use Rattle.rows_values.specs.BitLists.{len_of, bit_at};
 ghost use Rattle.rows_values.specs.Columns.{parts_of};
 ghost use Rattle.rows_times.specs.declared.fault.RowsError.TheVariants.{Memory};
-ghost use Rattle.rows_times.specs.Readings.{shown};
+ghost use Rattle.rows_times.specs.Readings.{map_reading};
 ghost use Rattle.rows_optional.specs.MetadataViews.{name_view};
-ghost use Rattle.rows_images.specs.Plans.{name_or_place};
-ghost use Rattle.rows_images.specs.PickedColumns.{is_set, in_image, picked, picked_as, appended, flags_of, definition as definition_of};
-ghost use Rattle.rows_images.specs.PlanViews.{planned, column_view, name_in};
+ghost use Rattle.rows_images.specs.Plans.{name_or_index};
+ghost use Rattle.rows_images.specs.PickedColumns.{bit_is_set, image_column, picked, picked_as, appended, column_flags, definition as definition_of};
+ghost use Rattle.rows_images.specs.PlanViews.{planned, column_view, name_or_empty};
 
 use crate::column::PlannedColumn;
 use crate::plan::ColumnPlan;
@@ -22,18 +22,19 @@ use std::alloc::{AllocError, Global};
 use wire_consts::ColumnFlags;
 
 impl ColumnPlan {
-    /// Appends the columns that are in an image: those whose bit is set, of as many columns as there are bits.
+    /// Appends the columns that are in an image: of as many columns as there are bits, those whose bits are set.
     ///
-    /// Refused with the fault of the first column that has no plan, or of the optional metadata, wherever there is one; then
-    /// nothing is appended. `Memory` where memory is refused; then some of them are appended.
+    /// - The error of the first of these columns that has no plan, or of the optional metadata: returned whenever there is one;
+    ///   nothing is appended.
+    /// - `Memory`: out of memory; some of the columns may have been appended.
     pub fn image_columns(
         &self,
         bits: Bits<'_>,
         columns: &mut Vec<ImageColumn>,
     ) -> Result<(), RowsError>
-        ensures ok { IfOk result (λ _. appended columns.old.items (picked_as in_image (bit_at bits.entry) (planned self.now.run (len_of bits.entry))) ≡ Ok columns.new.items) }
+        ensures ok { IfOk result (λ _. appended columns.old.items (picked_as image_column (bit_at bits.entry) (planned self.now.run (len_of bits.entry))) ≡ Ok columns.new.items) }
         ensures err { IfErr result (λ e. e ≡ Memory ⊎ ((planned self.now.run (len_of bits.entry) ≡ Err e) × (columns.new.items ≡ columns.old.items))) }
-        ensures refused { IfErr (planned self.now.run (len_of bits.entry)) (λ e. (result ≡ Err e) × (columns.new.items ≡ columns.old.items)) }
+        ensures failed { IfErr (planned self.now.run (len_of bits.entry)) (λ e. (result ≡ Err e) × (columns.new.items ≡ columns.old.items)) }
     {
         let image = match self.run.first(bits.len()) {
             Ok(image) => image,
@@ -47,13 +48,12 @@ impl ColumnPlan {
         Ok(())
     }
 
-    /// The definitions of the columns that are in an image, with the names of the database and the table.
-    ///
-    /// The refusals of [`ColumnPlan::image_columns`].
+    /// Returns the definitions of the columns that are in an image, with the names of the database and the table. Returns the
+    /// errors of [`ColumnPlan::image_columns`].
     pub fn definitions(&self, alloc: Global, bits: Bits<'_>) -> Result<Vec<Column>, RowsError>
         ensures ok { IfOk result (λ columns. picked_as (definition_of self.now.database.items self.now.table.items) (bit_at bits.entry) (planned self.now.run (len_of bits.entry)) ≡ Ok (map parts_of columns.items)) }
         ensures err { IfErr result (λ e. e ≡ Memory ⊎ (planned self.now.run (len_of bits.entry) ≡ Err e)) }
-        ensures refused { IfErr (planned self.now.run (len_of bits.entry)) (λ e. result ≡ Err e) }
+        ensures failed { IfErr (planned self.now.run (len_of bits.entry)) (λ e. result ≡ Err e) }
     {
         let image = match self.run.first(bits.len()) {
             Ok(image) => image,
@@ -61,41 +61,40 @@ impl ColumnPlan {
         };
         let mut names = self.run.names();
         let mut definitions = Vec::new(alloc);
-        for (place, column) in image.iter().enumerate() {
+        for (column_index, column) in image.iter().enumerate() {
             let name = names.next();
-            self.define(alloc, bits, place, column, name, &mut definitions)?;
+            self.define(alloc, bits, column_index, column, name, &mut definitions)?;
         }
         Ok(definitions)
     }
 
-    /// Appends the definition of the column of this place where its bit is set.
+    /// Appends the definition of the column with this index if its bit is set.
     fn define(
         &self,
         alloc: Global,
         bits: Bits<'_>,
-        place: usize,
+        column_index: usize,
         column: &PlannedColumn,
         name: Option<Result<ColumnName<'_>, RowsError>>,
         definitions: &mut Vec<Column>,
     ) -> Result<(), AllocError>
-        ensures { IfOk result (λ _. map parts_of definitions.new.items ≡ map parts_of definitions.old.items ++ map (definition_of self.now.database.items self.now.table.items) (picked (bit_at bits.entry) (column_view (name_in (name_or_place place (option_map (shown name_view) name.entry))) column.now ∷ []))) }
+        ensures { IfOk result (λ _. map parts_of definitions.new.items ≡ map parts_of definitions.old.items ++ map (definition_of self.now.database.items self.now.table.items) (picked (bit_at bits.entry) (column_view (name_or_empty (name_or_index column_index (option_map (map_reading name_view) name.entry))) column.now ∷ []))) }
     {
         if is_picked(bits, column) {
-            definitions.push(self.definition(alloc, place, column, name)?)?;
+            definitions.push(self.definition(alloc, column_index, column, name)?)?;
         }
         Ok(())
     }
 
-    /// The definition of the column of this place, by the name that stands in the optional metadata, if there is
-    /// one.
+    /// Returns the definition of the column with this index, and with its name from the optional metadata, if there is one.
     fn definition(
         &self,
         alloc: Global,
-        place: usize,
+        column_index: usize,
         column: &PlannedColumn,
         name: Option<Result<ColumnName<'_>, RowsError>>,
     ) -> Result<Column, AllocError>
-        ensures { IfOk result (λ c. parts_of c ≡ definition_of self.now.database.items self.now.table.items (column_view (name_in (name_or_place place (option_map (shown name_view) name.entry))) column.now)) }
+        ensures { IfOk result (λ c. parts_of c ≡ definition_of self.now.database.items self.now.table.items (column_view (name_or_empty (name_or_index column_index (option_map (map_reading name_view) name.entry))) column.now)) }
     {
         let definition = Column::new(alloc, column.real_type)
             .with_schema(&self.database)?
@@ -106,33 +105,33 @@ impl ColumnPlan {
         match name {
             Some(Ok(name)) => definition.with_name(name.name_raw()),
             Some(Err(_)) => Ok(definition),
-            None => definition.with_name(&place_name(alloc, place)?),
+            None => definition.with_name(&index_name(alloc, column_index)?),
         }
     }
 }
 
-/// Whether the column's bit is set.
+/// Returns whether the column's bit is set.
 fn is_picked(bits: Bits<'_>, column: &PlannedColumn) -> bool
-    ensures { result ≡ is_set (bit_at bits.entry column.now.image.place) }
+    ensures { result ≡ bit_is_set (bit_at bits.entry column.now.image.column) }
 {
-    bits.get(column.image.place as usize).unwrap_or(false)
+    bits.get(column.image.column as usize).unwrap_or(false)
 }
 
-/// The flags of a column.
+/// Returns the flags of a column.
 fn flags(is_unsigned: bool, is_key: bool) -> ColumnFlags
-    ensures { result ≡ flags_of is_unsigned is_key }
+    ensures { result ≡ column_flags is_unsigned is_key }
 {
     let unsigned = if is_unsigned { 32 } else { 0 };
     let key = if is_key { 2 } else { 0 };
     ColumnFlags::from_bits_retain(unsigned + key)
 }
 
-/// The name of a column that has none: `@` and its place.
-fn place_name(alloc: Global, place: usize) -> Result<Vec<u8>, AllocError>
-    ensures { IfOk result (λ name. name.items ≡ 64 ∷ decimal place) }
+/// Returns the name of a column that has none in the table map: `@` and its index.
+fn index_name(alloc: Global, column_index: usize) -> Result<Vec<u8>, AllocError>
+    ensures { IfOk result (λ name. name.items ≡ 64 ∷ decimal column_index) }
 {
     let mut buffer = Buffer::new();
     let mut name = Vec::from_slice(alloc, b"@")?;
-    name.extend_from_slice(buffer.format(place as u64).as_bytes())?;
+    name.extend_from_slice(buffer.format(column_index as u64).as_bytes())?;
     Ok(name)
 }

@@ -6,7 +6,7 @@ use crate::run::ColumnRun;
 use rows_meta::TableMapEvent;
 use std::alloc::{AllocError, Global};
 
-/// What a row's reader needs of each column of a table, for the longest run of columns that have it all.
+/// What reading a row needs to know about each column of a table, for as many columns, from the first on, as have it all.
 #[derive(Drop)]
 pub struct ColumnPlan {
     pub(crate) run: ColumnRun,
@@ -17,10 +17,10 @@ pub struct ColumnPlan {
 
 impl ColumnPlan {
     ghost use Rattle.rows_images.specs.ImageShapes.{table_plan};
-    ghost use Rattle.rows_images.specs.PlanViews.{IsPlanOf, planned, within};
+    ghost use Rattle.rows_images.specs.PlanViews.{IsPlanOf, planned, is_within_reach};
 
-    /// The plan of a table's columns. `AllocError` where memory is refused, and for a table of 2^32 columns or
-    /// more, which no event can have.
+    /// Creates the plan of a table's columns. Returns `AllocError` if out of memory, and for a table of 2^32 or more columns,
+    /// which no event can have.
     pub fn new(alloc: Global, table_map: &TableMapEvent<'_>) -> Result<ColumnPlan, AllocError>
         ensures { IfOk result (λ plan. IsPlanOf plan table_map.now) }
     {
@@ -32,15 +32,14 @@ impl ColumnPlan {
         })
     }
 
-    /// The greatest number of columns for which there is a plan; None where there is a plan for none, not even
-    /// for no columns.
+    /// Returns the greatest number of columns that have a plan; None if there is no plan, not even for zero columns.
     pub fn reach(&self) -> Option<u64>
-        ensures { (n : ℕ) → is_ok (planned self.now.run n) ≡ within n result }
+        ensures { (n : ℕ) → is_ok (planned self.now.run n) ≡ is_within_reach n result }
     {
         self.run.reach()
     }
 
-    /// How many columns of the table have the type JSON.
+    /// Returns the number of columns of type JSON in the table.
     pub fn json_columns(&self) -> usize
         ensures { result ≡ (table_plan self.now).json_columns }
     {

@@ -1,12 +1,12 @@
-//! A row as a field of what is read.
+//! Reading a row as a field.
 
 ghost use Rattle.std.specs.Prelude.{◌≡◌, ◌⊎◌, IfOk, IfErr, Ok, Err, map};
 ghost use Rattle.std.specs.Rc.{rc_slice_items};
-ghost use Rattle.wire_buf.specs.Spelling.{Alone};
+ghost use Rattle.wire_buf.specs.Encoding.{Alone};
 ghost use Rattle.rows_values.specs.Columns.{parts_of};
 ghost use Rattle.rows_times.specs.declared.fault.RowsError.TheVariants.{Memory};
 ghost use Rattle.rows_images.specs.RowImages.{image_read};
-ghost use Rattle.rows_images.specs.RowFields.{RowView, row_view, image_of_ctx, definitions_of_ctx, IsRowField, RowRefusal};
+ghost use Rattle.rows_images.specs.RowFields.{RowView, row_view, image_of_ctx, definitions_of_ctx, IsRowField, RowFails};
 
 use crate::binlog_row::BinlogRow;
 use crate::plan::ColumnPlan;
@@ -17,24 +17,24 @@ use rows_values::Bits;
 use std::alloc::Global;
 use wire_buf::{AnySize, MyDeserialize, ParseBuf};
 
-/// What a table map and a rows event say of the image of a row.
+/// What a table map and a rows event have about the image of a row.
 #[derive(Clone, Copy)]
 pub struct BinlogRowCtx<'a> {
-    /// How many columns the table has by the rows event.
+    /// The number of columns in the table, from the rows event.
     pub num_columns: u64,
     /// A bit for each of these columns: whether the image has it.
     pub columns: Bits<'a>,
-    /// Whether the image begins with a part that its cells share, as the one after a partial update does.
+    /// Whether the image begins with a part that its cells share, as the after image of a partial update does.
     pub has_shared_image: bool,
-    /// The map of the table.
+    /// The table map.
     pub table_map: &'a TableMapEvent<'a>,
 }
 
 impl BinlogRowCtx<'_> {
-    /// The reader of the image.
+    /// Returns the reader of the image.
     ///
-    /// `Metadata` where there isn't a bit for each column, else the refusals of `ColumnPlan::new` and of
-    /// [`RowImage::new`].
+    /// - `Metadata`: there isn't one bit for each column.
+    /// - The errors of `ColumnPlan::new` and of [`RowImage::new`].
     fn image(&self, alloc: Global) -> Result<RowImage, RowsError>
         ensures shape { IfOk result (λ image. image_of_ctx self.now ≡ Ok (image_read image)) }
         ensures definitions { IfOk result (λ image. definitions_of_ctx self.now ≡ Ok (map parts_of (rc_slice_items image.definitions))) }
@@ -50,11 +50,13 @@ impl BinlogRowCtx<'_> {
     }
 }
 
-/// The row of the image that the context describes, as [`RowImage::read`] reads it. A plan of the table is made
-/// for it: for many rows there is a [`RowImage`].
+/// Reads the row of the image that the context describes, as [`RowImage::read`] does. This makes a plan of the table for each
+/// row; use a [`RowImage`] for many rows.
 ///
-/// `Metadata` where there isn't a bit for each column; else the fault of the first column that has no plan, or
-/// of the optional metadata; else the refusals of [`RowImage::read`]. `Memory` where memory was refused.
+/// - `Metadata`: there isn't one bit for each column.
+/// - The error of the first column that has no plan, or of the optional metadata.
+/// - The errors of [`RowImage::read`].
+/// - `Memory`: out of memory.
 impl<'de> MyDeserialize<'de> for BinlogRow {
     const SIZE: Option<usize> = None;
 
@@ -68,9 +70,9 @@ impl<'de> MyDeserialize<'de> for BinlogRow {
 
     ghost view = { row_view };
 
-    ghost spells = { λ ctx. Alone (IsRowField ctx) };
+    ghost encodes = { λ ctx. Alone (IsRowField ctx) };
 
-    ghost refusal = { RowRefusal };
+    ghost fails_with = { RowFails };
 
     fn deserialize(
         alloc: Global,

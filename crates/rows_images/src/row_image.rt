@@ -1,4 +1,4 @@
-//! The reader of an image into rows in memory of their own.
+//! Reading images into owned rows.
 
 ghost use Rattle.std.specs.Prelude.{◌≡◌, ◌⊎◌, ℕ, IfOk, IfErr, Ok, Err, map, List, [], length};
 ghost use Rattle.std.specs.List.{AllZip};
@@ -8,7 +8,7 @@ ghost use Rattle.rows_values.specs.Columns.{parts_of};
 ghost use Rattle.rows_times.specs.declared.fault.RowsError.TheVariants.{Memory};
 ghost use Rattle.rows_cells.specs.CellViews.{cell_value, Holds, IsReadable};
 ghost use Rattle.rows_cells.specs.Images.{image_at};
-ghost use Rattle.rows_cells.specs.ImageViews.{image_shape, cells_left, cells_count};
+ghost use Rattle.rows_cells.specs.ImageViews.{image_shape, remaining_cells, cells_count};
 ghost use Rattle.rows_images.specs.PlanViews.{planned};
 ghost use Rattle.rows_images.specs.ImageShapes.{table_plan, shape_picked};
 ghost use Rattle.rows_images.specs.PickedColumns.{picked_as, definition};
@@ -23,7 +23,7 @@ use rows_values::{Bits, Column};
 use std::alloc::Global;
 use std::rc::RcSlice;
 
-/// What the rows of an image have in common: its columns, and their definitions.
+/// What the rows of an image share: its columns and their definitions.
 #[derive(Drop)]
 pub struct RowImage {
     columns: RcSlice<ImageColumn, Global>,
@@ -32,10 +32,8 @@ pub struct RowImage {
 }
 
 impl RowImage {
-    /// The image with the columns whose bits are set, by the plan of their table. `is_partial` says that JSON
-    /// documents may stand as their changes.
-    ///
-    /// The refusals of [`ImageColumns::fill`].
+    /// Creates the reader of an image with the columns whose bits are set, by the plan of their table. `is_partial` says that
+    /// JSON documents may be encoded as diffs. Returns the errors of [`ImageColumns::fill`].
     pub fn new(
         alloc: Global,
         plan: &ColumnPlan,
@@ -62,9 +60,10 @@ impl RowImage {
         })
     }
 
-    /// The row of the image at the front of the bytes, and what follows the image.
+    /// Reads the row of the image that the bytes begin with; returns it and the bytes after the image.
     ///
-    /// The refusals of [`ImageCells::of`] and of `cell_front`; `Memory` where memory is refused.
+    /// - The errors of [`ImageCells::of`] and of `read_cell`.
+    /// - `Memory`: out of memory.
     pub fn read<'a>(
         &self,
         alloc: Global,
@@ -85,7 +84,7 @@ impl RowImage {
         Ok((row, cells.rest()))
     }
 
-    /// The columns as a reader of images takes them.
+    /// Returns the layout of the image, for reading.
     fn plan(&self) -> ImagePlan<'_>
         ensures { image_shape result ≡ image_read self.now }
     {
@@ -96,14 +95,14 @@ impl RowImage {
     }
 }
 
-/// The values of the cells that are left, in memory of their own.
+/// Returns the values of the remaining cells, owned.
 fn read_values(
     alloc: Global,
     cells: &mut ImageCells<'_, '_>,
 ) -> Result<Vec<Option<BinlogValue<'static>>>, RowsError>
     ensures ok { IfOk result (λ values. ReadsValues cells.old values.items cells.new) }
     ensures count { IfOk result (λ values. length values.items ≡ cells_count cells.old) }
-    ensures err { IfErr result (λ e. e ≡ Memory ⊎ cells_left cells.old ≡ Err e) }
+    ensures err { IfErr result (λ e. e ≡ Memory ⊎ remaining_cells cells.old ≡ Err e) }
 {
     let mut values = Vec::new(alloc);
     loop {
@@ -115,7 +114,7 @@ fn read_values(
     }
 }
 
-/// The value of a cell in memory of its own.
+/// Returns the value of a cell, owned.
 fn owned_value(alloc: Global, cell: CellRef<'_>) -> Result<BinlogValue<'static>, RowsError>
     requires { IsReadable cell }
     ensures ok { IfOk result (λ v. Holds (cell_value cell.entry) v) }

@@ -1,15 +1,15 @@
-//! A walk over the columns of a table map, and over what its lists say of each.
+//! A walk over the columns of a table map and its lists of optional metadata.
 
 ghost use Rattle.std.specs.Prelude.{◌≡◌, ◌≤◌, ◌+◌, ℕ, drop, suc, if◌then◌else◌, false, Ok, IfOk, ◌<◌, length};
 ghost use Rattle.wire_consts.specs.ColumnTypes.{is_numeric, is_character, is_enum_or_set};
-ghost use Rattle.rows_meta.specs.ColumnViews.{columns_left};
-ghost use Rattle.rows_optional.specs.Served.{first_of};
-ghost use Rattle.rows_optional.specs.MetadataViews.{extracted_view, signs_left, charset_left, names_left, primary_key_left};
-ghost use Rattle.rows_images.specs.Plans.{Table, table_of, is_json, sign_or_signed, charset_or_none, is_next, after_column};
-ghost use Rattle.rows_images.specs.Walks.{StandsAt, TakesColumn, TakesName};
+ghost use Rattle.rows_meta.specs.ColumnViews.{remaining_columns};
+ghost use Rattle.rows_optional.specs.Served.{first_item};
+ghost use Rattle.rows_optional.specs.MetadataViews.{extracted_view, signs_left, charset_left, remaining_names, primary_key_left};
+ghost use Rattle.rows_images.specs.Plans.{Table, table_columns_of, is_json, sign_or_signed, charset_or_none, is_next, after_column};
+ghost use Rattle.rows_images.specs.Walks.{IsWalkAt, WalksColumn, SkipsName};
 
 use crate::column::PlannedColumn;
-use rows_cells::{CellForm, ImageColumn};
+use rows_cells::{CellFormat, ImageColumn};
 use rows_meta::IterColumns;
 use rows_optional::{
     IterCharset, IterNames, IterPrimaryKey, IterSignedness, OptionalMetaExtractor,
@@ -17,7 +17,7 @@ use rows_optional::{
 use rows_times::RowsError;
 use wire_consts::ColumnType;
 
-/// The columns that are still to come, and what the lists of the optional metadata say of these.
+/// The remaining columns, and the remaining entries of the optional metadata for them.
 #[derive(Clone, Copy)]
 pub(crate) struct ColumnWalk<'a> {
     columns: IterColumns<'a>,
@@ -26,17 +26,17 @@ pub(crate) struct ColumnWalk<'a> {
     enum_charsets: IterCharset<'a>,
     names: IterNames<'a>,
     keys: IterPrimaryKey<'a>,
-    /// How many JSON columns were given.
+    /// How many JSON columns were returned.
     json_columns: usize,
 }
 
 impl<'a> ColumnWalk<'a> {
-    /// The walk before the first column.
+    /// Creates the walk before the first column.
     pub(crate) fn new(
         columns: IterColumns<'a>,
         metadata: &OptionalMetaExtractor<'a>,
     ) -> ColumnWalk<'a>
-        ensures at { StandsAt result (table_of (columns_left columns.entry) (extracted_view metadata.now)) 0 }
+        ensures at { IsWalkAt result (table_columns_of (remaining_columns columns.entry) (extracted_view metadata.now)) 0 }
         ensures json { result.json_columns ≡ 0 }
     {
         ColumnWalk {
@@ -50,15 +50,16 @@ impl<'a> ColumnWalk<'a> {
         }
     }
 
-    /// The next column, which has this place in the table.
+    /// Returns the next column, which has this index in the table.
     ///
-    /// `Metadata` where the table has no more columns; `Cell` where the column's type isn't known; the faults of
-    /// the lists where an entry that the column looks at can't be read.
-    pub(crate) fn next_column(&mut self, place: u32) -> Result<PlannedColumn, RowsError>
-        requires { self.old.json_columns ≤ place }
-        ensures takes { (t : Table) → StandsAt self.old t place → TakesColumn t place result self.new }
-        ensures json { self.new.json_columns ≤ place + 1 }
-        ensures fewer { IfOk result (λ _. length (columns_left self.new.columns) < length (columns_left self.old.columns)) }
+    /// - `Metadata`: the table has no more columns.
+    /// - `Cell`: the column's type is unknown.
+    /// - The errors of the lists, if an entry that the column uses can't be read.
+    pub(crate) fn next_column(&mut self, column_index: u32) -> Result<PlannedColumn, RowsError>
+        requires { self.old.json_columns ≤ column_index }
+        ensures takes { (t : Table) → IsWalkAt self.old t column_index → WalksColumn t column_index result self.new }
+        ensures json { self.new.json_columns ≤ column_index + 1 }
+        ensures fewer { IfOk result (λ _. length (remaining_columns self.new.columns) < length (remaining_columns self.old.columns)) }
     {
         let Some(column) = self.columns.next_column() else {
             return Err(RowsError::Metadata);
@@ -78,14 +79,14 @@ impl<'a> ColumnWalk<'a> {
         if let Err(fault) = next_name(&mut self.names) {
             return Err(fault);
         }
-        let is_key = match next_key(place, &mut self.keys) {
+        let is_key = match next_key(column_index, &mut self.keys) {
             Ok(is_key) => is_key,
             Err(fault) => return Err(fault),
         };
         let image = ImageColumn {
-            place,
-            form: CellForm::of_column(real_type, column.metadata, is_unsigned),
-            json_index: self.json_columns as u32,
+            column: column_index,
+            format: CellFormat::of_column(real_type, column.metadata, is_unsigned),
+            json_column: self.json_columns as u32,
         };
         self.json_columns += json_documents(real_type);
         Ok(PlannedColumn {
@@ -98,7 +99,7 @@ impl<'a> ColumnWalk<'a> {
     }
 }
 
-/// How many columns of JSON documents a column of this type is: one or none.
+/// Returns how many JSON columns a column of this type counts as: one or none.
 fn json_documents(real_type: ColumnType) -> usize
     ensures { result ≡ (if is_json real_type then 1 else 0) }
 {
@@ -108,9 +109,9 @@ fn json_documents(real_type: ColumnType) -> usize
     }
 }
 
-/// Whether a column of this type is unsigned, by the next sign where it is numeric.
+/// Returns whether a column of this type is unsigned, by the next signedness bit if it is numeric.
 fn next_sign(real_type: ColumnType, signs: &mut IterSignedness<'_>) -> bool
-    ensures value { result ≡ (if is_numeric real_type then sign_or_signed (first_of (signs_left signs.old)) else false) }
+    ensures value { result ≡ (if is_numeric real_type then sign_or_signed (first_item (signs_left signs.old)) else false) }
     ensures left { signs_left signs.new ≡ (if is_numeric real_type then drop 1 (signs_left signs.old) else signs_left signs.old) }
 {
     if real_type.is_numeric_type() {
@@ -120,7 +121,7 @@ fn next_sign(real_type: ColumnType, signs: &mut IterSignedness<'_>) -> bool
     }
 }
 
-/// The character set of a column of this type, by the next one of its kind; 0 for a type that has none.
+/// Returns the character set of a column of this type, by the next one of its kind; 0 for a type that has none.
 fn next_character_set(
     real_type: ColumnType,
     charsets: &mut IterCharset<'_>,
@@ -139,7 +140,7 @@ fn next_character_set(
     }
 }
 
-/// The next character set of the columns of a kind.
+/// Returns the next character set of the columns of a kind.
 fn next_charset(charsets: &mut IterCharset<'_>) -> Result<u16, RowsError>
     ensures value { result ≡ charset_or_none (charset_left charsets.old 0) }
     ensures left { (k : ℕ) → charset_left charsets.new k ≡ charset_left charsets.old (suc k) }
@@ -150,9 +151,9 @@ fn next_charset(charsets: &mut IterCharset<'_>) -> Result<u16, RowsError>
     }
 }
 
-/// Passes the next name, or answers why it can't be read.
+/// Skips the next name, or returns why it can't be read.
 fn next_name(names: &mut IterNames<'_>) -> Result<(), RowsError>
-    ensures { TakesName (names_left names.old) result (names_left names.new) }
+    ensures { SkipsName (remaining_names names.old) result (remaining_names names.new) }
 {
     match names.next() {
         Some(Err(fault)) => Err(fault),
@@ -160,14 +161,14 @@ fn next_name(names: &mut IterNames<'_>) -> Result<(), RowsError>
     }
 }
 
-/// Whether the next index of the key is that of this column, which then uses it up.
-fn next_key(place: u32, keys: &mut IterPrimaryKey<'_>) -> Result<bool, RowsError>
-    ensures value { result ≡ is_next place (first_of (primary_key_left keys.old)) }
-    ensures left { primary_key_left keys.new ≡ after_column place (primary_key_left keys.old) }
+/// Returns whether the next index of the key is that of this column, which then consumes it.
+fn next_key(column_index: u32, keys: &mut IterPrimaryKey<'_>) -> Result<bool, RowsError>
+    ensures value { result ≡ is_next column_index (first_item (primary_key_left keys.old)) }
+    ensures left { primary_key_left keys.new ≡ after_column column_index (primary_key_left keys.old) }
 {
     match keys.peek() {
         Some(Ok(index)) => {
-            if index != u64::from(place) {
+            if index != u64::from(column_index) {
                 return Ok(false);
             }
             keys.next();

@@ -1,4 +1,4 @@
--- A `JsonDom`, level by level, and a `BTreeMap` beside the members that it stands for.
+-- A `JsonDom`, level by level, and the members that a `BTreeMap` represents.
 use Rattle.std.proofs.Common.{◌≡◌, List, [], ◌∷◌, String, Vec, BTreeMap, Global, Ordering, Less, Equal, Greater, string_bytes, string_cmp, refl, ◌∙◌, rules}
 use Rattle.std.specs.Ordering.{match_ordering}
 use Rattle.std.specs.BTreeMap.{insert_entry}

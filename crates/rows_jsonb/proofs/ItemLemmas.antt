@@ -1,22 +1,22 @@
--- Items that a walk finds are spelled so, and those that are spelled so are found.
+-- Items that a walk finds are what the bytes encode, and the other way round.
 use Rattle.std.proofs.Common.{◌≡◌, ◌≤◌, ◌<◌, ◌++◌, ◌⊎◌, ℕ, zero, suc, List, [], ◌∷◌, length, Bool, true, false, eqb, append_assoc, Option, Some, None, refl, sym, ap, subst, ◌∙◌, arith, inl, inr, Ok, Err}
 use Rattle.std.proofs.lemmas.Bool.{eqb-true}
 use Rattle.std.proofs.lemmas.Bool.Decides.{nat_tests}
 use Rattle.std.proofs.lemmas.List.{length-append, append-nil}
-use Rattle.wire_buf.specs.Spelling.{ByteForm, Begins}
+use Rattle.wire_buf.specs.Encoding.{Encoding, Begins}
 use Rattle.rows_times.specs.declared.fault.RowsError.{RowsError}
 use Rattle.rows_times.specs.Readings.{Reading}
-use Rattle.rows_jsonb.specs.Items.{AreItems, Walked, StopsAt, Finds, item_before, behind_item, found_by, walk, items_at}
+use Rattle.rows_jsonb.specs.Items.{AreItemsEncoded, Walked, WalkEndsAt, Finds, prepend_item, after_item, found_by, walk, items_at}
 
 not_zero : (n : ℕ) → 0 < n → eqb n 0 ≡ false
 not_zero n h = grind (arith, nat_tests)
 
--- nothing is left, or a byte is
+-- bytes are empty or not
 empty_or : (s : List ℕ) → ((s ≡ []) × (eqb (length s) 0 ≡ true)) ⊎ ((0 < length s) × (eqb (length s) 0 ≡ false))
 empty_or [] = inl (refl, refl)
 empty_or (b ∷ s) = inr (omega arith, not_zero (length (b ∷ s)) (omega arith))
 
--- what stands at the front of bytes that aren't empty
+-- one step of a walk over bytes that aren't empty
 pub walk_on : {A : Type 0} (item_at : List ℕ → Reading (A × List ℕ)) (n : ℕ) (s : List ℕ) (o : Reading (A × List ℕ)) → 0 < length s → length s ≤ suc n → item_at s ≡ o → walk item_at (suc n) s ≡ found_by o (λ rest. walk item_at n rest)
 unfolding walk
 walk_on item_at n s o some le e = elim (empty_or s) [
@@ -30,15 +30,15 @@ unfolding walk
 walk_done item_at zero = refl
 walk_done item_at (suc n) = refl
 
-walked-parts : {A : Type 0} (v : A) (w : Walked A) (vs : List A) (f : Option RowsError) → item_before v w ≡ record { items = vs; fault = f } → (v ∷ w.items ≡ vs) × (w.fault ≡ f)
+walked-parts : {A : Type 0} (v : A) (w : Walked A) (vs : List A) (f : Option RowsError) → prepend_item v w ≡ record { items = vs; fault = f } → (v ∷ w.items ≡ vs) × (w.fault ≡ f)
 walked-parts v w vs f h = (ap (λ x. x.items) h, ap (λ x. x.fault) h)
 
--- where what is at the front is found and takes some of the bytes, a walk finds all items, up to the first that can't be read
-module _ {A : Type 0} (spells : ByteForm A) (item_at : List ℕ → Reading (A × List ℕ))
-    (complete : (v : A) (own rest r : List ℕ) → spells v own rest → item_at (own ++ r) ≡ Ok (v, r))
-    (sound : (x : List ℕ) (v : A) (r : List ℕ) → item_at x ≡ Ok (v, r) → Begins (spells v) x r)
+-- if each item is found and takes at least one byte, a walk finds all items, up to the first that can't be read
+module _ {A : Type 0} (encodes : Encoding A) (item_at : List ℕ → Reading (A × List ℕ))
+    (complete : (v : A) (own rest r : List ℕ) → encodes v own rest → item_at (own ++ r) ≡ Ok (v, r))
+    (sound : (x : List ℕ) (v : A) (r : List ℕ) → item_at x ≡ Ok (v, r) → Begins (encodes v) x r)
     (shrinks : (x : List ℕ) (v : A) (r : List ℕ) → item_at x ≡ Ok (v, r) → length r < length x) where
-  walk-finds : (n : ℕ) (s : List ℕ) → length s ≤ n → Finds spells item_at (walk item_at n s) s
+  walk-finds : (n : ℕ) (s : List ℕ) → length s ≤ n → Finds encodes item_at (walk item_at n s) s
   walk-finds zero s le = let none : s ≡ [] = no_bytes s le in rw (none, walk_done item_at 0) (record { own = []; rest = []; parts = refl; items_are = refl; stops = refl })
     where
       no_bytes : (s : List ℕ) → length s ≤ 0 → s ≡ []
@@ -49,7 +49,7 @@ module _ {A : Type 0} (spells : ByteForm A) (item_at : List ℕ → Reading (A �
     | inr t ↦ rest_of (item_at s) refl t.0 (λ x shorter. walk-finds n x shorter)
   ]
     where
-      rest_of : (o : Reading (A × List ℕ)) → item_at s ≡ o → 0 < length s → ((x : List ℕ) → length x ≤ n → Finds spells item_at (walk item_at n x) x) → Finds spells item_at (walk item_at (suc n) s) s
+      rest_of : (o : Reading (A × List ℕ)) → item_at s ≡ o → 0 < length s → ((x : List ℕ) → length x ≤ n → Finds encodes item_at (walk item_at n x) x) → Finds encodes item_at (walk item_at (suc n) s) s
       rest_of (Err e) h some again = rw (walk_on item_at n s (Err e) some le h) (record { own = []; rest = s; parts = refl; items_are = refl; stops = (some, h) })
       rest_of (Ok x) h some again =
           let less = shrinks s x.0 x.1 h in
@@ -59,11 +59,11 @@ module _ {A : Type 0} (spells : ByteForm A) (item_at : List ℕ → Reading (A �
             own = first.bytes ++ more.own;
             rest = more.rest;
             parts = first.joined ∙ ap (λ (t : List ℕ). first.bytes ++ t) more.parts ∙ sym (append_assoc first.bytes more.own more.rest);
-            items_are = (first.bytes, more.own, refl, subst (λ (t : List ℕ). spells x.0 first.bytes t) more.parts first.is, more.items_are);
+            items_are = (first.bytes, more.own, refl, subst (λ (t : List ℕ). encodes x.0 first.bytes t) more.parts first.is, more.items_are);
             stops = more.stops;
           })
 
-  walk-found : (vs : List A) (f : Option RowsError) (own rest : List ℕ) (n : ℕ) → AreItems spells vs own rest → StopsAt item_at f rest → length (own ++ rest) ≤ n
+  walk-found : (vs : List A) (f : Option RowsError) (own rest : List ℕ) (n : ℕ) → AreItemsEncoded encodes vs own rest → WalkEndsAt item_at f rest → length (own ++ rest) ≤ n
       → walk item_at n (own ++ rest) ≡ record { items = vs; fault = f }
   walk-found [] None own rest n h stops le = rw (h, stops) (walk_done item_at n)
   walk-found [] (Some e) own rest zero h stops le = absurd (omega (arith, stops.0, le, length-append own rest))
@@ -79,41 +79,41 @@ module _ {A : Type 0} (spells : ByteForm A) (item_at : List ℕ → Reading (A �
       on zero le found less again = absurd (omega (arith, le, less))
       on (suc n) le found less again =
           walk_on item_at n (own ++ rest) (Ok (v, h.1 ++ rest)) (omega (arith, less)) le found
-          ∙ ap (item_before v) (again n (omega (arith, le, less)))
+          ∙ ap (prepend_item v) (again n (omega (arith, le, less)))
 
-  pub items-found : (s : List ℕ) → Finds spells item_at (items_at item_at s) s
+  pub items-found : (s : List ℕ) → Finds encodes item_at (items_at item_at s) s
   items-found s = walk-finds (length s) s (omega arith)
 
-  pub items-only : (found : Walked A) (s : List ℕ) → Finds spells item_at found s → items_at item_at s ≡ found
+  pub items-only : (found : Walked A) (s : List ℕ) → Finds encodes item_at found s → items_at item_at s ≡ found
   items-only found s h = rw h.parts (walk-found found.items found.fault h.own h.rest (length (h.own ++ h.rest)) h.items_are h.stops (omega arith))
 
 -- ---- a walk, one item at a time
 
--- items that were found before those of a walk
-abbrev pub behind : {A : Type 0} → List A → Walked A → Walked A
-behind front w = record { items = front ++ w.items; fault = w.fault }
+-- items that were found, before those of a walk
+abbrev pub prepend_found : {A : Type 0} → List A → Walked A → Walked A
+prepend_found split_diff w = record { items = split_diff ++ w.items; fault = w.fault }
 
-pub one_more : {A : Type 0} (item_at : List ℕ → Reading (A × List ℕ)) (front : List A) (n : ℕ) (s : List ℕ) (x : A × List ℕ) → 0 < length s → length s ≤ n → item_at s ≡ Ok x → length x.1 < length s
-    → (m : ℕ) × (length x.1 ≤ m) × (behind front (walk item_at n s) ≡ behind (front ++ x.0 ∷ []) (walk item_at m x.1))
-one_more item_at front zero s x some le e less = absurd (omega (arith, some, le))
-one_more item_at front (suc n) s x some le e less =
-    (n, omega (arith, le, less), rw (walk_on item_at n s (Ok x) some le e) (ap (λ (vs : List _). record { items = vs; fault = (walk item_at n x.1).fault }) (sym (append_assoc front (x.0 ∷ []) (walk item_at n x.1).items))))
+pub one_more : {A : Type 0} (item_at : List ℕ → Reading (A × List ℕ)) (split_diff : List A) (n : ℕ) (s : List ℕ) (x : A × List ℕ) → 0 < length s → length s ≤ n → item_at s ≡ Ok x → length x.1 < length s
+    → (m : ℕ) × (length x.1 ≤ m) × (prepend_found split_diff (walk item_at n s) ≡ prepend_found (split_diff ++ x.0 ∷ []) (walk item_at m x.1))
+one_more item_at split_diff zero s x some le e less = absurd (omega (arith, some, le))
+one_more item_at split_diff (suc n) s x some le e less =
+    (n, omega (arith, le, less), rw (walk_on item_at n s (Ok x) some le e) (ap (λ (vs : List _). record { items = vs; fault = (walk item_at n x.1).fault }) (sym (append_assoc split_diff (x.0 ∷ []) (walk item_at n x.1).items))))
 
-pub one_bad : {A : Type 0} (item_at : List ℕ → Reading (A × List ℕ)) (front : List A) (n : ℕ) (s : List ℕ) (e : RowsError) → 0 < length s → length s ≤ n → item_at s ≡ Err e
-    → behind front (walk item_at n s) ≡ record { items = front; fault = Some e }
-one_bad item_at front zero s e some le h = absurd (omega (arith, some, le))
-one_bad item_at front (suc n) s e some le h = rw (walk_on item_at n s (Err e) some le h) (ap (λ (vs : List _). record { items = vs; fault = Some e }) (append-nil front))
+pub one_bad : {A : Type 0} (item_at : List ℕ → Reading (A × List ℕ)) (split_diff : List A) (n : ℕ) (s : List ℕ) (e : RowsError) → 0 < length s → length s ≤ n → item_at s ≡ Err e
+    → prepend_found split_diff (walk item_at n s) ≡ record { items = split_diff; fault = Some e }
+one_bad item_at split_diff zero s e some le h = absurd (omega (arith, some, le))
+one_bad item_at split_diff (suc n) s e some le h = rw (walk_on item_at n s (Err e) some le h) (ap (λ (vs : List _). record { items = vs; fault = Some e }) (append-nil split_diff))
 
-pub none_left : {A : Type 0} (item_at : List ℕ → Reading (A × List ℕ)) (front : List A) (n : ℕ) (s : List ℕ) → length s ≡ 0 → behind front (walk item_at n s) ≡ record { items = front; fault = None }
-none_left item_at front n [] h = rw (walk_done item_at n) (ap (λ (vs : List _). record { items = vs; fault = None }) (append-nil front))
-none_left item_at front n (b ∷ s) h = absurd (omega (arith, h))
+pub none_left : {A : Type 0} (item_at : List ℕ → Reading (A × List ℕ)) (split_diff : List A) (n : ℕ) (s : List ℕ) → length s ≡ 0 → prepend_found split_diff (walk item_at n s) ≡ record { items = split_diff; fault = None }
+none_left item_at split_diff n [] h = rw (walk_done item_at n) (ap (λ (vs : List _). record { items = vs; fault = None }) (append-nil split_diff))
+none_left item_at split_diff n (b ∷ s) h = absurd (omega (arith, h))
 
--- the fault of a walk is that of its rest
+-- the error of a walk is that of its rest
 pub fault_more : {A : Type 0} (item_at : List ℕ → Reading (A × List ℕ)) (n : ℕ) (s : List ℕ) (x : A × List ℕ) → 0 < length s → length s ≤ n → item_at s ≡ Ok x → length x.1 < length s
     → (m : ℕ) × (length x.1 ≤ m) × ((walk item_at n s).fault ≡ (walk item_at m x.1).fault)
 fault_more item_at n s x some le e less = let m = one_more item_at [] n s x some le e less in (m.0, m.1, ap (λ w. w.fault) m.2)
 
--- what a test for emptiness says
+-- the meaning of a test for emptiness
 pub some_left : (s : List ℕ) (b : Bool) → b ≡ eqb (length s) 0 → b ≡ false → 0 < length s
 some_left [] b e f = absurd cc
 some_left (x ∷ s) b e f = omega arith
@@ -122,11 +122,11 @@ pub no_byte_left : (s : List ℕ) (b : Bool) → b ≡ eqb (length s) 0 → b �
 no_byte_left [] b e f = refl
 no_byte_left (x ∷ s) b e f = let n = eqb-true (length (x ∷ s)) 0 (sym e ∙ f) in absurd (omega (arith, n))
 
--- what follows an item follows one that was read
-pub item_behind : {A : Type 0} (o : Reading (A × List ℕ)) (r : List ℕ) → (let found : Reading (List ℕ) = Ok r in found ≡ behind_item o) → (v : A) × (o ≡ Ok (v, r))
-item_behind (Ok x) r h = let e : r ≡ x.1 = cc in (x.0, ap (λ (t : List ℕ). Ok (x.0, t)) (sym e))
-item_behind (Err e) r h = absurd cc
+-- the bytes after an item follow an item that was read
+pub item_after : {A : Type 0} (o : Reading (A × List ℕ)) (r : List ℕ) → (let found : Reading (List ℕ) = Ok r in found ≡ after_item o) → (v : A) × (o ≡ Ok (v, r))
+item_after (Ok x) r h = let e : r ≡ x.1 = cc in (x.0, ap (λ (t : List ℕ). Ok (x.0, t)) (sym e))
+item_after (Err e) r h = absurd cc
 
-pub no_item_behind : {A : Type 0} (o : Reading (A × List ℕ)) (e : RowsError) → (let refused : Reading (List ℕ) = Err e in refused ≡ behind_item o) → o ≡ Err e
-no_item_behind (Ok x) e h = absurd cc
-no_item_behind (Err f) e h = let g : e ≡ f = cc in ap (λ (t : RowsError). Err t) (sym g)
+pub no_item_after : {A : Type 0} (o : Reading (A × List ℕ)) (e : RowsError) → (let failed : Reading (List ℕ) = Err e in failed ≡ after_item o) → o ≡ Err e
+no_item_after (Ok x) e h = absurd cc
+no_item_after (Err f) e h = let g : e ≡ f = cc in ap (λ (t : RowsError). Err t) (sym g)

@@ -1,5 +1,5 @@
 pub mod KnownLemmas
-pub mod FormLemmas
+pub mod FormatLemmas
 pub mod VarLenLemmas
 pub mod Utf8Lemmas
 pub mod Building

@@ -1,4 +1,4 @@
--- Every fault of the definition is `Jsonb`.
+-- Every error of the definition is `Jsonb`.
 use Rattle.std.proofs.Common.{◌≡◌, ℤ, nat_lt, if◌then◌else◌, ℕ, zero, suc, ◌+◌, List, [], ◌∷◌, drop, slice_index, length, Bool, true, false, Option, Some, None, refl, subst, arith, inl, inr}
 use Rattle.std.proofs.lemmas.Bool.Decides.{leb_tells}
 use Rattle.std.specs.declared.result.Result.{Result}
@@ -7,15 +7,15 @@ use Rattle.rows_times.specs.declared.fault.RowsError.{RowsError}
 use Rattle.rows_times.specs.declared.fault.RowsError.TheVariants.{EndOfBody, RemainingBytes, UnknownNumber, Metadata, Cell, Jsonb, Decimal, EmptyPair, Memory, Read}
 use Rattle.rows_decimal.specs.Decimals.{DecimalParts}
 use Rattle.rows_times.specs.declared.times.mysql_time.MysqlTime.{MysqlTime}
-use Rattle.wire_ints.specs.Sevens.{sevens_front}
-use Rattle.rows_jsonb.specs.JsonbLayout.{Form, value_entry_offset}
-use Rattle.rows_jsonb.specs.JsonbTypes.{type_of, literal_of}
+use Rattle.wire_ints.specs.Sevens.{sevens_split}
+use Rattle.rows_jsonb.specs.JsonbLayout.{ContainerFormat, value_entry_offset}
+use Rattle.rows_jsonb.specs.JsonbTypes.{jsonb_type_of, literal_of}
 use Rattle.rows_times.specs.declared.fault.JsonbError.{JsonbError}
 use Rattle.rows_jsonb.specs.JsonbValues as seen
-use Rattle.rows_jsonb.specs.JsonbValues.{JsonbValue, text, container, bad, is_column_type, sized, literal, literal_at, counted, counted_at, opaque_at, container_in, container_at, value_at, of_type, document, pointed, entry_of, entry_at, elem, key_in, key}
+use Rattle.rows_jsonb.specs.JsonbValues.{JsonbValue, text, container, malformed, is_column_type, sized, literal, literal_at, counted_string, counted_at, opaque_at, container_in, container_at, json_value_at, of_type, document, pointed, entry_of, entry_at, elem, key_in, key}
 use Rattle.rows_times.specs.Readings.{Reading, ◌>>=◌}
 use Rattle.rows_jsonb.specs.JsonTrees.{Tree, Members, no_members, put}
-use Rattle.rows_jsonb.specs.DocumentTrees.{Counted, items, members, utf8, time_in, decimal_in, opaque_tree, entries, bare_tree, tree_of, within}
+use Rattle.rows_jsonb.specs.DocumentTrees.{Counted, items, member_trees, utf8, time_in, decimal_in, opaque_tree, entries, bare_tree, tree_of, within_budget}
 use Rattle.rows_jsonb.specs.JsonDiffs.{IsJsonbFault}
 use Rattle.rows_jsonb.specs.JsonParsing.{Fails, Exceeds, IsNone, Parses}
 use Rattle.rows_jsonb.specs.JsonTreeViews.{view}
@@ -54,7 +54,7 @@ literal_sound (Some JSONB_NULL_LITERAL) = ok _
 literal_sound (Some JSONB_TRUE_LITERAL) = ok _
 literal_sound (Some JSONB_FALSE_LITERAL) = ok _
 
-counted_sound : (o : Option (ℕ × List ℕ)) → IsSound (counted o)
+counted_sound : (o : Option (ℕ × List ℕ)) → IsSound (counted_string o)
 counted_sound None = fault None
 counted_sound (Some p) = search (either, ok, fault)
 
@@ -62,14 +62,14 @@ opaque_sound : (bytes : List ℕ) → IsSound (opaque_at bytes)
 opaque_sound bytes =
     let n = slice_index bytes 0 in
     let content : Reading JsonbValue = counted_at (drop 1 bytes) >>= (λ s. Ok (seen.opaque n s)) in
-    let inside : IsSound {A = JsonbValue} content = next (counted_at (drop 1 bytes)) (λ s. Ok (seen.opaque n s)) (counted_sound (sevens_front 5 (drop 1 bytes))) (λ s. ok (seen.opaque n s)) in
-    let known : Reading JsonbValue = if is_column_type n then content else Err bad in
-    either (nat_lt (length bytes) 1) (Err bad) known (fault None) (either (is_column_type n) content (Err bad) inside (fault None))
+    let inside : IsSound {A = JsonbValue} content = next (counted_at (drop 1 bytes)) (λ s. Ok (seen.opaque n s)) (counted_sound (sevens_split 5 (drop 1 bytes))) (λ s. ok (seen.opaque n s)) in
+    let known : Reading JsonbValue = if is_column_type n then content else Err malformed in
+    either (nat_lt (length bytes) 1) (Err malformed) known (fault None) (either (is_column_type n) content (Err malformed) inside (fault None))
 
-container_sound : (f : Form) (bytes : List ℕ) → IsSound (container_at f bytes)
+container_sound : (f : ContainerFormat) (bytes : List ℕ) → IsSound (container_at f bytes)
 container_sound f bytes = search (either, ok, fault)
 
-value_sound : (t : JsonbType) (bytes : List ℕ) → IsSound (value_at t bytes)
+value_sound : (t : JsonbType) (bytes : List ℕ) → IsSound (json_value_at t bytes)
 value_sound JSONB_TYPE_SMALL_OBJECT bytes = container_sound (record { is_large = false; is_array = false }) bytes
 value_sound JSONB_TYPE_LARGE_OBJECT bytes = container_sound (record { is_large = true; is_array = false }) bytes
 value_sound JSONB_TYPE_SMALL_ARRAY bytes = container_sound (record { is_large = false; is_array = true }) bytes
@@ -82,7 +82,7 @@ value_sound JSONB_TYPE_UINT32 bytes = sized_sound 4 bytes _
 value_sound JSONB_TYPE_INT64 bytes = sized_sound 8 bytes _
 value_sound JSONB_TYPE_UINT64 bytes = sized_sound 8 bytes _
 value_sound JSONB_TYPE_DOUBLE bytes = sized_sound 8 bytes _
-value_sound JSONB_TYPE_STRING bytes = next (counted_at bytes) _ (counted_sound (sevens_front 5 bytes)) (λ s. ok _)
+value_sound JSONB_TYPE_STRING bytes = next (counted_at bytes) _ (counted_sound (sevens_split 5 bytes)) (λ s. ok _)
 value_sound JSONB_TYPE_OPAQUE bytes = opaque_sound bytes
 
 typed_sound : (t : Option JsonbType) (bytes : List ℕ) → IsSound (of_type t bytes)
@@ -91,9 +91,9 @@ typed_sound (Some t) bytes = value_sound t bytes
 
 document_sound : (bytes : List ℕ) → IsSound (document bytes)
 document_sound [] = ok seen.null
-document_sound (b ∷ bytes) = typed_sound (type_of b) bytes
+document_sound (b ∷ bytes) = typed_sound (jsonb_type_of b) bytes
 
--- a fault of a document is `Jsonb`
+-- an error of a document is `Jsonb`
 pub document_fault : (bytes : List ℕ) (e : RowsError) → document bytes ≡ Err e → IsJsonbFault e
 document_fault bytes e fails = subst (λ (o : Reading JsonbValue). OnlyJsonb o) fails (document_sound bytes).only
 
@@ -101,10 +101,10 @@ entry_sound : (large : Bool) (t : Option JsonbType) (at : ℕ) (bytes : List ℕ
 entry_sound large None at bytes = fault None
 entry_sound large (Some t) at bytes = search (either, value_sound, fault)
 
-elem_sound : (f : Form) (n : ℕ) (bytes : List ℕ) (pos : ℕ) → IsSound (elem f n bytes pos)
-elem_sound f n bytes pos = entry_sound f.is_large (type_of (slice_index bytes (value_entry_offset f n pos))) (value_entry_offset f n pos) bytes
+elem_sound : (f : ContainerFormat) (n : ℕ) (bytes : List ℕ) (pos : ℕ) → IsSound (elem f n bytes pos)
+elem_sound f n bytes pos = entry_sound f.is_large (jsonb_type_of (slice_index bytes (value_entry_offset f n pos))) (value_entry_offset f n pos) bytes
 
-key_sound : (f : Form) (n : ℕ) (bytes : List ℕ) (pos : ℕ) → IsSound (key f n bytes pos)
+key_sound : (f : ContainerFormat) (n : ℕ) (bytes : List ℕ) (pos : ℕ) → IsSound (key f n bytes pos)
 key_sound f n bytes pos = search (either, ok, fault)
 
 utf8_sound : (s : List ℕ) → IsSound (utf8 s)
@@ -115,15 +115,15 @@ module _ (below : JsonbValue → Reading (Counted Tree)) (sound : (s : JsonbValu
   items_sound pos zero = ok _
   items_sound pos (suc k) = next (at pos) _ (at_sound pos) (λ s. next (below s) _ (sound s) (λ t. next (items below at (pos + 1) k) _ (items_sound (pos + 1) k) (λ m. ok _)))
 
-  members_sound : (name : ℕ → Reading (List ℕ)) → ((pos : ℕ) → IsSound (name pos)) → (pos k : ℕ) (old : Members) → IsSound (members below name at pos k old)
+  members_sound : (name : ℕ → Reading (List ℕ)) → ((pos : ℕ) → IsSound (name pos)) → (pos k : ℕ) (old : Members) → IsSound (member_trees below name at pos k old)
   members_sound name named pos zero old = ok _
   members_sound name named pos (suc k) old =
       next (name pos) _ (named pos) (λ bytes. next (at pos) _ (at_sound pos) (λ s. next (utf8 bytes) _ (utf8_sound bytes) (λ n. next (below s) _ (sound s) (λ t.
-      next (members below name at (pos + 1) k (put n t.0 old)) _ (members_sound name named (pos + 1) k (put n t.0 old)) (λ m. ok _)))))
+      next (member_trees below name at (pos + 1) k (put n t.0 old)) _ (members_sound name named (pos + 1) k (put n t.0 old)) (λ m. ok _)))))
 
-entries_sound : (below : JsonbValue → Reading (Counted Tree)) → ((s : JsonbValue) → IsSound (below s)) → (b : Bool) (f : Form) (n : ℕ) (bytes : List ℕ) → IsSound (entries below b f n bytes)
+entries_sound : (below : JsonbValue → Reading (Counted Tree)) → ((s : JsonbValue) → IsSound (below s)) → (b : Bool) (f : ContainerFormat) (n : ℕ) (bytes : List ℕ) → IsSound (entries below b f n bytes)
 entries_sound below sound true f n bytes = next (items below (elem f n bytes) 0 n) _ (items_sound below sound (elem f n bytes) (elem_sound f n bytes) 0 n) (λ t. ok _)
-entries_sound below sound false f n bytes = next (members below (key f n bytes) (elem f n bytes) 0 n no_members) _ (members_sound below sound (elem f n bytes) (elem_sound f n bytes) (key f n bytes) (key_sound f n bytes) 0 n no_members) (λ t. ok _)
+entries_sound below sound false f n bytes = next (member_trees below (key f n bytes) (elem f n bytes) 0 n no_members) _ (members_sound below sound (elem f n bytes) (elem_sound f n bytes) (key f n bytes) (key_sound f n bytes) 0 n no_members) (λ t. ok _)
 
 time_sound : (fields : ℤ → MysqlTime) (s : List ℕ) → IsSound (time_in fields s)
 time_sound fields s = search (either, ok, fault)
@@ -152,22 +152,22 @@ tree_sound (suc d) _ = ok _
 other : (e : RowsError) (found : Reading (Counted Tree)) → IsSound found → found ≡ Err e → IsJsonbFault e
 other e found sound h = (subst (λ o. IsSound {A = Counted Tree} o) h sound).only
 
-none_within : (size : ℕ) (found : Reading (Counted Tree)) → Exceeds (1 + size) found → IsNone (found >>= within size)
+none_within : (size : ℕ) (found : Reading (Counted Tree)) → Exceeds (1 + size) found → IsNone (found >>= within_budget size)
 none_within size (Ok x) h = elim (leb_tells x.1 (1 + size)) [
   | inl t ↦ absurd (omega (arith, t.1, h))
   | inr t ↦ rw t.0 tt
 ]
 none_within size (Err e) h = tt
 
-pub parse_refused : (size : ℕ) (e : RowsError) (found : Reading (Counted Tree)) → IsSound found → Fails (1 + size) e found → Parses view (Err e) (found >>= within size)
-parse_refused size EndOfBody found sound h = other EndOfBody found sound h
-parse_refused size RemainingBytes found sound h = other RemainingBytes found sound h
-parse_refused size UnknownNumber found sound h = other UnknownNumber found sound h
-parse_refused size Metadata found sound h = other Metadata found sound h
-parse_refused size Cell found sound h = other Cell found sound h
-parse_refused size (Jsonb (Some e)) found sound h = rw h refl
-parse_refused size (Jsonb None) found sound h = none_within size found h
-parse_refused size Decimal found sound h = other Decimal found sound h
-parse_refused size EmptyPair found sound h = other EmptyPair found sound h
-parse_refused size Memory found sound h = tt
-parse_refused size Read found sound h = other Read found sound h
+pub parse_failed : (size : ℕ) (e : RowsError) (found : Reading (Counted Tree)) → IsSound found → Fails (1 + size) e found → Parses view (Err e) (found >>= within_budget size)
+parse_failed size EndOfBody found sound h = other EndOfBody found sound h
+parse_failed size RemainingBytes found sound h = other RemainingBytes found sound h
+parse_failed size UnknownNumber found sound h = other UnknownNumber found sound h
+parse_failed size Metadata found sound h = other Metadata found sound h
+parse_failed size Cell found sound h = other Cell found sound h
+parse_failed size (Jsonb (Some e)) found sound h = rw h refl
+parse_failed size (Jsonb None) found sound h = none_within size found h
+parse_failed size Decimal found sound h = other Decimal found sound h
+parse_failed size EmptyPair found sound h = other EmptyPair found sound h
+parse_failed size Memory found sound h = tt
+parse_failed size Read found sound h = other Read found sound h

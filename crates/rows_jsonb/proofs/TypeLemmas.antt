@@ -1,14 +1,14 @@
--- The type and the literal that a number has, found in a table.
+-- The type and the literal of a number, found in a table.
 use Rattle.std.proofs.Common.{◌≡◌, ℕ, List, [], ◌∷◌, refl, subst, inl, inr, Some, None}
 use Rattle.std.specs.Prelude.{◌==◌, find}
 use Rattle.std.proofs.lemmas.Bool.Decides.{eqb_tells}
-use Rattle.rows_jsonb.specs.JsonbTypes.{jsonb_type_number, jsonb_types, type_of, literal_type_number, literal_types, literal_of}
+use Rattle.rows_jsonb.specs.JsonbTypes.{jsonb_type_number, jsonb_types, jsonb_type_of, literal_type_number, literal_types, literal_of}
 use Rattle.rows_jsonb.specs.declared.types.JsonbType.{JsonbType}
 use Rattle.rows_jsonb.specs.declared.types.JsonbType.TheVariants.{JSONB_TYPE_SMALL_OBJECT, JSONB_TYPE_LARGE_OBJECT, JSONB_TYPE_SMALL_ARRAY, JSONB_TYPE_LARGE_ARRAY, JSONB_TYPE_LITERAL, JSONB_TYPE_INT16, JSONB_TYPE_UINT16, JSONB_TYPE_INT32, JSONB_TYPE_UINT32, JSONB_TYPE_INT64, JSONB_TYPE_UINT64, JSONB_TYPE_DOUBLE, JSONB_TYPE_STRING, JSONB_TYPE_OPAQUE}
 use Rattle.rows_jsonb.specs.declared.types.LiteralType.{LiteralType}
 use Rattle.rows_jsonb.specs.declared.types.LiteralType.TheVariants.{JSONB_NULL_LITERAL, JSONB_TRUE_LITERAL, JSONB_FALSE_LITERAL}
 
-found : (t : JsonbType) → type_of (jsonb_type_number t) ≡ Some t
+found : (t : JsonbType) → jsonb_type_of (jsonb_type_number t) ≡ Some t
 found JSONB_TYPE_SMALL_OBJECT = refl
 found JSONB_TYPE_LARGE_OBJECT = refl
 found JSONB_TYPE_SMALL_ARRAY = refl
@@ -24,8 +24,8 @@ found JSONB_TYPE_DOUBLE = refl
 found JSONB_TYPE_STRING = refl
 found JSONB_TYPE_OPAQUE = refl
 
-pub type_found : (t : JsonbType) (n : ℕ) → jsonb_type_number t ≡ n → type_of n ≡ Some t
-type_found t n e = subst (λ (m : ℕ). type_of m ≡ Some t) e (found t)
+pub type_found : (t : JsonbType) (n : ℕ) → jsonb_type_number t ≡ n → jsonb_type_of n ≡ Some t
+type_found t n e = subst (λ (m : ℕ). jsonb_type_of m ≡ Some t) e (found t)
 
 none_in : {A : Type 0} (number : A → ℕ) (n : ℕ) (ts : List A) → ((t : A) → number t ≡ n → ⊥) → find (λ t. number t == n) ts ≡ None
 none_in number n [] h = refl
@@ -34,7 +34,7 @@ none_in number n (t ∷ ts) h = elim (eqb_tells (number t) n) [
   | inr e ↦ rw e.0 (none_in number n ts h)
 ]
 
-pub type_missing : (n : ℕ) → ((t : JsonbType) → jsonb_type_number t ≡ n → ⊥) → type_of n ≡ None
+pub type_missing : (n : ℕ) → ((t : JsonbType) → jsonb_type_number t ≡ n → ⊥) → jsonb_type_of n ≡ None
 type_missing n h = none_in jsonb_type_number n jsonb_types h
 
 literal_is : (t : LiteralType) → literal_of (literal_type_number t) ≡ Some t

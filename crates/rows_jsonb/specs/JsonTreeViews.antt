@@ -1,4 +1,4 @@
--- The tree that a `JsonDom` stands for.
+-- The JSON tree that a `JsonDom` represents.
 use Rattle.std.specs.Prelude.{List, [], ◌∷◌, map, String, string_bytes}
 use Rattle.std.specs.declared.alloc.Global.{Global}
 use Rattle.wire_consts.specs.ColumnTypes.{column_type_number}
@@ -28,17 +28,17 @@ scalar_view (part.Number n) = number_view n
 scalar_view (part.Opaque o) = tree.opaque (column_type_number o.field_type) o.value.items
 scalar_view (part.String s) = tree.string (string_bytes s)
 
-abbrev pub items_of : List Tree → Items
-items_of [] = no_items
-items_of (t ∷ ts) = item t (items_of ts)
+abbrev pub array_items : List Tree → Items
+array_items [] = no_items
+array_items (t ∷ ts) = item t (array_items ts)
 
 abbrev pub members_of : List (String Global × Tree) → Members
 members_of [] = no_members
 members_of (m ∷ ms) = member (string_bytes m.0) m.1 (members_of ms)
 
--- one level, with each value inside already seen as its tree
+-- one level, whose values are already trees
 abbrev pub container_step : JsonContainer-F Tree Tree → Tree
-container_step (JsonContainer-F.Array v) = array (items_of v.items)
+container_step (JsonContainer-F.Array v) = array (array_items v.items)
 container_step (JsonContainer-F.Object m) = object (members_of m.entries)
 
 abbrev pub dom_step : JsonDom-F Tree Tree → Tree
@@ -52,7 +52,7 @@ abbrev pub container_view : JsonContainer → Tree
 container_view = fold-JsonContainer Tree Tree container_step dom_step
 
 abbrev pub items_view : List JsonDom → Items
-items_view ds = items_of (map view ds)
+items_view ds = array_items (map view ds)
 
 abbrev pub members_view : List (String Global × JsonDom) → Members
 members_view es = members_of (map (λ e. (e.0, view e.1)) es)

@@ -1,4 +1,4 @@
--- Trees of JSON documents.
+-- JSON documents as trees.
 use Rattle.std.specs.Prelude.{ℕ, ℤ, List, Bool}
 use Rattle.rows_times.specs.declared.times.mysql_time.MysqlTime.{MysqlTime}
 use Rattle.rows_decimal.specs.Decimals.{DecimalParts}
@@ -26,12 +26,12 @@ mutual
     no_items : Items
     item : Tree → Items → Items
 
-  -- the keys ascend
+  -- members in ascending order of their keys
   pub data Members : Type 0 where
     no_members : Members
     member : List ℕ → Tree → Members → Members
 
--- the members, with t at k
+-- the members after t is set as the value of key k
 abbrev pub put : List ℕ → Tree → Members → Members
 put k t no_members = member k t no_members
 put k t (member l u ms) = match_ordering (slice_cmp nat_cmp k l) (member k t (member l u ms)) (member l t ms) (member l u (put k t ms))

@@ -1,4 +1,4 @@
--- The type bytes of a document's values, and the numbers of its literals.
+-- The type bytes of JSON values and the numbers of JSON literals in MySQL's binary JSON (MySQL's source: `json_binary.h`).
 use Rattle.std.specs.Prelude.{ℕ, ◌==◌, Bool, true, false, List, [], ◌∷◌, Option, find}
 use Rattle.rows_jsonb.specs.declared.types.JsonbType.{JsonbType}
 use Rattle.rows_jsonb.specs.declared.types.JsonbType.TheVariants.{JSONB_TYPE_SMALL_OBJECT, JSONB_TYPE_LARGE_OBJECT, JSONB_TYPE_SMALL_ARRAY, JSONB_TYPE_LARGE_ARRAY, JSONB_TYPE_LITERAL, JSONB_TYPE_INT16, JSONB_TYPE_UINT16, JSONB_TYPE_INT32, JSONB_TYPE_UINT32, JSONB_TYPE_INT64, JSONB_TYPE_UINT64, JSONB_TYPE_DOUBLE, JSONB_TYPE_STRING, JSONB_TYPE_OPAQUE}
@@ -24,9 +24,9 @@ jsonb_type_number JSONB_TYPE_OPAQUE = 15
 abbrev pub jsonb_types : List JsonbType
 jsonb_types = JSONB_TYPE_SMALL_OBJECT ∷ JSONB_TYPE_LARGE_OBJECT ∷ JSONB_TYPE_SMALL_ARRAY ∷ JSONB_TYPE_LARGE_ARRAY ∷ JSONB_TYPE_LITERAL ∷ JSONB_TYPE_INT16 ∷ JSONB_TYPE_UINT16 ∷ JSONB_TYPE_INT32 ∷ JSONB_TYPE_UINT32 ∷ JSONB_TYPE_INT64 ∷ JSONB_TYPE_UINT64 ∷ JSONB_TYPE_DOUBLE ∷ JSONB_TYPE_STRING ∷ JSONB_TYPE_OPAQUE ∷ []
 
--- the type that has the number
-abbrev pub type_of : ℕ → Option JsonbType
-type_of n = find (λ t. jsonb_type_number t == n) jsonb_types
+-- the type with this number
+abbrev pub jsonb_type_of : ℕ → Option JsonbType
+jsonb_type_of n = find (λ t. jsonb_type_number t == n) jsonb_types
 
 abbrev pub literal_type_number : LiteralType → ℕ
 literal_type_number JSONB_NULL_LITERAL = 0
@@ -36,11 +36,11 @@ literal_type_number JSONB_FALSE_LITERAL = 2
 abbrev pub literal_types : List LiteralType
 literal_types = JSONB_NULL_LITERAL ∷ JSONB_TRUE_LITERAL ∷ JSONB_FALSE_LITERAL ∷ []
 
--- the literal that has the number
+-- the literal with this number
 abbrev pub literal_of : ℕ → Option LiteralType
 literal_of n = find (λ t. literal_type_number t == n) literal_types
 
--- whether a value of the type stands in its entry: numbers of 32 bits do where offsets are large
+-- whether a value of the type is inlined in its entry: numbers of 32 bits are if offsets are large
 abbrev pub is_inlined : Bool → JsonbType → Bool
 is_inlined large JSONB_TYPE_LITERAL = true
 is_inlined large JSONB_TYPE_INT16 = true

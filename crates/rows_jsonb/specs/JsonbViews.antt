@@ -1,20 +1,20 @@
--- What the values of the code stand for.
+-- The specification's values for the crate's types.
 use Rattle.std.specs.Prelude.{◌≡◌, ◌≤◌, ℕ, List, length, drop, true, false}
 use Rattle.std.specs.declared.result.Result.{Result}
 use Rattle.std.specs.declared.result.Result.TheVariants.{Ok, Err}
 use Rattle.std.specs.Cow.{cow_slice_items}
 use Rattle.wire_consts.specs.ColumnTypes.{column_type_number}
-use Rattle.wire_forms.specs.RawTexts.{text_of}
+use Rattle.wire_forms.specs.RawTexts.{raw_string}
 use Rattle.rows_times.specs.declared.fault.RowsError.{RowsError}
-use Rattle.rows_jsonb.specs.JsonbLayout.{form}
+use Rattle.rows_jsonb.specs.JsonbLayout.{format}
 use Rattle.rows_jsonb.specs.JsonbValues as seen
 use Rattle.rows_jsonb.specs.JsonbValues.{JsonbValue}
 use Rattle.rows_times.specs.Readings.{Reading}
 use Rattle.rows_jsonb.specs.declared.value.Value.{Value}
 use Rattle.rows_jsonb.specs.declared.value.Value.TheVariants.{Null, Bool, I16, U16, I32, U32, I64, U64, F64, String, SmallArray, LargeArray, SmallObject, LargeObject, Opaque}
 
--- n bytes were there and are eaten
-pub record IsEaten (n : ℕ) (before after : List ℕ) : Type 0 where
+-- there were n bytes or more, and the first n were consumed
+pub record IsConsumed (n : ℕ) (before after : List ℕ) : Type 0 where
   pub room : n ≤ length before
   pub rest : after ≡ drop n before
 
@@ -28,9 +28,9 @@ jsonb_value (U32 n) = seen.u32 n
 jsonb_value (I64 z) = seen.i64 z
 jsonb_value (U64 n) = seen.u64 n
 jsonb_value (F64 n) = seen.double n
-jsonb_value (String s) = seen.text (text_of s.0)
-jsonb_value (SmallArray c) = seen.container (form false true) c.element_count (cow_slice_items c.bytes)
-jsonb_value (LargeArray c) = seen.container (form true true) c.element_count (cow_slice_items c.bytes)
-jsonb_value (SmallObject c) = seen.container (form false false) c.element_count (cow_slice_items c.bytes)
-jsonb_value (LargeObject c) = seen.container (form true false) c.element_count (cow_slice_items c.bytes)
-jsonb_value (Opaque o) = seen.opaque (column_type_number o.value_type) (text_of o.bytes)
+jsonb_value (String s) = seen.text (raw_string s.0)
+jsonb_value (SmallArray c) = seen.container (format false true) c.element_count (cow_slice_items c.bytes)
+jsonb_value (LargeArray c) = seen.container (format true true) c.element_count (cow_slice_items c.bytes)
+jsonb_value (SmallObject c) = seen.container (format false false) c.element_count (cow_slice_items c.bytes)
+jsonb_value (LargeObject c) = seen.container (format true false) c.element_count (cow_slice_items c.bytes)
+jsonb_value (Opaque o) = seen.opaque (column_type_number o.value_type) (raw_string o.bytes)

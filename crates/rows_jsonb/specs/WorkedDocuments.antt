@@ -1,9 +1,9 @@
--- Worked documents of arrays within arrays.
+-- Worked examples: documents of nested arrays.
 use Rattle.std.specs.Prelude.{ℕ, zero, suc, List, [], ◌∷◌, ◌++◌, ◌+◌, length}
 use Rattle.byteorder.specs.Endian.{little_bytes}
 use Rattle.rows_jsonb.specs.JsonTrees.{Tree, array, item, no_items}
 
--- A small array, from its count on, of two entries that both point to what follows the header; n such arrays within one another, the last of which points to an empty array.
+-- A small array, from its count on, with two entries that both point to the bytes after the header; n such arrays nested, the innermost pointing to an empty array.
 abbrev pub doubled : ℕ → List ℕ
 doubled zero = 0 ∷ 0 ∷ 4 ∷ 0 ∷ []
 doubled (suc n) =
@@ -14,7 +14,7 @@ abbrev pub doubled_tree : ℕ → Tree
 doubled_tree zero = array no_items
 doubled_tree (suc n) = let t = doubled_tree n in array (item t (item t no_items))
 
--- n small arrays within one another, each but the last with one entry
+-- n nested small arrays, each but the innermost with one entry
 abbrev pub nested : ℕ → List ℕ
 nested zero = 0 ∷ 0 ∷ 4 ∷ 0 ∷ []
 nested (suc n) =

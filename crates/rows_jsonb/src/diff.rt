@@ -1,17 +1,17 @@
-//! Changes of a part of a document, as partial updates of JSON columns have them.
+//! JSON diffs: the changes to a document in a partial update of a JSON column.
 
 ghost use Rattle.std.specs.Prelude.{◌≡◌, ◌⊎◌, IfOk, IfErr, Err, Some, option_map};
 ghost use Rattle.std.specs.Cow.{cow_str_bytes, IsOwnedSlice};
 ghost use Rattle.std.specs.Str.Lossy.{utf8_lossy};
 ghost use Rattle.wire_consts.specs.Numbering.{IsConstantOf};
-ghost use Rattle.wire_forms.specs.RawTexts.{text_of};
+ghost use Rattle.wire_forms.specs.RawTexts.{raw_string};
 ghost use Rattle.rows_times.specs.declared.fault.RowsError.TheVariants.{Memory};
 ghost use Rattle.rows_jsonb.specs.JsonDiffs.{json_diff_operation_number, Diff, IsDiff, operation_at, text_at, diff_value_at, diff_at};
-ghost use Rattle.rows_jsonb.specs.Items.{items_at, all_found, behind_item, fault_of};
+ghost use Rattle.rows_jsonb.specs.Items.{items_at, all_found, after_item, error_of};
 ghost use Rattle.std.specs.Prelude.{map as list_map};
 ghost use Rattle.rows_jsonb.specs.JsonDiffViews.{diff_view};
 ghost use Rattle.rows_jsonb.specs.JsonbViews.{jsonb_value};
-ghost use Rattle.rows_times.specs.Readings.{shown};
+ghost use Rattle.rows_times.specs.Readings.{map_reading};
 
 use crate::value::Value;
 use rows_times::RowsError;
@@ -22,18 +22,18 @@ use wire_buf::{AnySize, MyDeserialize, ParseBuf};
 use wire_forms::RawBytes;
 use wire_ints::LenEnc;
 
-/// What a change does.
+/// What a JSON diff does.
 #[derive(Clone, Copy, Debug, PartialEq, Eq, Hash)]
 pub enum JsonDiffOperation {
-    /// The value at the path is replaced.
+    /// Replaces the value at the path.
     REPLACE = 0,
-    /// A value is added at the path.
+    /// Inserts a value at the path.
     INSERT = 1,
-    /// The value at the path is removed.
+    /// Removes the value at the path.
     REMOVE = 2,
 }
 
-/// A number that stands for no change.
+/// A number that no operation has.
 #[derive(Clone, Copy, Debug, PartialEq, Eq, Hash, Error)]
 #[error("Unknown JsonDiff operation {0}")]
 pub struct UnknownJsonDiffOperation(pub u8);
@@ -43,7 +43,7 @@ impl TryFrom<u8> for JsonDiffOperation {
 
     ghost try_from_gives = { IsConstantOf json_diff_operation_number (λ unknown. unknown.0) };
 
-    /// The change of a number; refused from 3 on.
+    /// Converts the number of an operation; numbers from 3 on are errors.
     fn try_from(number: u8) -> Result<JsonDiffOperation, UnknownJsonDiffOperation> {
         match number {
             0 => Ok(JsonDiffOperation::REPLACE),
@@ -57,13 +57,13 @@ impl TryFrom<u8> for JsonDiffOperation {
 impl From<UnknownJsonDiffOperation> for u8 {
     ghost from_gives = { λ unknown number. number ≡ unknown.0 };
 
-    /// The number that was refused.
+    /// Returns the number that no operation has.
     fn from(unknown: UnknownJsonDiffOperation) -> u8 {
         unknown.0
     }
 }
 
-/// A change of a part of a document.
+/// A change to a part of a JSON document. MySQL's source: `Json_diff` in `json_diff.h`.
 #[derive(PartialEq, Drop)]
 pub struct JsonDiff<'a> {
     path: RawBytes<'a, LenEnc>,
@@ -72,37 +72,37 @@ pub struct JsonDiff<'a> {
 }
 
 impl<'a> JsonDiff<'a> {
-    /// The path of the part, as in `$.a[0]`, in bytes.
+    /// Returns the path of the part, as in `$.a[0]`, in bytes.
     pub fn path(&self) -> &[u8]
-        ensures { result.now ≡ text_of self.now.path }
+        ensures { result.now ≡ raw_string self.now.path }
     {
         self.path.as_bytes()
     }
 
-    /// The path as text, with replacement characters where it isn't UTF-8.
+    /// Returns the path as text, with replacement characters where it isn't UTF-8.
     pub fn path_str(&self, alloc: Global) -> Result<CowStr<'_>, AllocError>
-        ensures { IfOk result (λ t. cow_str_bytes t ≡ utf8_lossy (text_of self.now.path)) }
+        ensures { IfOk result (λ t. cow_str_bytes t ≡ utf8_lossy (raw_string self.now.path)) }
     {
         self.path.as_str(alloc)
     }
 
-    /// What the change does.
+    /// Returns what the diff does.
     pub fn operation(&self) -> JsonDiffOperation
         ensures { result ≡ self.now.operation }
     {
         self.operation
     }
 
-    /// The value that is put there; a removal has none.
+    /// Returns the new value; a removal has none.
     pub fn value(&self) -> Option<&Value<'a>>
         ensures { option_map (λ v. v.now) result ≡ self.now.value }
     {
         self.value.as_ref()
     }
 
-    /// The same change, borrowed from nothing.
+    /// Returns the same diff with bytes of its own.
     pub fn into_owned(self, alloc: Global) -> Result<JsonDiff<'static>, AllocError>
-        ensures path { IfOk result (λ d. text_of d.path ≡ text_of self.entry.path) }
+        ensures path { IfOk result (λ d. raw_string d.path ≡ raw_string self.entry.path) }
         ensures operation { IfOk result (λ d. d.operation ≡ self.entry.operation) }
         ensures value { IfOk result (λ d. option_map jsonb_value d.value ≡ option_map jsonb_value self.entry.value) }
         ensures owned { IfOk result (λ d. IsOwnedSlice d.path.0) }
@@ -128,9 +128,9 @@ impl<'a> JsonDiff<'a> {
     }
 }
 
-/// What the change at the front does.
-fn operation_front(bytes: &[u8]) -> Result<(JsonDiffOperation, &[u8]), RowsError>
-    ensures { shown (λ x. (x.0, x.1.now)) result ≡ operation_at bytes.now }
+/// Reads the operation of the diff that the bytes begin with.
+fn split_operation(bytes: &[u8]) -> Result<(JsonDiffOperation, &[u8]), RowsError>
+    ensures { map_reading (λ x. (x.0, x.1.now)) result ≡ operation_at bytes.now }
 {
     let Some((number, rest)) = bytes.split_first() else {
         return Err(RowsError::Jsonb(None));
@@ -143,9 +143,9 @@ fn operation_front(bytes: &[u8]) -> Result<(JsonDiffOperation, &[u8]), RowsError
     }
 }
 
-/// The bytes behind a length at the front.
-fn text_front(bytes: &[u8]) -> Result<(&[u8], &[u8]), RowsError>
-    ensures { shown (λ x. (x.0.now, x.1.now)) result ≡ text_at bytes.now }
+/// Reads the length-encoded string that the bytes begin with.
+fn split_text(bytes: &[u8]) -> Result<(&[u8], &[u8]), RowsError>
+    ensures { map_reading (λ x. (x.0.now, x.1.now)) result ≡ text_at bytes.now }
 {
     let mut rest = ParseBuf(bytes);
     match rest.checked_eat_lenenc_str() {
@@ -154,18 +154,17 @@ fn text_front(bytes: &[u8]) -> Result<(&[u8], &[u8]), RowsError>
     }
 }
 
-/// The value of a change: a document behind its length, of which more bytes are passed over. A removal
-/// has none.
-fn value_front(
+/// Reads the value of a diff: a length-encoded document, of which bytes after the value are ignored. A removal has no value.
+fn split_value(
     operation: JsonDiffOperation,
     bytes: &[u8],
 ) -> Result<(Option<Value<'_>>, &[u8]), RowsError>
-    ensures { shown (λ x. (option_map jsonb_value x.0, x.1.now)) result ≡ diff_value_at operation bytes.now }
+    ensures { map_reading (λ x. (option_map jsonb_value x.0, x.1.now)) result ≡ diff_value_at operation bytes.now }
 {
     match operation {
         JsonDiffOperation::REMOVE => Ok((None, bytes)),
         JsonDiffOperation::REPLACE | JsonDiffOperation::INSERT => {
-            let (content, rest) = text_front(bytes)?;
+            let (content, rest) = split_text(bytes)?;
             let value = Value::read_document(&mut ParseBuf(content))?;
             Ok((Some(value), rest))
         }
@@ -173,16 +172,17 @@ fn value_front(
 }
 
 impl<'a> JsonDiff<'a> {
-    /// The change at the front of bytes, and what follows it: its number, the path behind its length, and
-    /// unless it is a removal a document behind its length. It takes no memory. `Jsonb` where no change
-    /// stands there, with the fault of the document's pointers and sizes where it is one of those.
+    /// Returns the diff that the bytes begin with, and the bytes after it: the operation's number, the length-encoded path and,
+    /// unless the operation removes a value, a length-encoded document. It takes no memory.
+    ///
+    /// Returns `Jsonb` if the bytes don't begin with a diff; it has the document's pointer or size error if that is the cause.
     #[tactic(auto, unfolding(crate::specs::JsonDiffs::diff_at))]
-    pub fn front(bytes: &'a [u8]) -> Result<(JsonDiff<'a>, &'a [u8]), RowsError>
-        ensures { shown (λ x. (diff_view x.0, x.1.now)) result ≡ diff_at bytes.entry.now }
+    pub fn split_diff(bytes: &'a [u8]) -> Result<(JsonDiff<'a>, &'a [u8]), RowsError>
+        ensures { map_reading (λ x. (diff_view x.0, x.1.now)) result ≡ diff_at bytes.entry.now }
     {
-        let (operation, rest) = operation_front(bytes)?;
-        let (path, rest) = text_front(rest)?;
-        let (value, rest) = value_front(operation, rest)?;
+        let (operation, rest) = split_operation(bytes)?;
+        let (path, rest) = split_text(rest)?;
+        let (value, rest) = split_value(operation, rest)?;
         let diff = JsonDiff {
             path: RawBytes::new(CowSlice::Borrowed(path)),
             operation,
@@ -192,9 +192,10 @@ impl<'a> JsonDiff<'a> {
     }
 }
 
-/// The changes that bytes are, one after the other to their end, as a cell of a partial update has them.
+/// Returns the diffs that make up all of the bytes, as in a cell of a partial update.
 ///
-/// `Jsonb` where one of them can't be read, as `JsonDiff::front` says; `Memory` where memory was refused.
+/// - `Jsonb`: one of them can't be read, as in `JsonDiff::split_diff`.
+/// - `Memory`: out of memory.
 pub fn json_diffs(alloc: Global, bytes: &[u8]) -> Result<Vec<JsonDiff<'_>>, RowsError>
     ensures ok { IfOk result (λ v. items_at diff_at bytes.now ≡ all_found (list_map diff_view v.items)) }
     ensures err { IfErr result (λ e. e ≡ Memory ⊎ ((items_at diff_at bytes.now).fault ≡ Some e)) }
@@ -202,7 +203,7 @@ pub fn json_diffs(alloc: Global, bytes: &[u8]) -> Result<Vec<JsonDiff<'_>>, Rows
     let mut diffs = Vec::new(alloc);
     let mut rest = bytes;
     while !rest.is_empty() {
-        match JsonDiff::front(rest) {
+        match JsonDiff::split_diff(rest) {
             Ok((diff, after)) => {
                 diffs.push(diff)?;
                 rest = after;
@@ -213,22 +214,22 @@ pub fn json_diffs(alloc: Global, bytes: &[u8]) -> Result<Vec<JsonDiff<'_>>, Rows
     Ok(diffs)
 }
 
-/// What follows the change at the front.
-fn behind_diff(bytes: &[u8]) -> Result<&[u8], RowsError>
-    ensures { shown (λ x. x.now) result ≡ behind_item (diff_at bytes.now) }
+/// Returns the bytes after the diff that the bytes begin with.
+fn after_diff(bytes: &[u8]) -> Result<&[u8], RowsError>
+    ensures { map_reading (λ x. x.now) result ≡ after_item (diff_at bytes.now) }
 {
-    let (_, rest) = JsonDiff::front(bytes)?;
+    let (_, rest) = JsonDiff::split_diff(bytes)?;
     Ok(rest)
 }
 
-/// Whether bytes are changes one after the other to their end, as a cell of a partial update has them. It
-/// takes no memory. `Jsonb` where one of them can't be read, as `JsonDiff::front` says.
+/// Checks that the bytes are consecutive diffs up to their end, as in a cell of a partial update. It takes no memory. Returns
+/// `Jsonb` if one of them can't be read, as `JsonDiff::split_diff` does.
 pub fn check_json_diffs(bytes: &[u8]) -> Result<(), RowsError>
-    ensures { fault_of result ≡ (items_at diff_at bytes.now).fault }
+    ensures { error_of result ≡ (items_at diff_at bytes.now).fault }
 {
     let mut rest = bytes;
     while !rest.is_empty() {
-        match behind_diff(rest) {
+        match after_diff(rest) {
             Ok(after) => rest = after,
             Err(fault) => return Err(fault),
         }
@@ -249,18 +250,18 @@ impl<'de> MyDeserialize<'de> for JsonDiff<'de> {
 
     ghost view = { diff_view };
 
-    ghost spells = { λ ctx. IsDiff };
+    ghost encodes = { λ ctx. IsDiff };
 
-    ghost refusal = { λ ctx x e. diff_at x ≡ Err e };
+    ghost fails_with = { λ ctx x e. diff_at x ≡ Err e };
 
-    /// The change's number, the path behind its length, and unless it is a removal a document behind its
-    /// length. It takes no memory.
+    /// Reads the operation's number, the length-encoded path and, unless the operation removes a value, a length-encoded
+    /// document. It takes no memory.
     fn deserialize(
         _alloc: Global,
         _ctx: (),
         buf: &mut ParseBuf<'de>,
     ) -> Result<JsonDiff<'de>, RowsError> {
-        match JsonDiff::front(buf.0) {
+        match JsonDiff::split_diff(buf.0) {
             Ok((diff, rest)) => {
                 buf.0 = rest;
                 Ok(diff)

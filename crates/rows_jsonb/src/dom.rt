@@ -1,4 +1,4 @@
-//! Documents as trees: each value apart from the bytes that it was read from.
+//! JSON documents as trees that don't borrow from the bytes they were read from.
 
 ghost use Rattle.std.specs.Prelude.{◌≡◌, Some};
 
@@ -10,7 +10,7 @@ use std::collections::BTreeMap;
 use std::fmt;
 use wire_consts::ColumnType;
 
-/// A document as a tree.
+/// A JSON document as a tree.
 #[derive(PartialEq, Drop)]
 #[cycle(dom)]
 pub enum JsonDom {
@@ -26,7 +26,7 @@ pub enum JsonContainer {
     Object(BTreeMap<String, JsonDom>),
 }
 
-/// A value that holds no others.
+/// A value that isn't a container.
 #[derive(PartialEq, Drop)]
 pub enum JsonScalar {
     Boolean(bool),
@@ -48,7 +48,7 @@ pub enum JsonNumber {
     Uint(u64),
 }
 
-/// A value of a column's type, as its bytes.
+/// An opaque value: a value of a column type that JSON doesn't have, as bytes.
 #[derive(PartialEq, Drop)]
 pub struct JsonOpaque {
     pub(crate) field_type: ColumnType,
@@ -56,14 +56,14 @@ pub struct JsonOpaque {
 }
 
 impl JsonOpaque {
-    /// The column's type.
+    /// Returns the column type.
     pub fn field_type(&self) -> ColumnType
         ensures { result ≡ self.now.field_type }
     {
         self.field_type
     }
 
-    /// The bytes.
+    /// Returns the bytes.
     pub fn value(&self) -> &[u8]
         ensures { result.now ≡ self.now.value.items }
     {
@@ -76,7 +76,7 @@ impl fmt::Display for JsonOpaque {
 
     ghost output = { λ o. Some (opaque_text o) };
 
-    /// `base64:type`, the number of the column's type, `:` and the bytes in base64.
+    /// Writes `base64:type`, the number of the column type, `:` and the bytes in base64.
     fn fmt<W: fmt::Write>(&self, f: &mut fmt::Formatter<W>) -> fmt::Result {
         let number = u8::from(self.field_type);
         let bytes = Base64Display::new(&self.value, &STANDARD);

@@ -1,15 +1,15 @@
-//! The elements and keys of containers: one proof for the four forms.
+//! The elements and keys of containers, generic over the four container formats.
 
 ghost use Rattle.std.specs.Prelude.{◌≡◌, ◌<◌, option_map, true, false};
 ghost use Rattle.std.specs.Cow.{cow_slice_items};
-ghost use Rattle.wire_forms.specs.RawTexts.{text_of};
-ghost use Rattle.rows_jsonb.specs.JsonbLayout.{form as form_of, key_entry_offset};
-ghost use Rattle.rows_jsonb.specs.JsonbValues.{elem, key, member, elem_up_to, key_up_to, elem_in, key_of, count_in, is_object_in};
+ghost use Rattle.wire_forms.specs.RawTexts.{raw_string};
+ghost use Rattle.rows_jsonb.specs.JsonbLayout.{format as format_of, key_entry_offset};
+ghost use Rattle.rows_jsonb.specs.JsonbValues.{elem, key, member, elem_up_to, key_up_to, elem_in, object_key, count_in, is_object_in};
 ghost use Rattle.rows_jsonb.specs.JsonbViews.{jsonb_value};
-ghost use Rattle.rows_times.specs.Readings.{shown};
+ghost use Rattle.rows_times.specs.Readings.{map_reading};
 
 use crate::complex::ComplexValue;
-use crate::format::{ComplexType, Object, StorageFormat};
+use crate::storage_format::{ComplexType, Object, StorageFormat};
 use crate::text::ObjectKey;
 use crate::types::JsonbType;
 use crate::value::Value;
@@ -18,10 +18,10 @@ use std::borrow::CowSlice;
 use wire_buf::ParseBuf;
 
 impl<'a, T: StorageFormat, U: ComplexType> ComplexValue<'a, T, U> {
-    /// The element number `pos`, or None where there are not so many.
+    /// Returns element number `pos`, or None if there are fewer elements.
     pub fn elem_at(&self, pos: u32) -> Result<Option<Value<'_>>, RowsError>
-        ensures { shown (option_map jsonb_value) result
-            ≡ elem_up_to (form_of T.IS_LARGE U.IS_ARRAY) self.now.element_count (cow_slice_items self.now.bytes) pos }
+        ensures { map_reading (option_map jsonb_value) result
+            ≡ elem_up_to (format_of T.IS_LARGE U.IS_ARRAY) self.now.element_count (cow_slice_items self.now.bytes) pos }
     {
         if pos >= self.element_count {
             return Ok(None);
@@ -32,12 +32,12 @@ impl<'a, T: StorageFormat, U: ComplexType> ComplexValue<'a, T, U> {
         }
     }
 
-    /// The element number `pos`.
-    #[tactic(auto, using(crate::proofs::FormLemmas::entry_within, crate::proofs::FormLemmas::offset_least))]
+    /// Returns element number `pos`.
+    #[tactic(auto, using(crate::proofs::FormatLemmas::entry_within, crate::proofs::FormatLemmas::offset_least))]
     pub(crate) fn elem(&self, pos: u32) -> Result<Value<'_>, RowsError>
         requires { pos < self.now.element_count }
-        ensures { shown jsonb_value result
-            ≡ elem (form_of T.IS_LARGE U.IS_ARRAY) self.now.element_count (cow_slice_items self.now.bytes) pos }
+        ensures { map_reading jsonb_value result
+            ≡ elem (format_of T.IS_LARGE U.IS_ARRAY) self.now.element_count (cow_slice_items self.now.bytes) pos }
     {
         let at = U::value_entry_offset::<T>(self.element_count, pos);
         let Some(value_type) = JsonbType::of_byte(self.bytes[at]) else {
@@ -59,10 +59,10 @@ impl<'a, T: StorageFormat, U: ComplexType> ComplexValue<'a, T, U> {
 }
 
 impl<'a, T: StorageFormat> ComplexValue<'a, T, Object> {
-    /// The key number `pos`, or None where there are not so many.
+    /// Returns key number `pos`, or None if there are fewer keys.
     pub fn key_at(&self, pos: u32) -> Result<Option<ObjectKey<'_>>, RowsError>
-        ensures { shown (option_map (λ k. text_of k.0)) result
-            ≡ key_up_to (form_of T.IS_LARGE false) self.now.element_count (cow_slice_items self.now.bytes) pos }
+        ensures { map_reading (option_map (λ k. raw_string k.0)) result
+            ≡ key_up_to (format_of T.IS_LARGE false) self.now.element_count (cow_slice_items self.now.bytes) pos }
     {
         if pos >= self.element_count {
             return Ok(None);
@@ -73,19 +73,19 @@ impl<'a, T: StorageFormat> ComplexValue<'a, T, Object> {
         }
     }
 
-    /// Where the entry of the key number `pos` begins.
+    /// Returns the offset of the entry of key number `pos`.
     fn key_entry_offset(pos: u32) -> usize
         ensures { result ≡ key_entry_offset T.IS_LARGE pos }
     {
         2 * usize::from(T::OFFSET_SIZE) + usize::from(T::KEY_ENTRY_SIZE) * pos as usize
     }
 
-    /// The bytes of the key number `pos`.
-    #[tactic(auto, using(crate::proofs::FormLemmas::key_entry_within, crate::proofs::FormLemmas::offset_least))]
+    /// Returns the bytes of key number `pos`.
+    #[tactic(auto, using(crate::proofs::FormatLemmas::key_entry_within, crate::proofs::FormatLemmas::offset_least))]
     pub(crate) fn key(&self, pos: u32) -> Result<&[u8], RowsError>
         requires { pos < self.now.element_count }
-        ensures { shown (λ s. s.now) result
-            ≡ key (form_of T.IS_LARGE false) self.now.element_count (cow_slice_items self.now.bytes) pos }
+        ensures { map_reading (λ s. s.now) result
+            ≡ key (format_of T.IS_LARGE false) self.now.element_count (cow_slice_items self.now.bytes) pos }
     {
         let at = Self::key_entry_offset(pos);
         let mut entry = ParseBuf(&self.bytes[at..]);
@@ -101,11 +101,11 @@ impl<'a, T: StorageFormat> ComplexValue<'a, T, Object> {
 }
 
 impl<T: StorageFormat> ComplexValue<'_, T, Object> {
-    /// The member number `pos`: its key, and its value.
+    /// Returns member number `pos`: its key and its value.
     pub(crate) fn member(&self, pos: u32) -> Result<(ObjectKey<'_>, Value<'_>), RowsError>
         requires { pos < self.now.element_count }
-        ensures { shown (λ m. (text_of m.0.0, jsonb_value m.1)) result
-            ≡ member (form_of T.IS_LARGE false) self.now.element_count (cow_slice_items self.now.bytes) pos }
+        ensures { map_reading (λ m. (raw_string m.0.0, jsonb_value m.1)) result
+            ≡ member (format_of T.IS_LARGE false) self.now.element_count (cow_slice_items self.now.bytes) pos }
     {
         let bytes = match self.key(pos) {
             Ok(bytes) => bytes,
@@ -119,7 +119,7 @@ impl<T: StorageFormat> ComplexValue<'_, T, Object> {
 }
 
 impl<'a> Value<'a> {
-    /// How many elements it has; what is no container has none.
+    /// Returns the number of elements; 0 for a value that isn't a container.
     pub(crate) fn count(&self) -> u32
         ensures { result ≡ count_in (jsonb_value self.now) }
     {
@@ -132,10 +132,10 @@ impl<'a> Value<'a> {
         }
     }
 
-    /// The element number `pos`.
+    /// Returns element number `pos`.
     pub(crate) fn elem(&self, pos: u32) -> Result<Value<'_>, RowsError>
         requires { pos < count_in (jsonb_value self.now) }
-        ensures { shown jsonb_value result ≡ elem_in (jsonb_value self.now) pos }
+        ensures { map_reading jsonb_value result ≡ elem_in (jsonb_value self.now) pos }
     {
         match self {
             Value::SmallArray(container) => container.elem(pos),
@@ -146,11 +146,11 @@ impl<'a> Value<'a> {
         }
     }
 
-    /// The bytes of the key number `pos` of an object.
+    /// Returns the bytes of key number `pos` of an object.
     pub(crate) fn key(&self, pos: u32) -> Result<&[u8], RowsError>
         requires object { is_object_in (jsonb_value self.now) ≡ true }
         requires below { pos < count_in (jsonb_value self.now) }
-        ensures { shown (λ s. s.now) result ≡ key_of (jsonb_value self.now) pos }
+        ensures { map_reading (λ s. s.now) result ≡ object_key (jsonb_value self.now) pos }
     {
         match self {
             Value::SmallObject(container) => container.key(pos),

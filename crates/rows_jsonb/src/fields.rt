@@ -1,20 +1,20 @@
-//! Documents, containers and strings as fields of what is read.
+//! Reading and writing documents, containers and strings as fields.
 
 ghost use Rattle.std.specs.Prelude.{◌≡◌, List, ℕ, take, Err, None, Some};
-ghost use Rattle.wire_buf.specs.Spelling.{Alone};
+ghost use Rattle.wire_buf.specs.Encoding.{Alone};
 ghost use Rattle.rows_times.specs.declared.fault.RowsError.TheVariants.{Jsonb};
 ghost use Rattle.std.specs.Cow.{cow_slice_items};
 ghost use Rattle.wire_buf.specs.Numbers.{IsCounted};
 ghost use Rattle.wire_ints.specs.Sevens.{IsVarLen};
-ghost use Rattle.wire_forms.specs.RawTexts.{text_of};
-ghost use Rattle.wire_forms.specs.Texts.{varlen_string_spelling};
-ghost use Rattle.rows_jsonb.specs.JsonbLayout.{form as form_of};
+ghost use Rattle.wire_forms.specs.RawTexts.{raw_string};
+ghost use Rattle.wire_forms.specs.Texts.{varlen_string_encoded};
+ghost use Rattle.rows_jsonb.specs.JsonbLayout.{format as format_of};
 ghost use Rattle.rows_jsonb.specs.JsonbValues.{JsonbValue, document, container, container_at};
 ghost use Rattle.rows_jsonb.specs.JsonbFields.{IsDocument, IsContainer};
 ghost use Rattle.rows_jsonb.specs.JsonbViews.{jsonb_value};
 
 use crate::complex::ComplexValue;
-use crate::format::{ComplexType, StorageFormat};
+use crate::storage_format::{ComplexType, StorageFormat};
 use crate::text::JsonbString;
 use crate::value::Value;
 use rows_times::RowsError;
@@ -35,11 +35,11 @@ impl<'de> MyDeserialize<'de> for Value<'de> {
 
     ghost view = { jsonb_value };
 
-    ghost spells = { λ ctx. IsDocument };
+    ghost encodes = { λ ctx. IsDocument };
 
-    ghost refusal = { λ ctx x e. document x ≡ Err e };
+    ghost fails_with = { λ ctx x e. document x ≡ Err e };
 
-    /// A document: its type byte, and then the value. No bytes are null. It takes no memory.
+    /// Reads a document: its type byte, then the value. Empty bytes are JSON null. It takes no memory.
     fn deserialize(
         _alloc: Global,
         _ctx: (),
@@ -62,13 +62,13 @@ impl<'de, T: StorageFormat, U: ComplexType> MyDeserialize<'de> for ComplexValue<
 
     ghost View = { JsonbValue };
 
-    ghost view = { λ c. container (form_of T.IS_LARGE U.IS_ARRAY) c.element_count (cow_slice_items c.bytes) };
+    ghost view = { λ c. container (format_of T.IS_LARGE U.IS_ARRAY) c.element_count (cow_slice_items c.bytes) };
 
-    ghost spells = { λ ctx. IsContainer (form_of T.IS_LARGE U.IS_ARRAY) };
+    ghost encodes = { λ ctx. IsContainer (format_of T.IS_LARGE U.IS_ARRAY) };
 
-    ghost refusal = { λ ctx x e. container_at (form_of T.IS_LARGE U.IS_ARRAY) x ≡ Err e };
+    ghost fails_with = { λ ctx x e. container_at (format_of T.IS_LARGE U.IS_ARRAY) x ≡ Err e };
 
-    /// A container from its count on: as many bytes as its size says. It takes no memory.
+    /// Reads a container from its count on: as many bytes as its size field says. It takes no memory.
     fn deserialize(
         _alloc: Global,
         _ctx: (),
@@ -91,13 +91,13 @@ impl<'de> MyDeserialize<'de> for JsonbString<'de> {
 
     ghost View = { List ℕ };
 
-    ghost view = { λ s. text_of s.0 };
+    ghost view = { λ s. raw_string s.0 };
 
-    ghost spells = { λ ctx. Alone (IsCounted IsVarLen) };
+    ghost encodes = { λ ctx. Alone (IsCounted IsVarLen) };
 
-    ghost refusal = { λ ctx x e. e ≡ Jsonb None };
+    ghost fails_with = { λ ctx x e. e ≡ Jsonb None };
 
-    /// A string behind its length, which is a VarLen. It takes no memory.
+    /// Reads a string after its length, which is a VarLen. It takes no memory.
     fn deserialize(
         alloc: Global,
         _ctx: (),
@@ -115,13 +115,13 @@ impl<'de> MyDeserialize<'de> for JsonbString<'de> {
 impl MySerialize for JsonbString<'_> {
     ghost View = { List ℕ };
 
-    ghost view = { λ v. take 4294967295 (text_of v.0) };
+    ghost view = { λ v. take 4294967295 (raw_string v.0) };
 
-    ghost form = { Alone (IsCounted IsVarLen) };
+    ghost encoding = { Alone (IsCounted IsVarLen) };
 
-    ghost spelling = { λ v. Some (varlen_string_spelling v) };
+    ghost encoded = { λ v. Some (varlen_string_encoded v) };
 
-    /// The string behind its length. Of a longer one the first 4,294,967,295 bytes are written.
+    /// Appends the string's length and the string. Only the first 4,294,967,295 bytes of a longer string are written.
     fn serialize<A: Allocator>(&self, buf: &mut Vec<u8, A>) -> Result<(), WireFault> {
         self.0.serialize(buf)
     }

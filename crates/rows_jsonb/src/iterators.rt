@@ -1,22 +1,22 @@
-//! The elements of arrays, and the members and keys of objects, one after the other.
+//! Iterators over the elements of arrays, and over the members and keys of objects.
 
 ghost use Rattle.std.specs.Prelude.{◌≡◌, ◌<◌, ◌-◌, option_map, true, false};
 ghost use Rattle.std.specs.Cow.{cow_slice_items};
 ghost use Rattle.std.specs.Iterator.{at_most};
-ghost use Rattle.wire_forms.specs.RawTexts.{text_of};
-ghost use Rattle.rows_jsonb.specs.JsonbLayout.{form as form_of};
-ghost use Rattle.rows_jsonb.specs.JsonbValues.{elem, key, member, entry_before, passed};
+ghost use Rattle.wire_forms.specs.RawTexts.{raw_string};
+ghost use Rattle.rows_jsonb.specs.JsonbLayout.{format as format_of};
+ghost use Rattle.rows_jsonb.specs.JsonbValues.{elem, key, member, entry_at_index, next_index};
 ghost use Rattle.rows_jsonb.specs.JsonbViews.{jsonb_value};
-ghost use Rattle.rows_times.specs.Readings.{shown};
+ghost use Rattle.rows_times.specs.Readings.{map_reading};
 
 use crate::complex::ComplexValue;
-use crate::format::{Array, Object, StorageFormat};
+use crate::storage_format::{Array, Object, StorageFormat};
 use crate::text::ObjectKey;
 use crate::value::Value;
 use rows_times::RowsError;
 use std::borrow::CowSlice;
 
-/// The elements of an array in order. One that can't be read is an error, and the next ones follow.
+/// Iterates over the elements of an array in order. An element that can't be read is an error, and the next elements follow.
 #[derive_where(Clone, Copy, PartialEq)]
 pub struct ArrayIter<'a, T: StorageFormat> {
     cur: u32,
@@ -27,8 +27,8 @@ impl<'a, T: StorageFormat> Iterator for ArrayIter<'a, T> {
     type Item = Result<Value<'a>, RowsError>;
 
     ghost next_gives = { λ it item after.
-        (option_map (shown jsonb_value) item ≡ entry_before it.arr.now.element_count (elem (form_of T.IS_LARGE true) it.arr.now.element_count (cow_slice_items it.arr.now.bytes)) it.cur)
-        × (after.arr ≡ it.arr) × (after.cur ≡ passed it.arr.now.element_count it.cur) };
+        (option_map (map_reading jsonb_value) item ≡ entry_at_index it.arr.now.element_count (elem (format_of T.IS_LARGE true) it.arr.now.element_count (cow_slice_items it.arr.now.bytes)) it.cur)
+        × (after.arr ≡ it.arr) × (after.cur ≡ next_index it.arr.now.element_count it.cur) };
 
     ghost remaining = { λ it. at_most (it.arr.now.element_count - it.cur) };
 
@@ -43,7 +43,7 @@ impl<'a, T: StorageFormat> Iterator for ArrayIter<'a, T> {
 }
 
 impl<'a, T: StorageFormat> ComplexValue<'a, T, Array> {
-    /// The elements in order.
+    /// Iterates over the elements in order.
     pub fn iter(&'a self) -> ArrayIter<'a, T>
         ensures array { result.arr ≡ self.entry }
         ensures first { result.cur ≡ 0 }
@@ -52,7 +52,7 @@ impl<'a, T: StorageFormat> ComplexValue<'a, T, Array> {
     }
 }
 
-/// The keys of an object in order. One that can't be read is an error, and the next ones follow.
+/// Iterates over the keys of an object in order. A key that can't be read is an error, and the next keys follow.
 #[derive_where(Clone, Copy, PartialEq)]
 pub struct ObjectKeys<'a, T: StorageFormat> {
     cur: u32,
@@ -63,8 +63,8 @@ impl<'a, T: StorageFormat> Iterator for ObjectKeys<'a, T> {
     type Item = Result<ObjectKey<'a>, RowsError>;
 
     ghost next_gives = { λ it item after.
-        (option_map (shown (λ k. text_of k.0)) item ≡ entry_before it.obj.now.element_count (key (form_of T.IS_LARGE false) it.obj.now.element_count (cow_slice_items it.obj.now.bytes)) it.cur)
-        × (after.obj ≡ it.obj) × (after.cur ≡ passed it.obj.now.element_count it.cur) };
+        (option_map (map_reading (λ k. raw_string k.0)) item ≡ entry_at_index it.obj.now.element_count (key (format_of T.IS_LARGE false) it.obj.now.element_count (cow_slice_items it.obj.now.bytes)) it.cur)
+        × (after.obj ≡ it.obj) × (after.cur ≡ next_index it.obj.now.element_count it.cur) };
 
     ghost remaining = { λ it. at_most (it.obj.now.element_count - it.cur) };
 
@@ -81,8 +81,8 @@ impl<'a, T: StorageFormat> Iterator for ObjectKeys<'a, T> {
     }
 }
 
-/// The members of an object in order, each its key and its value. One that can't be read is an error,
-/// and the next ones follow.
+/// Iterates over the members of an object in order, as keys and values. A member that can't be read is an error, and the next
+/// members follow.
 #[derive_where(Clone, Copy, PartialEq)]
 pub struct ObjectIter<'a, T: StorageFormat> {
     cur: u32,
@@ -93,8 +93,8 @@ impl<'a, T: StorageFormat> Iterator for ObjectIter<'a, T> {
     type Item = Result<(ObjectKey<'a>, Value<'a>), RowsError>;
 
     ghost next_gives = { λ it item after.
-        (option_map (shown (λ m. (text_of m.0.0, jsonb_value m.1))) item ≡ entry_before it.obj.now.element_count (member (form_of T.IS_LARGE false) it.obj.now.element_count (cow_slice_items it.obj.now.bytes)) it.cur)
-        × (after.obj ≡ it.obj) × (after.cur ≡ passed it.obj.now.element_count it.cur) };
+        (option_map (map_reading (λ m. (raw_string m.0.0, jsonb_value m.1))) item ≡ entry_at_index it.obj.now.element_count (member (format_of T.IS_LARGE false) it.obj.now.element_count (cow_slice_items it.obj.now.bytes)) it.cur)
+        × (after.obj ≡ it.obj) × (after.cur ≡ next_index it.obj.now.element_count it.cur) };
 
     ghost remaining = { λ it. at_most (it.obj.now.element_count - it.cur) };
 
@@ -109,7 +109,7 @@ impl<'a, T: StorageFormat> Iterator for ObjectIter<'a, T> {
 }
 
 impl<'a, T: StorageFormat> ComplexValue<'a, T, Object> {
-    /// The keys in order.
+    /// Iterates over the keys in order.
     pub fn keys(&'a self) -> ObjectKeys<'a, T>
         ensures object { result.obj ≡ self.entry }
         ensures first { result.cur ≡ 0 }
@@ -117,7 +117,7 @@ impl<'a, T: StorageFormat> ComplexValue<'a, T, Object> {
         ObjectKeys { cur: 0, obj: self }
     }
 
-    /// The members in order.
+    /// Iterates over the members in order.
     pub fn iter(&'a self) -> ObjectIter<'a, T>
         ensures object { result.obj ≡ self.entry }
         ensures first { result.cur ≡ 0 }

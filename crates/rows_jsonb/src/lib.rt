@@ -1,8 +1,8 @@
-//! JSON documents in MySQL's binary form, as JSON columns have them: the values that stand in their
-//! bytes, read without a copy; the trees that documents are; and changes of a part of a document.
+//! JSON documents in MySQL's binary format, as stored in JSON columns: their values, read without a copy; their trees; and the
+//! diffs of partial updates.
 //!
-//! `specs/JsonbValues.antt` says what stands at a place in a document, `specs/DocumentTrees.antt` which
-//! tree a document is and within which bounds, `specs/JsonDiffs.antt` what a change is.
+//! `specs/JsonbValues.antt` defines the value at an offset in a document, `specs/DocumentTrees.antt` the tree of a document and
+//! its limits, `specs/JsonDiffs.antt` a diff.
 #![tactic(auto)]
 
 mod complex;
@@ -10,11 +10,11 @@ mod diff;
 mod dom;
 mod elements;
 mod fields;
-mod format;
 mod iterators;
 pub mod laws;
 mod parse;
 mod reading;
+mod storage_format;
 mod text;
 mod types;
 mod value;
@@ -24,8 +24,8 @@ pub use diff::{
     JsonDiff, JsonDiffOperation, UnknownJsonDiffOperation, check_json_diffs, json_diffs,
 };
 pub use dom::{JsonContainer, JsonDom, JsonNumber, JsonOpaque, JsonScalar};
-pub use format::{Array, ComplexType, Large, Object, Small, StorageFormat};
 pub use iterators::{ArrayIter, ObjectIter, ObjectKeys};
+pub use storage_format::{Array, ComplexType, Large, Object, Small, StorageFormat};
 pub use text::{JsonbString, ObjectKey, OpaqueValue};
 pub use types::{JsonbType, LiteralType, UnknownJsonbType, UnknownLiteralType};
 pub use value::Value;

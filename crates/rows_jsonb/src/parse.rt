@@ -1,13 +1,13 @@
-//! From a value in a document to its tree.
+//! Builds the tree of a value in a document.
 
 ghost use Rattle.std.specs.Prelude.{◌<◌, ◌^◌, ◌≡◌, true, string_bytes};
 ghost use Rattle.wire_consts.specs.ColumnTypes.{column_type_number};
 ghost use Rattle.rows_jsonb.specs.JsonTrees.{scalar, no_members};
-ghost use Rattle.rows_jsonb.specs.JsonbValues.{elem_in, key_of, count_in, is_object_in};
-ghost use Rattle.rows_jsonb.specs.DocumentTrees.{items, members, tree_of, tree_in, size_of, bare_tree, opaque_tree, utf8};
+ghost use Rattle.rows_jsonb.specs.JsonbValues.{elem_in, object_key, count_in, is_object_in};
+ghost use Rattle.rows_jsonb.specs.DocumentTrees.{items, member_trees, tree_of, tree_in, container_len, bare_tree, opaque_tree, utf8};
 ghost use Rattle.rows_jsonb.specs.JsonbViews.{jsonb_value};
 ghost use Rattle.rows_jsonb.specs.JsonTreeViews.{view, scalar_view, items_view, members_view};
-ghost use Rattle.rows_jsonb.specs.JsonParsing.{Gives, Meets, Parses};
+ghost use Rattle.rows_jsonb.specs.JsonParsing.{ReturnsFound, Meets, Parses};
 
 use crate::dom::{JsonContainer, JsonDom, JsonNumber, JsonOpaque, JsonScalar};
 use crate::value::Value;
@@ -19,9 +19,9 @@ use std::str;
 use wire_buf::ParseBuf;
 use wire_consts::ColumnType;
 
-/// The text of a string or a key.
+/// Returns the text of a string or a key.
 fn text(alloc: Global, bytes: &[u8]) -> Result<String, RowsError>
-    ensures { Gives string_bytes result (utf8 bytes.now) }
+    ensures { ReturnsFound string_bytes result (utf8 bytes.now) }
 {
     match str::from_utf8(bytes) {
         Ok(text) => Ok(String::from_str(alloc, text)?),
@@ -29,13 +29,13 @@ fn text(alloc: Global, bytes: &[u8]) -> Result<String, RowsError>
     }
 }
 
-/// A value of a column's type: dates and times are taken apart.
+/// Reads an opaque value; decimals, dates and times become values of their own.
 fn parse_opaque(
     alloc: Global,
     value_type: ColumnType,
     bytes: &[u8],
 ) -> Result<JsonScalar, RowsError>
-    ensures { Gives (λ s. (scalar (scalar_view s), 1)) result
+    ensures { ReturnsFound (λ s. (scalar (scalar_view s), 1)) result
         (opaque_tree (column_type_number value_type) bytes.now) }
 {
     match value_type {
@@ -71,9 +71,9 @@ fn parse_opaque(
     }
 }
 
-/// A value that is no container; a container is refused.
+/// Returns the scalar of a value; a container is an error.
 fn parse_scalar(alloc: Global, value: &Value<'_>) -> Result<JsonScalar, RowsError>
-    ensures { Gives (λ s. (scalar (scalar_view s), 1)) result (bare_tree (jsonb_value value.now)) }
+    ensures { ReturnsFound (λ s. (scalar (scalar_view s), 1)) result (bare_tree (jsonb_value value.now)) }
 {
     match value {
         Value::Null => Ok(JsonScalar::Null),
@@ -91,8 +91,8 @@ fn parse_scalar(alloc: Global, value: &Value<'_>) -> Result<JsonScalar, RowsErro
     }
 }
 
-/// The tree of a value in which `depth` containers may nest and which may count `budget` values; what
-/// it counts is taken from the budget.
+/// Builds the tree of a value with at most `depth` levels of nested containers and at most `budget` values, and subtracts its
+/// number of values from the budget.
 #[cycle(parse)]
 fn parse_in(
     alloc: Global,
@@ -122,7 +122,7 @@ fn parse_in(
     Ok(JsonDom::Scalar(leaf))
 }
 
-/// The trees of an array's elements.
+/// Builds the trees of an array's elements.
 #[cycle(parse)]
 fn parse_items(
     alloc: Global,
@@ -142,7 +142,7 @@ fn parse_items(
     Ok(found)
 }
 
-/// The trees of an object's members; the last of equal keys stays.
+/// Builds the trees of an object's members; the last of equal keys wins.
 #[cycle(parse)]
 fn parse_members(
     alloc: Global,
@@ -152,7 +152,7 @@ fn parse_members(
 ) -> Result<BTreeMap<String, JsonDom>, RowsError>
     requires { is_object_in (jsonb_value object.now) ≡ true }
     ensures { Meets (λ m. members_view m.entries) budget.old budget.new result
-        (members (tree_of depth) (key_of (jsonb_value object.now)) (elem_in (jsonb_value object.now))
+        (member_trees (tree_of depth) (object_key (jsonb_value object.now)) (elem_in (jsonb_value object.now))
         0 (count_in (jsonb_value object.now)) no_members) }
 {
     let mut found = BTreeMap::new(alloc);
@@ -166,13 +166,13 @@ fn parse_members(
     Ok(found)
 }
 
-/// How many containers may nest.
+/// How many levels of containers may be nested.
 const MAX_DEPTH: usize = 100;
 
 impl Value<'_> {
-    /// The bytes of a container.
+    /// Returns the size of a container in bytes; 0 for other values.
     fn size(&self) -> usize
-        ensures value { result ≡ size_of (jsonb_value self.now) }
+        ensures value { result ≡ container_len (jsonb_value self.now) }
         ensures small { result < 2 ^ 63 }
     {
         match self {
@@ -184,16 +184,15 @@ impl Value<'_> {
         }
     }
 
-    /// The tree of this value: at most 100 containers nest, and it counts at most one value more
-    /// than the outermost container has bytes. For 100 objects within one another the call takes less
-    /// than 300 KB of stack.
+    /// Returns the tree of this value: at most 100 levels of containers, and at most one value more than the outermost container
+    /// has bytes. For 100 nested objects the call takes less than 300 KB of stack.
     pub fn parse(self, alloc: Global) -> Result<JsonDom, RowsError>
         ensures { Parses view result (tree_in (jsonb_value self.entry)) }
     {
         self.tree(alloc)
     }
 
-    /// What [`parse`](Value::parse) answers, of a value that is kept.
+    /// Returns the same as [`parse`](Value::parse), and keeps the value.
     pub fn tree(&self, alloc: Global) -> Result<JsonDom, RowsError>
         ensures { Parses view result (tree_in (jsonb_value self.now)) }
     {

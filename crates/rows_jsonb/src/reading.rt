@@ -1,15 +1,15 @@
-//! Values are read from the front of bytes.
+//! Reads values from the start of bytes.
 
 ghost use Rattle.std.specs.Prelude.{◌≡◌, ◌+◌, Some, drop, OnOk, option_map, if◌then◌else◌};
 ghost use Rattle.std.specs.Cow.{cow_slice_items};
 ghost use Rattle.wire_consts.specs.ColumnTypes.{column_type_number};
-ghost use Rattle.rows_jsonb.specs.JsonbLayout.{form as form_of};
-ghost use Rattle.rows_jsonb.specs.JsonbValues.{container, number_at, number_size, value_at, taken_at, literal_at, counted_at, counted_taken, opaque_at, container_at, container_taken, is_column_type, document, document_taken};
-ghost use Rattle.rows_jsonb.specs.JsonbViews.{jsonb_value, IsEaten};
-ghost use Rattle.rows_times.specs.Readings.{shown};
+ghost use Rattle.rows_jsonb.specs.JsonbLayout.{format as format_of};
+ghost use Rattle.rows_jsonb.specs.JsonbValues.{container, json_number_at, number_size, json_value_at, value_size, literal_at, counted_at, counted_size, opaque_at, container_at, container_size, is_column_type, document, document_size};
+ghost use Rattle.rows_jsonb.specs.JsonbViews.{jsonb_value, IsConsumed};
+ghost use Rattle.rows_times.specs.Readings.{map_reading};
 
 use crate::complex::ComplexValue;
-use crate::format::{ComplexType, StorageFormat};
+use crate::storage_format::{ComplexType, StorageFormat};
 use crate::text::{JsonbString, OpaqueValue};
 use crate::types::{JsonbType, LiteralType};
 use crate::value::Value;
@@ -20,7 +20,7 @@ use wire_buf::ParseBuf;
 use wire_consts::ColumnType;
 use wire_ints::{IntRepr, VarLen};
 
-/// The column type of a number.
+/// Returns the column type with this number.
 fn known_type(number: u8) -> Option<ColumnType>
     ensures { option_map column_type_number result
         ≡ (if is_column_type number then Some number else None) }
@@ -31,11 +31,11 @@ fn known_type(number: u8) -> Option<ColumnType>
     }
 }
 
-/// The string behind its length.
+/// Reads the string after its length.
 fn counted<'a>(buf: &mut ParseBuf<'a>) -> Result<&'a [u8], RowsError>
-    ensures value { shown (λ s. s.now) result ≡ counted_at buf.old.0.now }
+    ensures value { map_reading (λ s. s.now) result ≡ counted_at buf.old.0.now }
     ensures rest { OnOk result
-        (IsEaten (counted_taken buf.old.0.now) buf.old.0.now buf.new.0.now) }
+        (IsConsumed (counted_size buf.old.0.now) buf.old.0.now buf.new.0.now) }
 {
     let Ok(len) = VarLen::deserialize(buf) else {
         return Err(RowsError::Jsonb(None));
@@ -48,8 +48,8 @@ fn counted<'a>(buf: &mut ParseBuf<'a>) -> Result<&'a [u8], RowsError>
 
 /// null, true or false.
 fn literal<'a>(buf: &mut ParseBuf<'_>) -> Result<Value<'a>, RowsError>
-    ensures value { shown jsonb_value result ≡ literal_at buf.old.0.now }
-    ensures rest { OnOk result (IsEaten 1 buf.old.0.now buf.new.0.now) }
+    ensures value { map_reading jsonb_value result ≡ literal_at buf.old.0.now }
+    ensures rest { OnOk result (IsConsumed 1 buf.old.0.now buf.new.0.now) }
 {
     let Some(number) = buf.checked_eat_u8() else {
         return Err(RowsError::Jsonb(None));
@@ -62,11 +62,11 @@ fn literal<'a>(buf: &mut ParseBuf<'_>) -> Result<Value<'a>, RowsError>
     }
 }
 
-/// A number of a fixed width, by its type.
+/// Reads a number of a fixed width, by its type.
 fn number<'a>(value_type: JsonbType, buf: &mut ParseBuf<'_>) -> Result<Value<'a>, RowsError>
-    ensures value { shown jsonb_value result ≡ number_at value_type buf.old.0.now }
+    ensures value { map_reading jsonb_value result ≡ json_number_at value_type buf.old.0.now }
     ensures rest { OnOk result
-        (IsEaten (number_size value_type) buf.old.0.now buf.new.0.now) }
+        (IsConsumed (number_size value_type) buf.old.0.now buf.new.0.now) }
 {
     match value_type {
         JsonbType::JSONB_TYPE_INT16 => match buf.checked_eat_i16_le() {
@@ -101,11 +101,11 @@ fn number<'a>(value_type: JsonbType, buf: &mut ParseBuf<'_>) -> Result<Value<'a>
     }
 }
 
-/// A value of a column's type: the type, and the bytes behind their length.
+/// Reads an opaque value: the column type, then the bytes after their length.
 fn opaque<'a>(buf: &mut ParseBuf<'a>) -> Result<Value<'a>, RowsError>
-    ensures value { shown jsonb_value result ≡ opaque_at buf.old.0.now }
+    ensures value { map_reading jsonb_value result ≡ opaque_at buf.old.0.now }
     ensures rest { OnOk result
-        (IsEaten (1 + counted_taken (drop 1 buf.old.0.now)) buf.old.0.now buf.new.0.now) }
+        (IsConsumed (1 + counted_size (drop 1 buf.old.0.now)) buf.old.0.now buf.new.0.now) }
 {
     let Some(number) = buf.checked_eat_u8() else {
         return Err(RowsError::Jsonb(None));
@@ -120,12 +120,12 @@ fn opaque<'a>(buf: &mut ParseBuf<'a>) -> Result<Value<'a>, RowsError>
 }
 
 impl<'a, T: StorageFormat, U: ComplexType> ComplexValue<'a, T, U> {
-    /// The container at the front of the bytes.
+    /// Reads the container that the bytes begin with.
     pub(crate) fn read(buf: &mut ParseBuf<'a>) -> Result<ComplexValue<'a, T, U>, RowsError>
-        ensures value { shown (λ c. container (form_of T.IS_LARGE U.IS_ARRAY) c.element_count (cow_slice_items c.bytes)) result
-            ≡ container_at (form_of T.IS_LARGE U.IS_ARRAY) buf.old.0.now }
+        ensures value { map_reading (λ c. container (format_of T.IS_LARGE U.IS_ARRAY) c.element_count (cow_slice_items c.bytes)) result
+            ≡ container_at (format_of T.IS_LARGE U.IS_ARRAY) buf.old.0.now }
         ensures rest { OnOk result
-            (IsEaten (container_taken T.IS_LARGE buf.old.0.now) buf.old.0.now buf.new.0.now) }
+            (IsConsumed (container_size T.IS_LARGE buf.old.0.now) buf.old.0.now buf.new.0.now) }
     {
         let bytes = buf.0;
         if bytes.len() < 2 * usize::from(T::OFFSET_SIZE) {
@@ -140,17 +140,17 @@ impl<'a, T: StorageFormat, U: ComplexType> ComplexValue<'a, T, U> {
         Ok(ComplexValue {
             element_count,
             bytes: CowSlice::Borrowed(buf.eat(size)),
-            form: PhantomData,
+            format: PhantomData,
         })
     }
 }
 
 impl<'a> Value<'a> {
-    /// The value of a document: its type byte, and then the value. No bytes are null.
+    /// Reads the value of a document: its type byte, then the value. Empty bytes are JSON null.
     pub fn read_document(buf: &mut ParseBuf<'a>) -> Result<Value<'a>, RowsError>
-        ensures value { shown jsonb_value result ≡ document buf.old.0.now }
+        ensures value { map_reading jsonb_value result ≡ document buf.old.0.now }
         ensures rest { OnOk result
-            (IsEaten (document_taken buf.old.0.now) buf.old.0.now buf.new.0.now) }
+            (IsConsumed (document_size buf.old.0.now) buf.old.0.now buf.new.0.now) }
     {
         let Some(first) = buf.checked_eat_u8() else {
             return Ok(Value::Null);
@@ -161,14 +161,14 @@ impl<'a> Value<'a> {
         }
     }
 
-    /// The value of the type at the front of the bytes.
+    /// Reads a value of this type from the start of the bytes.
     pub(crate) fn read(
         value_type: JsonbType,
         buf: &mut ParseBuf<'a>,
     ) -> Result<Value<'a>, RowsError>
-        ensures value { shown jsonb_value result ≡ value_at value_type buf.old.0.now }
+        ensures value { map_reading jsonb_value result ≡ json_value_at value_type buf.old.0.now }
         ensures rest { OnOk result
-            (IsEaten (taken_at value_type buf.old.0.now) buf.old.0.now buf.new.0.now) }
+            (IsConsumed (value_size value_type buf.old.0.now) buf.old.0.now buf.new.0.now) }
     {
         match value_type {
             JsonbType::JSONB_TYPE_SMALL_OBJECT => match ComplexValue::read(buf) {

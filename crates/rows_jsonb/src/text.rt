@@ -1,9 +1,9 @@
-//! Strings, keys and opaque values, as they lie in a document.
+//! Strings, keys and opaque values, as encoded in a document.
 
 ghost use Rattle.std.specs.Prelude.{◌≡◌, IfOk};
 ghost use Rattle.std.specs.Cow.{cow_slice_items, cow_str_bytes, IsOwnedSlice};
 ghost use Rattle.std.specs.Str.Lossy.{utf8_lossy};
-ghost use Rattle.wire_forms.specs.RawTexts.{text_of};
+ghost use Rattle.wire_forms.specs.RawTexts.{raw_string};
 
 use std::alloc::{AllocError, Global};
 use std::borrow::{CowSlice, CowStr};
@@ -16,36 +16,36 @@ use wire_ints::VarLen;
 pub struct JsonbString<'a>(pub(crate) RawBytes<'a, VarLen>);
 
 impl<'a> JsonbString<'a> {
-    /// A string of these bytes.
+    /// Creates a string of these bytes.
     pub fn new(string: CowSlice<'a, u8>) -> JsonbString<'a>
         ensures { result.0.0 ≡ string.entry }
     {
         JsonbString(RawBytes::new(string))
     }
 
-    /// The bytes.
+    /// Returns the bytes.
     pub fn str_raw(&self) -> &[u8]
-        ensures { result.now ≡ text_of self.now.0 }
+        ensures { result.now ≡ raw_string self.now.0 }
     {
         self.0.as_bytes()
     }
 
-    /// The string as text, with replacement characters where it isn't UTF-8.
+    /// Returns the string as text, with replacement characters where it isn't UTF-8.
     pub fn str(&self, alloc: Global) -> Result<CowStr<'_>, AllocError>
-        ensures { IfOk result (λ t. cow_str_bytes t ≡ utf8_lossy (text_of self.now.0)) }
+        ensures { IfOk result (λ t. cow_str_bytes t ≡ utf8_lossy (raw_string self.now.0)) }
     {
         self.0.as_str(alloc)
     }
 
-    /// The same string, borrowed from nothing.
+    /// Returns the same string with bytes of its own.
     pub fn into_owned(self, alloc: Global) -> Result<JsonbString<'static>, AllocError>
-        ensures text { IfOk result (λ t. text_of t.0 ≡ text_of self.entry.0) }
+        ensures text { IfOk result (λ t. raw_string t.0 ≡ raw_string self.entry.0) }
         ensures owned { IfOk result (λ t. IsOwnedSlice t.0.0) }
     {
         Ok(JsonbString(self.0.into_owned(alloc)?))
     }
 
-    /// The bytes, borrowed or owned as they are.
+    /// Returns the bytes, borrowed or owned as they are.
     pub fn into_raw(self) -> CowSlice<'a, u8>
         ensures { result ≡ self.entry.0.0 }
     {
@@ -58,29 +58,29 @@ impl<'a> JsonbString<'a> {
 pub struct ObjectKey<'a>(pub(crate) RawBytes<'a, BareU16Bytes>);
 
 impl<'a> ObjectKey<'a> {
-    /// A key of these bytes.
+    /// Creates a key of these bytes.
     pub fn new(key: CowSlice<'a, u8>) -> ObjectKey<'a>
         ensures { result.0.0 ≡ key.entry }
     {
         ObjectKey(RawBytes::new(key))
     }
 
-    /// The bytes.
+    /// Returns the bytes.
     pub fn value_raw(&self) -> &[u8]
-        ensures { result.now ≡ text_of self.now.0 }
+        ensures { result.now ≡ raw_string self.now.0 }
     {
         self.0.as_bytes()
     }
 
-    /// The key as text, with replacement characters where it isn't UTF-8.
+    /// Returns the key as text, with replacement characters where it isn't UTF-8.
     pub fn value(&self, alloc: Global) -> Result<CowStr<'_>, AllocError>
-        ensures { IfOk result (λ t. cow_str_bytes t ≡ utf8_lossy (text_of self.now.0)) }
+        ensures { IfOk result (λ t. cow_str_bytes t ≡ utf8_lossy (raw_string self.now.0)) }
     {
         self.0.as_str(alloc)
     }
 }
 
-/// A value of a column's type that JSON has not, as its bytes.
+/// An opaque value: a value of a column type that JSON doesn't have, as bytes.
 #[derive(PartialEq, Drop)]
 pub struct OpaqueValue<'a> {
     pub(crate) value_type: ColumnType,
@@ -88,7 +88,7 @@ pub struct OpaqueValue<'a> {
 }
 
 impl<'a> OpaqueValue<'a> {
-    /// A value of this type with these bytes.
+    /// Creates a value of this type with these bytes.
     pub fn new(value_type: ColumnType, bytes: CowSlice<'a, u8>) -> OpaqueValue<'a>
         ensures value_type { result.value_type ≡ value_type }
         ensures bytes { result.bytes.0 ≡ bytes.entry }
@@ -99,31 +99,31 @@ impl<'a> OpaqueValue<'a> {
         }
     }
 
-    /// The column's type.
+    /// Returns the column type.
     pub fn value_type(&self) -> ColumnType
         ensures { result ≡ self.now.value_type }
     {
         self.value_type
     }
 
-    /// The bytes.
+    /// Returns the bytes.
     pub fn data_raw(&self) -> &[u8]
-        ensures { result.now ≡ text_of self.now.bytes }
+        ensures { result.now ≡ raw_string self.now.bytes }
     {
         self.bytes.as_bytes()
     }
 
-    /// The bytes as text, with replacement characters where they aren't UTF-8.
+    /// Returns the bytes as text, with replacement characters where they aren't UTF-8.
     pub fn data(&self, alloc: Global) -> Result<CowStr<'_>, AllocError>
-        ensures { IfOk result (λ t. cow_str_bytes t ≡ utf8_lossy (text_of self.now.bytes)) }
+        ensures { IfOk result (λ t. cow_str_bytes t ≡ utf8_lossy (raw_string self.now.bytes)) }
     {
         self.bytes.as_str(alloc)
     }
 
-    /// The same value, borrowed from nothing.
+    /// Returns the same value with bytes of its own.
     pub fn into_owned(self, alloc: Global) -> Result<OpaqueValue<'static>, AllocError>
         ensures value_type { IfOk result (λ o. o.value_type ≡ self.entry.value_type) }
-        ensures bytes { IfOk result (λ o. text_of o.bytes ≡ text_of self.entry.bytes) }
+        ensures bytes { IfOk result (λ o. raw_string o.bytes ≡ raw_string self.entry.bytes) }
         ensures owned { IfOk result (λ o. IsOwnedSlice o.bytes.0) }
     {
         let OpaqueValue { value_type, bytes } = self;
@@ -133,7 +133,7 @@ impl<'a> OpaqueValue<'a> {
         })
     }
 
-    /// The bytes, borrowed or owned as they are.
+    /// Returns the bytes, borrowed or owned as they are.
     pub fn into_data(self) -> CowSlice<'a, u8>
         ensures { result ≡ self.entry.bytes.0 }
     {

@@ -1,13 +1,13 @@
-//! The types of the values of a document, and its literals.
+//! The types of JSON values, and the JSON literals. MySQL's source: `json_binary.h`.
 
 ghost use Rattle.std.specs.Prelude.{◌≡◌};
 ghost use Rattle.wire_consts.specs.Numbering.{IsConstantOf};
-ghost use Rattle.rows_jsonb.specs.JsonbTypes.{jsonb_type_number, literal_type_number, literal_of, type_of, is_inlined};
+ghost use Rattle.rows_jsonb.specs.JsonbTypes.{jsonb_type_number, literal_type_number, literal_of, jsonb_type_of, is_inlined};
 
-use crate::format::StorageFormat;
+use crate::storage_format::StorageFormat;
 use thiserror::Error;
 
-/// What stands at a place in a document, by its type byte.
+/// The type byte of a value in a document.
 #[derive(Clone, Copy, Debug, PartialEq, Eq, Hash)]
 pub enum JsonbType {
     /// An object with offsets of two bytes.
@@ -34,9 +34,9 @@ pub enum JsonbType {
     JSONB_TYPE_UINT64 = 10,
     /// A double of eight bytes.
     JSONB_TYPE_DOUBLE = 11,
-    /// A string behind its length.
+    /// A string after its length.
     JSONB_TYPE_STRING = 12,
-    /// A value of a column's type: the type, a length, the bytes.
+    /// An opaque value: a column type, a length, the bytes.
     JSONB_TYPE_OPAQUE = 15,
 }
 
@@ -50,7 +50,7 @@ impl TryFrom<u8> for JsonbType {
 
     ghost try_from_gives = { IsConstantOf jsonb_type_number (λ unknown. unknown.0) };
 
-    /// The type of a type byte; refused at 13, 14 and from 16 on.
+    /// Converts a type byte; 13, 14 and numbers from 16 on are errors.
     fn try_from(number: u8) -> Result<JsonbType, UnknownJsonbType> {
         match number {
             0 => Ok(JsonbType::JSONB_TYPE_SMALL_OBJECT),
@@ -75,16 +75,16 @@ impl TryFrom<u8> for JsonbType {
 impl From<UnknownJsonbType> for u8 {
     ghost from_gives = { λ unknown number. number ≡ unknown.0 };
 
-    /// The number that was refused.
+    /// Returns the number that no type has.
     fn from(unknown: UnknownJsonbType) -> u8 {
         unknown.0
     }
 }
 
 impl JsonbType {
-    /// The type of a type byte, if one has it.
+    /// Returns the type of a type byte, if one has it.
     pub(crate) fn of_byte(byte: u8) -> Option<JsonbType>
-        ensures { result ≡ type_of byte }
+        ensures { result ≡ jsonb_type_of byte }
     {
         match JsonbType::try_from(byte) {
             Ok(found) => Some(found),
@@ -92,7 +92,7 @@ impl JsonbType {
         }
     }
 
-    /// Whether a value of the type stands in its entry: numbers of 32 bits do where offsets are large.
+    /// Returns whether a value of the type is inlined in its entry: numbers of 32 bits are if offsets are large.
     pub(crate) fn is_inlined<T: StorageFormat>(self) -> bool
         ensures { result ≡ is_inlined T.IS_LARGE self }
     {
@@ -117,7 +117,7 @@ pub enum LiteralType {
     JSONB_FALSE_LITERAL = 2,
 }
 
-/// A number that is no literal.
+/// A number that no literal has.
 #[derive(Clone, Copy, Debug, PartialEq, Eq, Hash, Error)]
 #[error("Unknown JSONB literal type {0}")]
 pub struct UnknownLiteralType(pub u8);
@@ -127,7 +127,7 @@ impl TryFrom<u8> for LiteralType {
 
     ghost try_from_gives = { IsConstantOf literal_type_number (λ unknown. unknown.0) };
 
-    /// The literal of a number; refused from 3 on.
+    /// Converts the number of a literal; numbers from 3 on are errors.
     fn try_from(number: u8) -> Result<LiteralType, UnknownLiteralType> {
         match number {
             0 => Ok(LiteralType::JSONB_NULL_LITERAL),
@@ -139,7 +139,7 @@ impl TryFrom<u8> for LiteralType {
 }
 
 impl LiteralType {
-    /// The literal of a number, if one has it.
+    /// Returns the literal of a number, if one has it.
     pub(crate) fn of_byte(byte: u8) -> Option<LiteralType>
         ensures { result ≡ literal_of byte }
     {
@@ -153,7 +153,7 @@ impl LiteralType {
 impl From<UnknownLiteralType> for u8 {
     ghost from_gives = { λ unknown number. number ≡ unknown.0 };
 
-    /// The number that was refused.
+    /// Returns the number that no literal has.
     fn from(unknown: UnknownLiteralType) -> u8 {
         unknown.0
     }

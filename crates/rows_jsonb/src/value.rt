@@ -1,16 +1,16 @@
-//! Values, as they lie in a document.
+//! JSON values, as encoded in a document.
 
 ghost use Rattle.std.specs.Prelude.{◌≡◌, IfOk, option_map};
 ghost use Rattle.wire_consts.specs.ColumnTypes.{column_type_number};
 ghost use Rattle.rows_jsonb.specs.JsonbValues.{is_array_in, is_object_in, is_int_in, is_uint_in, is_double_in, element_count_in, field_type_in};
 
 use crate::complex::ComplexValue;
-use crate::format::{Array, Large, Object, Small};
+use crate::storage_format::{Array, Large, Object, Small};
 use crate::text::{JsonbString, OpaqueValue};
 use std::alloc::{AllocError, Global};
 use wire_consts::ColumnType;
 
-/// What stands at a place in a document. Containers aren't looked into.
+/// A value in a document. The elements of containers aren't read.
 #[derive(PartialEq, Drop)]
 pub enum Value<'a> {
     Null,
@@ -34,7 +34,7 @@ pub enum Value<'a> {
 impl<'a> Value<'a> {
     ghost use Rattle.rows_jsonb.specs.JsonbViews.{jsonb_value};
 
-    /// The same value, borrowed from nothing.
+    /// Returns the same value with bytes of its own.
     pub fn into_owned(self, alloc: Global) -> Result<Value<'static>, AllocError>
         ensures { IfOk result (λ v. jsonb_value v ≡ jsonb_value self.entry) }
     {
@@ -57,42 +57,42 @@ impl<'a> Value<'a> {
         }
     }
 
-    /// Whether this is an array.
+    /// Returns whether this is an array.
     pub fn is_array(&self) -> bool
         ensures { result ≡ is_array_in (jsonb_value self.now) }
     {
         matches!(self, Value::SmallArray(_) | Value::LargeArray(_))
     }
 
-    /// Whether this is an object.
+    /// Returns whether this is an object.
     pub fn is_object(&self) -> bool
         ensures { result ≡ is_object_in (jsonb_value self.now) }
     {
         matches!(self, Value::SmallObject(_) | Value::LargeObject(_))
     }
 
-    /// Whether this is a signed number.
+    /// Returns whether this is a signed number.
     pub fn is_int(&self) -> bool
         ensures { result ≡ is_int_in (jsonb_value self.now) }
     {
         matches!(self, Value::I16(_) | Value::I32(_) | Value::I64(_))
     }
 
-    /// Whether this is an unsigned number.
+    /// Returns whether this is an unsigned number.
     pub fn is_uint(&self) -> bool
         ensures { result ≡ is_uint_in (jsonb_value self.now) }
     {
         matches!(self, Value::U16(_) | Value::U32(_) | Value::U64(_))
     }
 
-    /// Whether this is a double.
+    /// Returns whether this is a double.
     pub fn is_double(&self) -> bool
         ensures { result ≡ is_double_in (jsonb_value self.now) }
     {
         matches!(self, Value::F64(_))
     }
 
-    /// How many elements an array or an object has; None for other values.
+    /// Returns the number of elements of an array or an object; None for other values.
     pub fn element_count(&self) -> Option<u32>
         ensures { result ≡ element_count_in (jsonb_value self.now) }
     {
@@ -105,7 +105,7 @@ impl<'a> Value<'a> {
         }
     }
 
-    /// The column's type of an opaque value; None for other values.
+    /// Returns the column type of an opaque value; None for other values.
     pub fn field_type(&self) -> Option<ColumnType>
         ensures { option_map column_type_number result ≡ field_type_in (jsonb_value self.now) }
     {

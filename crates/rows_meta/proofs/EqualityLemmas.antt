@@ -5,13 +5,13 @@ use Rattle.std.specs.Option.{option_eq}
 use Rattle.std.specs.Bool.{Decides}
 use Rattle.std.proofs.lemmas.Bool.Decides.{Decides-like}
 
--- values that may be absent are equal where their images are, if `==` of values decides whether these are
+-- optional values are equal exactly if their images are, if `==` of values decides whether these are
 pub maybe_decides : {A B : Type 0} (E : A → A → Bool) (f : A → B) → ((x y : A) → Decides (E x y) (f x ≡ f y)) → (o p : Option A) → Decides (option_eq E o p) (option_map f o ≡ option_map f p)
 maybe_decides E f each None None = (λ e. refl, λ e. refl)
 maybe_decides E f each None (Some y) = (λ e. absurd (true≢false (sym e)), λ e. cc)
 maybe_decides E f each (Some x) None = (λ e. absurd (true≢false (sym e)), λ e. cc)
 maybe_decides E f each (Some x) (Some y) = Decides-like _ (λ e. ap (λ v. Some v) e) (λ e. cc) (each x y)
 
--- the units behind the field of a struct with one field are equal
+-- the units after the field of a struct with one field are equal
 pub true_decides : Decides true (Unit {0})
 true_decides = (λ e. tt, λ e. refl)

@@ -1,4 +1,4 @@
--- The type that has a number.
+-- The type with a given number.
 use Rattle.std.proofs.Common.{◌≡◌, ℕ, List, [], ◌∷◌, Some, None, refl, subst, inl, inr}
 use Rattle.std.specs.Prelude.{◌==◌, find}
 use Rattle.std.proofs.lemmas.Bool.Decides.{eqb_tells}

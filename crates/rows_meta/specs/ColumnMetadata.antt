@@ -1,4 +1,4 @@
--- The columns of a table map: the number of each one's type, and the metadata that belongs to it.
+-- The columns of a table map (MySQL Internals: Table_map_event): the number of each column's type, and its metadata.
 use Rattle.std.specs.Prelude.{ℕ, ◌+◌, List, [], ◌∷◌, length, take, drop, find, Option, Some, None, nat_le, ◌==◌, if◌then◌else◌}
 use Rattle.std.specs.Option.{option_map}
 use Rattle.wire_consts.specs.ColumnTypes.{column_type_number}
@@ -7,11 +7,11 @@ use Rattle.wire_consts.specs.declared.column_type.ColumnType.TheVariants as colu
 use Rattle.wire_consts.specs.AllColumnTypes.{column_types}
 use Rattle.rows_meta.specs.ColumnTypes.{metadata_size}
 
--- the type that has a number, if there is one
+-- the type with this number, if there is one
 unfoldable pub column_type : ℕ → Option ColumnType
 column_type n = find (λ t. column_type_number t == n) column_types
 
--- how many bytes the type of an array's element and its metadata take, of which a VARCHAR has three; None for an array of arrays
+-- the size of an array element's type and metadata, where a VARCHAR has three bytes of metadata; None for an array of arrays
 abbrev pub plain_size : ColumnType → Option ℕ
 plain_size column.MYSQL_TYPE_TYPED_ARRAY = None
 plain_size column.MYSQL_TYPE_VARCHAR = Some 4
@@ -25,25 +25,25 @@ abbrev pub element_size : Option ColumnType → Option ℕ → Option ℕ
 element_size None inner = None
 element_size (Some t) inner = size_or (plain_size t) inner
 
--- How many bytes the metadata of a TYPED_ARRAY takes: its element's type in one byte, and the element's metadata. None where the element's type is missing or unknown. The element may be an array itself.
+-- The size of a TYPED_ARRAY's metadata: its element's type in one byte, and the element's metadata. None if the element's type is missing or unknown. The element may be an array itself.
 unfoldable pub array_size : List ℕ → Option ℕ
 array_size [] = None
 array_size (n ∷ bytes) = element_size (column_type n) (array_size bytes)
 
--- how many bytes of metadata a column of this type has, by what stands there
+-- the size of a column's metadata, by its type and by the bytes of the metadata
 abbrev pub size_by_type : Option ColumnType → List ℕ → Option ℕ
 size_by_type None bytes = None
 size_by_type (Some column.MYSQL_TYPE_TYPED_ARRAY) bytes = array_size bytes
 size_by_type (Some t) bytes = Some (metadata_size t)
 
--- a column's metadata, and what follows it: nothing where its length can't be found or fewer bytes are left
-abbrev pub cut : Option ℕ → List ℕ → Option (List ℕ × List ℕ)
-cut None bytes = None
-cut (Some n) bytes = if nat_le n (length bytes) then Some (take n bytes, drop n bytes) else None
+-- a column's metadata and the bytes after it; None if its size is unknown or fewer bytes remain
+abbrev pub split_optional : Option ℕ → List ℕ → Option (List ℕ × List ℕ)
+split_optional None bytes = None
+split_optional (Some n) bytes = if nat_le n (length bytes) then Some (take n bytes, drop n bytes) else None
 
-abbrev pub metadata_front : ℕ → Option (List ℕ) → Option (List ℕ × List ℕ)
-metadata_front n None = None
-metadata_front n (Some bytes) = cut (size_by_type (column_type n) bytes) bytes
+abbrev pub split_metadata : ℕ → Option (List ℕ) → Option (List ℕ × List ℕ)
+split_metadata n None = None
+split_metadata n (Some bytes) = split_optional (size_by_type (column_type n) bytes) bytes
 
 -- a column: the number of its type, and its metadata
 pub record ColumnMeta : Type 0 where
@@ -58,7 +58,7 @@ abbrev pub after_metadata : Option (List ℕ × List ℕ) → Option (List ℕ)
 after_metadata None = None
 after_metadata (Some x) = Some x.1
 
--- The columns of these types, before whose metadata these bytes stand. A column's metadata is all of the bytes that its type has, or none where they can't be found; then no column after it has any.
-unfoldable pub columns_of : List ℕ → Option (List ℕ) → List ColumnMeta
-columns_of [] bytes = []
-columns_of (n ∷ types) bytes = record { number = n; metadata = own_metadata (metadata_front n bytes) } ∷ columns_of types (after_metadata (metadata_front n bytes))
+-- The columns with these types, whose metadata begins these bytes. A column's metadata is all of the bytes that its type has, or empty if its size is unknown or bytes are missing; then all later columns have none either.
+unfoldable pub columns_with_metadata : List ℕ → Option (List ℕ) → List ColumnMeta
+columns_with_metadata [] bytes = []
+columns_with_metadata (n ∷ types) bytes = record { number = n; metadata = own_metadata (split_metadata n bytes) } ∷ columns_with_metadata types (after_metadata (split_metadata n bytes))

@@ -1,4 +1,4 @@
--- The types of a table's columns: how many bytes of metadata each has, and which type a column really has.
+-- The types of a table's columns (MySQL Internals: Table_map_event): the size of their metadata, and their real types.
 use Rattle.std.specs.Prelude.{ℕ, List, [], ◌∷◌, ◌==◌, if◌then◌else◌}
 use Rattle.std.specs.Int.RustNames.{bit_or}
 use Rattle.std.specs.declared.result.Result.{Result}
@@ -8,7 +8,7 @@ use Rattle.wire_consts.specs.declared.column_type.ColumnType.TheVariants as colu
 use Rattle.rows_meta.specs.declared.bad_column_type.BadColumnType.{BadColumnType}
 use Rattle.rows_meta.specs.declared.bad_column_type.BadColumnType.TheVariants.{Unexpected}
 
--- how many bytes of metadata a type has, save TYPED_ARRAY, whose metadata is its element's type and metadata
+-- the size of a type's metadata; a TYPED_ARRAY's metadata, its element's type and metadata, isn't covered here
 abbrev pub metadata_size : ColumnType → ℕ
 metadata_size column.MYSQL_TYPE_FLOAT = 1
 metadata_size column.MYSQL_TYPE_DOUBLE = 1
@@ -31,7 +31,7 @@ metadata_size column.MYSQL_TYPE_VARCHAR = 2
 metadata_size column.MYSQL_TYPE_NEWDECIMAL = 2
 metadata_size other = 0
 
--- a STRING column has the type of this number
+-- the type of a STRING column, by this number
 abbrev pub string_type : ℕ → Result ColumnType BadColumnType
 string_type n =
     if n == 247 then Ok column.MYSQL_TYPE_ENUM
@@ -39,12 +39,12 @@ string_type n =
     else if n == 254 then Ok column.MYSQL_TYPE_STRING
     else Err (Unexpected n)
 
--- the first byte of a STRING's metadata, with bits 4 and 5 set, is the number of the real type; where it is 0 or missing, the column is a STRING
+-- the first byte of a STRING's metadata, with bits 4 and 5 set, is the number of the real type; if it is 0 or missing, the column is a STRING
 abbrev pub string_of : List ℕ → Result ColumnType BadColumnType
 string_of [] = Ok column.MYSQL_TYPE_STRING
 string_of (m ∷ metadata) = if m == 0 then Ok column.MYSQL_TYPE_STRING else string_type (bit_or m 48)
 
--- a DATE column has the cells of NEWDATE
+-- the real type of a column: a DATE column has cells of type NEWDATE, and a STRING column may be an ENUM or a SET
 abbrev pub real_type : ColumnType → List ℕ → Result ColumnType BadColumnType
 real_type column.MYSQL_TYPE_DATE metadata = Ok column.MYSQL_TYPE_NEWDATE
 real_type column.MYSQL_TYPE_STRING metadata = string_of metadata

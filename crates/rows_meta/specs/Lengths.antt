@@ -1,6 +1,6 @@
--- How many bytes the calls `len` of events say.
+-- The results of the `len` methods of events.
 use Rattle.std.specs.Prelude.{◌≡◌, ℕ, List, length, min, Option, IfSome}
 
--- n is how many bytes are written, where a value has a spelling, or the greatest such length where they are more
+-- n is the number of bytes that are written, if the value can be written, and at most 4294967276
 abbrev pub IsEventLen : Option (List ℕ) → ℕ → Type 0
-IsEventLen spelled n = IfSome spelled (λ bytes. n ≡ min (length bytes) 4294967276)
+IsEventLen encoding_is n = IfSome encoding_is (λ bytes. n ≡ min (length bytes) 4294967276)

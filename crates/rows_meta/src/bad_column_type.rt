@@ -4,13 +4,13 @@ ghost use Rattle.rows_meta.specs.declared.bad_column_type.BadColumnType.TheVaria
 use thiserror::Error;
 use wire_consts::UnknownColumnType;
 
-/// Why a column of a table map has no type.
+/// Why a column of a table map has no real type.
 #[derive(Clone, Copy, Debug, PartialEq, Eq, Hash, Error)]
 pub enum BadColumnType {
-    /// No column type has its number.
+    /// No column type has this number.
     #[error("{0}")]
     Unknown(UnknownColumnType),
-    /// The metadata of a STRING column names a type that no such column has, by this number.
+    /// The metadata of a STRING column gives this number, which is none of a type that a STRING column may have.
     #[error("Unexpected column type {0}")]
     Unexpected(u8),
 }
@@ -18,7 +18,7 @@ pub enum BadColumnType {
 impl From<UnknownColumnType> for BadColumnType {
     ghost from_gives = { λ unknown bad. bad ≡ Unknown unknown };
 
-    /// The refusal of the number.
+    /// Wraps the error for an unknown number.
     fn from(unknown: UnknownColumnType) -> BadColumnType {
         BadColumnType::Unknown(unknown)
     }

@@ -1,4 +1,4 @@
-//! Which type a column really has, and how many bytes of metadata.
+//! The real types of columns, and the sizes of their metadata.
 
 ghost use Rattle.std.specs.Prelude.{◌≡◌};
 ghost use Rattle.rows_meta.specs.ColumnTypes.{metadata_size, string_type, string_of, real_type as real_type_of};
@@ -6,8 +6,8 @@ ghost use Rattle.rows_meta.specs.ColumnTypes.{metadata_size, string_type, string
 use crate::bad_column_type::BadColumnType;
 use wire_consts::ColumnType;
 
-/// How many bytes of metadata a type has. That of `MYSQL_TYPE_TYPED_ARRAY`, for which this is 0, is
-/// its element's type and metadata.
+/// Returns the size of a type's metadata in bytes. For `MYSQL_TYPE_TYPED_ARRAY`, whose metadata is its element's type and
+/// metadata, this is 0.
 pub fn metadata_len(column_type: ColumnType) -> usize
     ensures { result ≡ metadata_size column_type }
 {
@@ -35,8 +35,8 @@ pub fn metadata_len(column_type: ColumnType) -> usize
     }
 }
 
-/// The real type of a column of this type and metadata: a DATE has the cells of `NEWDATE`, and a
-/// STRING may be an ENUM or a SET. `Unexpected` where its metadata names another type.
+/// Returns the real type of a column with this type and metadata: `NEWDATE` for a DATE; a STRING may be an ENUM or a SET. Returns
+/// `Unexpected` if a STRING's metadata gives another type.
 pub fn real_type(column_type: ColumnType, metadata: &[u8]) -> Result<ColumnType, BadColumnType>
     ensures { result ≡ real_type_of column_type metadata.now }
 {
@@ -47,7 +47,7 @@ pub fn real_type(column_type: ColumnType, metadata: &[u8]) -> Result<ColumnType,
     }
 }
 
-/// The real type of a STRING of this metadata.
+/// Returns the real type of a STRING with this metadata.
 fn string(metadata: &[u8]) -> Result<ColumnType, BadColumnType>
     ensures { result ≡ string_of metadata.now }
 {
@@ -57,7 +57,7 @@ fn string(metadata: &[u8]) -> Result<ColumnType, BadColumnType>
     }
 }
 
-/// The type of a STRING column that this number names.
+/// Returns the type of a STRING column by this number.
 fn numbered(number: u8) -> Result<ColumnType, BadColumnType>
     ensures { result ≡ string_type number }
 {

@@ -1,9 +1,9 @@
-//! The columns of a table map: the type of each, and the metadata that belongs to it.
+//! The columns of a table map: the type and the metadata of each.
 
 ghost use Rattle.std.specs.Prelude.{◌≡◌, ◌≤◌, ◌==◌, IfSome, count_by};
 ghost use Rattle.std.specs.Option.{option_map};
-ghost use Rattle.rows_meta.specs.ColumnViews.{bytes_of};
-ghost use Rattle.rows_meta.specs.ColumnMetadata.{column_type as column_type_of, array_size, size_by_type, cut, plain_size, metadata_front as front_of};
+ghost use Rattle.rows_meta.specs.ColumnViews.{slice_bytes};
+ghost use Rattle.rows_meta.specs.ColumnMetadata.{column_type as column_type_of, array_size, size_by_type, split_optional, plain_size, split_metadata as prefix_of};
 
 use crate::bad_column_type::BadColumnType;
 use crate::column_types::{metadata_len, real_type};
@@ -15,18 +15,19 @@ use wire_consts::{ColumnType, UnknownColumnType};
 pub struct ColumnMeta<'a> {
     /// The number of its type.
     pub number: u8,
-    /// What the type says further: as many bytes as its type has, or none where they can't be found.
+    /// The metadata: as many bytes as its type has; empty if its size is unknown or bytes are missing.
     pub metadata: &'a [u8],
 }
 
 impl ColumnMeta<'_> {
-    ghost use Rattle.rows_meta.specs.ColumnViews.{column_view, real_type_of};
+    ghost use Rattle.rows_meta.specs.ColumnViews.{column_meta_view, real_type_of};
 
-    /// The real type: a DATE has the cells of `NEWDATE`, and a STRING may be an ENUM or a SET.
+    /// Returns the real type: `NEWDATE` for a DATE; a STRING may be an ENUM or a SET.
     ///
-    /// `Unknown` where no type has the number; `Unexpected` where a STRING's metadata names another type.
+    /// - `Unknown`: no type has the number.
+    /// - `Unexpected`: a STRING's metadata gives another type.
     pub fn real_type(&self) -> Result<ColumnType, BadColumnType>
-        ensures { result ≡ real_type_of (column_view self.now) }
+        ensures { result ≡ real_type_of (column_meta_view self.now) }
     {
         match column_type(self.number) {
             Some(column_type) => real_type(column_type, self.metadata),
@@ -35,22 +36,23 @@ impl ColumnMeta<'_> {
     }
 }
 
-/// The columns of a table map that are still to come, in order.
+/// The remaining columns of a table map, in order.
 #[derive(Clone, Copy, Debug)]
 pub struct IterColumns<'a> {
     types: &'a [u8],
-    /// The metadata of these columns, and what follows it; None once it can't be found.
+    /// The metadata of these columns and the bytes after it; None once the size of a column's metadata is unknown or bytes are
+    /// missing.
     metadata: Option<&'a [u8]>,
 }
 
 impl<'a> IterColumns<'a> {
     ghost use Rattle.std.specs.Prelude.{Some};
-    ghost use Rattle.rows_meta.specs.ColumnMetadata.{columns_of};
-    ghost use Rattle.rows_meta.specs.ColumnViews.{columns_left, TakesColumn};
+    ghost use Rattle.rows_meta.specs.ColumnMetadata.{columns_with_metadata};
+    ghost use Rattle.rows_meta.specs.ColumnViews.{remaining_columns, ReturnsColumn};
 
-    /// The columns of these types, whose metadata stands there one after the other.
+    /// Iterates over the columns with these types and this metadata.
     pub fn new(types: &'a [u8], metadata: &'a [u8]) -> IterColumns<'a>
-        ensures { columns_left result ≡ columns_of types.entry.now (Some metadata.entry.now) }
+        ensures { remaining_columns result ≡ columns_with_metadata types.entry.now (Some metadata.entry.now) }
     {
         IterColumns {
             types,
@@ -58,14 +60,14 @@ impl<'a> IterColumns<'a> {
         }
     }
 
-    /// The next column; none once all were given.
-    #[tactic(auto, unfolding(crate::specs::ColumnMetadata::columns_of))]
+    /// Returns the next column, or None after the last.
+    #[tactic(auto, unfolding(crate::specs::ColumnMetadata::columns_with_metadata))]
     pub fn next_column(&mut self) -> Option<ColumnMeta<'a>>
-        ensures { TakesColumn self.old result self.new }
+        ensures { ReturnsColumn self.old result self.new }
     {
         let (number, types) = self.types.split_first()?;
         self.types = types;
-        match metadata_front(*number, self.metadata) {
+        match split_metadata(*number, self.metadata) {
             Some((metadata, rest)) => {
                 self.metadata = Some(rest);
                 Some(ColumnMeta {
@@ -88,17 +90,17 @@ impl TableMapEvent<'_> {
     ghost use Rattle.std.specs.Prelude.{slice_get};
     ghost use Rattle.wire_consts.specs.ColumnTypes.{column_type_number};
     ghost use Rattle.wire_consts.specs.declared.column_type.ColumnType.TheVariants as column;
-    ghost use Rattle.rows_meta.specs.ColumnViews.{columns_left, map_columns, column_view, metadata_in, type_in};
+    ghost use Rattle.rows_meta.specs.ColumnViews.{remaining_columns, table_map_columns, column_meta_view, metadata_in, type_in};
     ghost use Rattle.rows_meta.specs.MapViews.{map_of};
 
-    /// The columns, in order.
+    /// Iterates over the columns, in order.
     pub fn columns(&self) -> IterColumns<'_>
-        ensures { columns_left result ≡ map_columns self.now }
+        ensures { remaining_columns result ≡ table_map_columns self.now }
     {
         IterColumns::new(self.column_types_raw(), self.metadata_raw())
     }
 
-    /// How many columns have the type JSON.
+    /// Returns the number of columns of type JSON.
     pub fn json_column_count(&self) -> usize
         ensures { result ≡ count_by (λ n. n == column_type_number column.MYSQL_TYPE_JSON) (map_of self.now).column_types }
     {
@@ -108,9 +110,9 @@ impl TableMapEvent<'_> {
             .count()
     }
 
-    /// The column at `index`, or None where there are not so many columns.
+    /// Returns the column at `index`, or None if there are fewer columns.
     pub fn column(&self, index: usize) -> Option<ColumnMeta<'_>>
-        ensures { option_map column_view result ≡ slice_get (map_columns self.now) index }
+        ensures { option_map column_meta_view result ≡ slice_get (table_map_columns self.now) index }
     {
         let mut columns = self.columns();
         for _ in 0..index {
@@ -122,10 +124,10 @@ impl TableMapEvent<'_> {
         columns.next_column()
     }
 
-    /// The metadata of the column at `index`, or None where there are not so many columns: as many bytes as
-    /// its type has, or none where they can't be found.
+    /// Returns the metadata of the column at `index`, or None if there are fewer columns. It has as many bytes as the column's
+    /// type has; it is empty if its size is unknown or bytes are missing.
     pub fn get_column_metadata(&self, index: usize) -> Option<&[u8]>
-        ensures { bytes_of result ≡ metadata_in (slice_get (map_columns self.now) index) }
+        ensures { slice_bytes result ≡ metadata_in (slice_get (table_map_columns self.now) index) }
     {
         match self.column(index) {
             Some(column) => Some(column.metadata),
@@ -133,11 +135,10 @@ impl TableMapEvent<'_> {
         }
     }
 
-    /// The real type of the column at `index`, or None where there are not so many columns.
-    ///
-    /// The refusals of [`ColumnMeta::real_type`].
+    /// Returns the real type of the column at `index`, or None if there are fewer columns. Returns the errors of
+    /// [`ColumnMeta::real_type`].
     pub fn get_column_type(&self, index: usize) -> Result<Option<ColumnType>, BadColumnType>
-        ensures { result ≡ type_in (slice_get (map_columns self.now) index) }
+        ensures { result ≡ type_in (slice_get (table_map_columns self.now) index) }
     {
         let Some(column) = self.column(index) else {
             return Ok(None);
@@ -149,20 +150,20 @@ impl TableMapEvent<'_> {
     }
 }
 
-/// The metadata of a column of this type, and what follows it.
-fn metadata_front<'a>(number: u8, rest: Option<&'a [u8]>) -> Option<(&'a [u8], &'a [u8])>
-    ensures { option_map (λ x. (x.0.now, x.1.now)) result ≡ front_of number (bytes_of rest.entry) }
+/// Splits off the metadata of a column of this type, and returns it and the rest.
+fn split_metadata<'a>(number: u8, rest: Option<&'a [u8]>) -> Option<(&'a [u8], &'a [u8])>
+    ensures { option_map (λ x. (x.0.now, x.1.now)) result ≡ prefix_of number (slice_bytes rest.entry) }
 {
     let bytes = rest?;
-    let len = len_by_type(column_type(number), bytes)?;
+    let len = metadata_len_by_type(column_type(number), bytes)?;
     if len > bytes.len() {
         return None;
     }
     Some(bytes.split_at(len))
 }
 
-/// How many bytes of metadata a column of this type has, by what stands there.
-fn len_by_type(column_type: Option<ColumnType>, bytes: &[u8]) -> Option<usize>
+/// Returns the size of a column's metadata, by its type and by the bytes of the metadata.
+fn metadata_len_by_type(column_type: Option<ColumnType>, bytes: &[u8]) -> Option<usize>
     ensures { result ≡ size_by_type column_type bytes.now }
 {
     match column_type {
@@ -172,7 +173,7 @@ fn len_by_type(column_type: Option<ColumnType>, bytes: &[u8]) -> Option<usize>
     }
 }
 
-/// How many bytes the metadata of a `TYPED_ARRAY` takes; None where an element's type is missing or unknown.
+/// Returns the size of a `TYPED_ARRAY`'s metadata; None if an element's type is missing or unknown.
 fn array_len(bytes: &[u8]) -> Option<usize>
     ensures { result ≡ array_size bytes.now }
 {
@@ -188,7 +189,7 @@ fn array_len(bytes: &[u8]) -> Option<usize>
     None
 }
 
-/// How many bytes the type of an array's element and its metadata take; None for an array of arrays.
+/// Returns the size of an array element's type and metadata; None for an array of arrays.
 fn plain_len(element: ColumnType) -> Option<usize>
     ensures value { result ≡ plain_size element }
     ensures small { IfSome result (λ len. len ≤ 4) }
@@ -200,7 +201,7 @@ fn plain_len(element: ColumnType) -> Option<usize>
     }
 }
 
-/// The type that has a number, if there is one.
+/// Returns the type with this number, if there is one.
 fn column_type(number: u8) -> Option<ColumnType>
     ensures { result ≡ column_type_of number }
 {

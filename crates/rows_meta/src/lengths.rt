@@ -1,15 +1,14 @@
-//! How many bytes events take.
+//! The sizes of events.
 
 ghost use Rattle.std.specs.Prelude.{◌≡◌, sum, min};
 
 use crate::table_map::TableMapEvent;
 use wire_ints::lenenc_int_len;
 
-/// The most bytes that a call `len` of an event answers: with a header of 19 bytes so many have a size
-/// that fits 32 bits.
+/// The maximum that an event's `len` returns: with its header of 19 bytes, the size of such an event fits in 32 bits.
 pub const MAX_EVENT_LEN: usize = 4_294_967_276;
 
-/// The sum of the lengths of an event's parts, at most [`MAX_EVENT_LEN`].
+/// Returns the sum of the sizes of an event's parts, at most [`MAX_EVENT_LEN`].
 pub fn event_len(parts: &[usize]) -> usize
     ensures { result ≡ min (sum parts.now) MAX_EVENT_LEN }
 {
@@ -21,13 +20,13 @@ pub fn event_len(parts: &[usize]) -> usize
 }
 
 impl TableMapEvent<'_> {
-    ghost use Rattle.rows_meta.specs.TableMaps.{table_map_spelling, written_map};
+    ghost use Rattle.rows_meta.specs.TableMaps.{table_map_encoded, written_map};
     ghost use Rattle.rows_meta.specs.Lengths.{IsEventLen};
     ghost use Rattle.rows_meta.specs.MapViews.{map_of};
 
-    /// How many bytes `serialize` appends, at most [`MAX_EVENT_LEN`].
+    /// Returns the number of bytes that `serialize` appends, at most [`MAX_EVENT_LEN`].
     pub fn len(&self) -> usize
-        ensures { IsEventLen (table_map_spelling (written_map (map_of self.now))) result }
+        ensures { IsEventLen (table_map_encoded (written_map (map_of self.now))) result }
     {
         let columns = self.column_types_raw().len();
         let metadata = self.metadata_raw().len();

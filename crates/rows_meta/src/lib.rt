@@ -1,6 +1,6 @@
-//! Table maps: what TABLE_MAP_EVENT says of a table and its columns.
+//! Table maps: TABLE_MAP_EVENT, which describes a table and its columns. MySQL Internals: Table_map_event.
 //!
-//! A table map is a row of pieces (`specs/TableMaps.antt`), which is read and written by that one relation.
+//! A table map is a sequence of fields (`specs/TableMaps.antt`); one definition covers reading and writing.
 #![tactic(auto)]
 
 mod bad_column_type;

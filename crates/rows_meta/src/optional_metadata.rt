@@ -9,8 +9,8 @@ use crate::table_map::TableMapEvent;
 use rows_optional::OptionalMetadataIter;
 
 impl TableMapEvent<'_> {
-    /// The fields of the optional metadata, in order. A field that can't be read is an error, and the next ones
-    /// follow; bytes that can't be taken apart into fields are the last item.
+    /// Iterates over the fields of the optional metadata, in order. A field with an unknown type or an invalid value is an error,
+    /// and the next fields follow; bytes that can't be split into a type, a length and a value are the last item.
     pub fn iter_optional_meta(&self) -> OptionalMetadataIter<'_>
         ensures { fields_left result ≡ fields (map_of self.now).column_types (map_of self.now).optional_metadata }
     {

@@ -1,18 +1,18 @@
 ghost use Rattle.std.specs.Prelude.{◌≡◌, ℕ};
-ghost use Rattle.wire_buf.specs.Spelling.{Lacks};
+ghost use Rattle.wire_buf.specs.Encoding.{Lacks};
 ghost use Rattle.wire_buf.specs.declared.fault.WireFault.TheVariants.{Eof};
-ghost use Rattle.rows_meta.specs.TableMaps.{id_width, number};
+ghost use Rattle.rows_meta.specs.TableMaps.{id_width, little_endian};
 
 use std::alloc::Global;
 use wire_buf::{AnySize, MyDeserialize, ParseBuf, WireFault};
 use wire_ints::{LeU32, LeU48, RawInt};
 
-/// The number that a server gives a table. Rows events name the table by it.
+/// The id of a table, by which rows events refer to it.
 #[derive(Clone, Copy, Debug, PartialEq, Eq, Hash)]
 pub struct TableId(pub u64);
 
-/// Four bytes where the context, the post-header length of the event's type, is 6, else six; the
-/// lowest first. `Eof` where they don't stand there.
+/// Reads four bytes if the context, the post-header length of the event's type, is 6, otherwise six, in little-endian order.
+/// Returns `Eof` if there are fewer bytes.
 impl<'de> MyDeserialize<'de> for TableId {
     const SIZE: Option<usize> = None;
 
@@ -26,9 +26,9 @@ impl<'de> MyDeserialize<'de> for TableId {
 
     ghost view = { λ v. v.0 };
 
-    ghost spells = { λ ctx. number (id_width ctx) };
+    ghost encodes = { λ ctx. little_endian (id_width ctx) };
 
-    ghost refusal = { λ ctx x e. Lacks (number (id_width ctx)) x × (e ≡ Eof) };
+    ghost fails_with = { λ ctx x e. Lacks (little_endian (id_width ctx)) x × (e ≡ Eof) };
 
     fn deserialize(
         alloc: Global,

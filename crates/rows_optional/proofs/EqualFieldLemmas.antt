@@ -1,10 +1,10 @@
--- What `==` tells of fields.
+-- What `==` means for fields.
 use Rattle.std.proofs.Common.{◌≡◌, ℕ, zero, suc, ◌+◌, Bool, true, false, true≢false, List, ◌∷◌, refl, sym, ap, ◌∙◌}
 use Rattle.std.proofs.lemmas.Bool.Decides.{Decides-like, Decides-and, Decides-eqb}
 use Rattle.std.specs.Cmp.{booleans_Decides}
 use Rattle.std.specs.Bool.{Decides, beq}
 use lib.Pointwise.{pointwise, pointwise_decides, bytes_decides}
-use Rattle.rows_values.specs.BitLists.{bit_of, len_of, list_from, list_of}
+use Rattle.rows_values.specs.BitLists.{bit_of, len_of, list_from, bit_list}
 use Rattle.rows_values.specs.declared.bits.Bits.{Bits}
 use Rattle.rows_optional.specs.MetadataFields.{Field, bits_from, signedness, default_charset, column_charset, column_name, set_str_value, enum_str_value, geometry_types, simple_primary_key, primary_key_with_prefix, enum_and_set_default_charset, enum_and_set_column_charset, column_visibility, dimensionality}
 use Rattle.rows_optional.specs.MetadataViews.{field_view, bits_view, default_charset_view}
@@ -14,18 +14,18 @@ use Rattle.rows_optional.specs.declared.field.OptionalMetadataField.TheVariants 
 use Rattle.rows_optional.specs.contracts.charsets.DefaultCharsetPartialEq.TheImpl.{ghosts as charset_equality}
 use Rattle.rows_optional.specs.contracts.field.OptionalMetadataFieldPartialEq.TheImpl.{ghosts as field_equality}
 
--- the two words for a list of bits say the same
+-- the two definitions of a list of bits agree
 same_list : (f : ℕ → Bool) (k n : ℕ) → list_from f k n ≡ bits_from f k n
 unfolding list_from bits_from
 same_list f k zero = refl
 same_list f k (suc n) = ap (λ rest. f k ∷ rest) (same_list f (k + 1) n)
 
-same_view : (b : Bits) → list_of b ≡ bits_view b
+same_view : (b : Bits) → bit_list b ≡ bits_view b
 same_view b = same_list (bit_of b) 0 (len_of b)
 
-bits_decide : (a b : Bits) → Decides (pointwise beq (list_of a) (list_of b)) (bits_view a ≡ bits_view b)
+bits_decide : (a b : Bits) → Decides (pointwise beq (bit_list a) (bit_list b)) (bits_view a ≡ bits_view b)
 bits_decide a b =
-    Decides-like _ (λ e. sym (same_view a) ∙ e ∙ same_view b) (λ e. same_view a ∙ e ∙ sym (same_view b)) (pointwise_decides booleans_Decides (list_of a) (list_of b))
+    Decides-like _ (λ e. sym (same_view a) ∙ e ∙ same_view b) (λ e. same_view a ∙ e ∙ sym (same_view b)) (pointwise_decides booleans_Decides (bit_list a) (bit_list b))
 
 charsets_decide : (a b : DefaultCharset) → Decides (charset_equality.eq a b) (default_charset_view a ≡ default_charset_view b)
 charsets_decide a b =

@@ -1,4 +1,4 @@
--- Fields that are taken one after the other give the last of each kind.
+-- Fields that are added one after the other give the last of each kind.
 use Rattle.std.proofs.Common.{◌≡◌, List, ◌∷◌, Option, Some, None, Ok, Err, refl, ap}
 use Rattle.rows_times.specs.Readings.{Reading, ◌>>=◌}
 use Rattle.rows_optional.specs.MetadataFields.{Field}
@@ -12,7 +12,7 @@ or-assoc : {A : Type 0} (a b c : Option A) → or_else (or_else a b) c ≡ or_el
 or-assoc (Some x) b c = refl
 or-assoc None b c = refl
 
--- what was taken before, and then these fields
+-- the fields so far, and then these fields
 abbrev pub later : Extracted → List Field → Extracted
 later e fs = record {
   signs = or_else (last_of signs_in fs) e.signs;
@@ -25,7 +25,7 @@ later e fs = record {
   enum_charsets = or_else (last_of enum_charsets_in fs) e.enum_charsets;
 }
 
--- what was taken before, and then what these items give
+-- the fields so far, and then these items
 abbrev pub onward : Extracted → List (Reading Field) → Reading Extracted
 onward e items = all_read items >>= λ fs. Ok (later e fs)
 

@@ -7,7 +7,7 @@ pub mod SignLemmas
 pub mod MemberLemmas
 pub mod ServedLemmas
 pub mod LawLemmas
-pub mod RefusalLemmas
+pub mod EntryErrorLemmas
 pub mod ItemLemmas
 pub mod MemberLawLemmas
 pub mod FieldLemmas

@@ -1,17 +1,17 @@
--- The items of a list, one step at a time.
+-- The items of a list, step by step.
 use Rattle.std.proofs.Common.{◌≡◌, ◌≤◌, ℕ, zero, suc, true, false, true≢false, List, [], ◌∷◌, length, Ok, Err, refl, sym, ap, ◌∙◌, arith, inl, inr}
 use Rattle.std.proofs.lemmas.Bool.Decides.{eqb_tells}
 use Rattle.std.specs.Prelude.{◌==◌}
 use Rattle.rows_times.specs.declared.fault.RowsError.{RowsError}
 use Rattle.rows_times.specs.Readings.{Reading}
-use Rattle.rows_optional.specs.Lists.{and_then, items_in, items_of, TakesBytes}
+use Rattle.rows_optional.specs.Lists.{prepend_read, items_in, items_of, TakesBytes}
 
 -- there is a byte
 pub some_bytes : (b : ℕ) (s : List ℕ) → (length (b ∷ s) == 0) ≡ false
 some_bytes b s = elim (eqb_tells (length (b ∷ s)) 0) [ inl e ↦ let z = e.1 in absurd (omega (arith, z)) | inr e ↦ e.0 ]
 
 module _ {A : Type 0} (read : List ℕ → Reading (A × List ℕ)) (takes : TakesBytes read) where
-  same_after : (n m : ℕ) (o : Reading (A × List ℕ)) → ((x : A × List ℕ) → o ≡ Ok x → items_in read n x.1 ≡ items_in read m x.1) → and_then (items_in read n) o ≡ and_then (items_in read m) o
+  same_after : (n m : ℕ) (o : Reading (A × List ℕ)) → ((x : A × List ℕ) → o ≡ Ok x → items_in read n x.1 ≡ items_in read m x.1) → prepend_read (items_in read n) o ≡ prepend_read (items_in read m) o
   same_after n m (Ok x) h = ap (λ (t : List (Reading A)). Ok x.0 ∷ t) (h x refl)
   same_after n m (Err e) h = refl
 
@@ -31,7 +31,7 @@ module _ {A : Type 0} (read : List ℕ → Reading (A × List ℕ)) (takes : Tak
   unfolding items_of items_in
   empty-items = refl
 
-  first_item : (b : ℕ) (s : List ℕ) → items_of read (b ∷ s) ≡ and_then (items_in read (length s)) (read (b ∷ s))
+  first_item : (b : ℕ) (s : List ℕ) → items_of read (b ∷ s) ≡ prepend_read (items_in read (length s)) (read (b ∷ s))
   unfolding items_of items_in
   first_item b s = refl
 
@@ -44,8 +44,8 @@ module _ {A : Type 0} (read : List ℕ → Reading (A × List ℕ)) (takes : Tak
   items-ok [] x h = absurd (omega (arith, takes [] x h))
   items-ok (b ∷ s) x h =
       let less = takes (b ∷ s) x h in
-      first_item b s ∙ ap (and_then (items_in read (length s))) h ∙ ap (λ (t : List (Reading A)). Ok x.0 ∷ t) (enough (length s) (length x.1) x.1 (omega (arith, less)) (omega arith))
+      first_item b s ∙ ap (prepend_read (items_in read (length s))) h ∙ ap (λ (t : List (Reading A)). Ok x.0 ∷ t) (enough (length s) (length x.1) x.1 (omega (arith, less)) (omega arith))
 
   pub items-err : (s : List ℕ) (e : RowsError) → false ≡ (length s == 0) → read s ≡ Err e → items_of read s ≡ Err e ∷ items_of read []
   items-err [] e some h = absurd (true≢false (sym some))
-  items-err (b ∷ s) e some h = first_item b s ∙ ap (and_then (items_in read (length s))) h ∙ ap (λ (t : List (Reading A)). Err e ∷ t) (sym empty-items)
+  items-err (b ∷ s) e some h = first_item b s ∙ ap (prepend_read (items_in read (length s))) h ∙ ap (λ (t : List (Reading A)). Err e ∷ t) (sym empty-items)

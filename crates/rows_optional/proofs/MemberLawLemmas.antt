@@ -1,9 +1,9 @@
--- The members of a column that are read are spelled so, and those that are spelled so are read.
+-- The members of a column that are read are what the bytes encode, and the other way round.
 use Rattle.std.proofs.Common.{◌≡◌, ◌↔◌, ℕ, zero, suc, List, [], ◌∷◌, ◌++◌, length, Ok, refl, sym, ap, subst, ◌∙◌, append_assoc}
-use Rattle.wire_buf.specs.Spelling.{Begins}
+use Rattle.wire_buf.specs.Encoding.{Begins}
 use Rattle.wire_buf.specs.Numbers.{IsLenenc}
-use Rattle.rows_optional.specs.Entries.{number_at, string_at}
-use Rattle.rows_optional.specs.Members.{AreStrings, MembersForm, strings_in, members_at}
+use Rattle.rows_optional.specs.Entries.{lenenc_at, string_at}
+use Rattle.rows_optional.specs.Members.{AreStrings, MembersEncoding, strings_in, members_at}
 use Rattle.rows_optional.proofs.EntryLemmas.{bind-ok, ok_pair, number-is, number-here}
 use Rattle.rows_optional.proofs.LawLemmas.{string-law}
 
@@ -31,9 +31,9 @@ strings-here (v ∷ vs) own rest h =
     let first : string_at (h.0 ++ (h.1 ++ rest)) ≡ Ok (v, h.1 ++ rest) = (string-law v (h.0 ++ (h.1 ++ rest)) (h.1 ++ rest)).1 (record { bytes = h.0; joined = refl; is = h.3 }) in
     rw (h.2, append_assoc h.0 h.1 rest, first, strings-here vs h.1 rest h.4) refl
 
-members-is : (v : List (List ℕ)) (bytes rest : List ℕ) → members_at bytes ≡ Ok (v, rest) → Begins (MembersForm v) bytes rest
+members-is : (v : List (List ℕ)) (bytes rest : List ℕ) → members_at bytes ≡ Ok (v, rest) → Begins (MembersEncoding v) bytes rest
 members-is v bytes rest h =
-    let n = bind-ok (number_at bytes) _ (v, rest) h in
+    let n = bind-ok (lenenc_at bytes) _ (v, rest) h in
     let s = strings-is n.0.0 n.0.1 (v, rest) n.2 in
     let b = number-is bytes n.0 n.1 in
     record {
@@ -42,10 +42,10 @@ members-is v bytes rest h =
       is = record { count = b.bytes; strings = s.1.0; joined = refl; count_is = subst (λ (k : ℕ). IsLenenc k b.bytes) s.0 b.is; strings_are = s.1.2 };
     }
 
-members-here : (v : List (List ℕ)) (bytes rest : List ℕ) → Begins (MembersForm v) bytes rest → members_at bytes ≡ Ok (v, rest)
+members-here : (v : List (List ℕ)) (bytes rest : List ℕ) → Begins (MembersEncoding v) bytes rest → members_at bytes ≡ Ok (v, rest)
 members-here v bytes rest h =
-    let count : number_at bytes ≡ Ok (length v, h.is.strings ++ rest) = number-here (length v) bytes (h.is.strings ++ rest) (record { bytes = h.is.count; joined = h.joined ∙ ap (λ (b : List ℕ). b ++ rest) h.is.joined ∙ append_assoc h.is.count h.is.strings rest; is = h.is.count_is }) in
+    let count : lenenc_at bytes ≡ Ok (length v, h.is.strings ++ rest) = number-here (length v) bytes (h.is.strings ++ rest) (record { bytes = h.is.count; joined = h.joined ∙ ap (λ (b : List ℕ). b ++ rest) h.is.joined ∙ append_assoc h.is.count h.is.strings rest; is = h.is.count_is }) in
     rw count (strings-here v h.is.strings rest h.is.strings_are)
 
-pub members-law : (v : List (List ℕ)) (bytes rest : List ℕ) → (members_at bytes ≡ Ok (v, rest)) ↔ Begins (MembersForm v) bytes rest
+pub members-law : (v : List (List ℕ)) (bytes rest : List ℕ) → (members_at bytes ≡ Ok (v, rest)) ↔ Begins (MembersEncoding v) bytes rest
 members-law v bytes rest = (members-is v bytes rest, members-here v bytes rest)

@@ -1,14 +1,14 @@
--- What columns are served, one item at a time.
+-- The items for columns, one at a time.
 use Rattle.std.proofs.Common.{◌≡◌, ℕ, suc, true, false, List, [], ◌∷◌, map, Option, Some, None, Ok, Err, inl, inr, refl, sym, ap, ◌∙◌}
 use Rattle.rows_times.specs.declared.fault.RowsError.{RowsError}
-use Rattle.rows_times.specs.Readings.{Reading, shown}
+use Rattle.rows_times.specs.Readings.{Reading, map_reading}
 use Rattle.std.specs.Prelude.{◌==◌}
 use Rattle.std.proofs.lemmas.Bool.Decides.{eqb_tells}
 use Rattle.rows_optional.specs.MetadataViews.{charset}
 use Rattle.rows_optional.specs.Lists.{numbers, pairs, items_in, items_of}
 use Rattle.rows_optional.specs.Served.{CharsetEntry, of_column, plain, chained, pair_entry, number_entry, key_indexes, charset_entries, default_item, next_index, charset_after}
 
--- lists of no bytes have no items
+-- empty bytes have no items
 pub no_numbers : numbers [] ≡ []
 unfolding items_of items_in
 no_numbers = refl
@@ -25,7 +25,7 @@ pub no_charsets : charset_entries None None ≡ []
 unfolding items_of items_in
 no_charsets = refl
 
--- a fault is the last item
+-- an error is the last item
 pub chain_fault : {A : Type 0} (xs ys rest zs none : List (Reading A)) (e : RowsError) → xs ≡ Err e ∷ rest → zs ≡ none → none ≡ [] → chained xs ys ≡ Err e ∷ zs
 chain_fault {A = A} xs ys rest zs none e h i j = rw h (ap (λ (t : List (Reading A)). Err e ∷ t) (sym (i ∙ j)))
 
@@ -37,13 +37,13 @@ is_same j i h = elim (eqb_tells j i) [ inl e ↦ e.0 | inr e ↦ absurd (e.1 h) 
 is_other : (j i : ℕ) → (j ≡ i → ⊥) → (j == i) ≡ false
 is_other j i h = elim (eqb_tells j i) [ inl e ↦ absurd (h e.1) | inr e ↦ e.0 ]
 
-plain_entries : (ns : List (Reading ℕ)) → map (shown plain) (map (shown charset) ns) ≡ map (shown number_entry) ns
+plain_entries : (ns : List (Reading ℕ)) → map (map_reading plain) (map (map_reading charset) ns) ≡ map (map_reading number_entry) ns
 plain_entries [] = refl
 plain_entries (Ok n ∷ ns) = ap (λ (t : List (Reading CharsetEntry)). Ok (plain (charset n)) ∷ t) (plain_entries ns)
 plain_entries (Err e ∷ ns) = ap (λ (t : List (Reading CharsetEntry)). Err e ∷ t) (plain_entries ns)
 
-pub entries-are : (xs ys : List (Reading (ℕ × ℕ))) (ms ns : List (Reading ℕ)) → xs ≡ ys → ms ≡ map (shown charset) ns
-    → chained (map (shown pair_entry) xs) (map (shown plain) ms) ≡ chained (map (shown pair_entry) ys) (map (shown number_entry) ns)
+pub entries-are : (xs ys : List (Reading (ℕ × ℕ))) (ms ns : List (Reading ℕ)) → xs ≡ ys → ms ≡ map (map_reading charset) ns
+    → chained (map (map_reading pair_entry) xs) (map (map_reading plain) ms) ≡ chained (map (map_reading pair_entry) ys) (map (map_reading number_entry) ns)
 entries-are xs ys ms ns h i = rw (h, i, plain_entries ns) refl
 
 module _ (d : Option ℕ) (es : List (Reading CharsetEntry)) (i : ℕ) where

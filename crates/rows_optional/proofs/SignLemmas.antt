@@ -2,7 +2,7 @@
 use Rattle.std.proofs.Common.{◌≡◌, ◌≤◌, ◌<◌, ℕ, suc, ◌+◌, ◌-◌, Bool, [], ◌∷◌, Option, Some, lt-ltb, refl, ◌∙◌, arith}
 use Rattle.std.specs.Iterator.{YieldsFirst}
 use Rattle.rows_values.specs.BitLists.{bit_of, len_of, bit_at}
-use Rattle.rows_optional.specs.declared.served.IterSignedness.{IterSignedness}
+use Rattle.rows_optional.specs.declared.columns_iter.IterSignedness.{IterSignedness}
 use Rattle.rows_optional.specs.MetadataViews.{signs_left}
 use Rattle.rows_optional.specs.MetadataFields.{bits_from}
 

@@ -1,15 +1,15 @@
--- What columns take from the optional metadata: of each kind of field the last, and nothing where a field can't be read.
+-- What the columns of a table use from the optional metadata: the last field of each kind, or the error of the first field that can't be read.
 use Rattle.std.specs.Prelude.{ℕ, Bool, List, [], ◌∷◌, Option, Some, None}
 use Rattle.std.specs.declared.result.Result.TheVariants.{Ok}
 use Rattle.rows_times.specs.Readings.{Reading, ◌>>=◌}
 use Rattle.rows_optional.specs.MetadataFields.{Field, signedness, default_charset, column_charset, column_name, simple_primary_key, primary_key_with_prefix, enum_and_set_default_charset, enum_and_set_column_charset}
 
--- all values, or the first fault
+-- all values, or the first error
 abbrev pub all_read : {A : Type 0} → List (Reading A) → Reading (List A)
 all_read [] = Ok []
 all_read (r ∷ rs) = r >>= λ x. all_read rs >>= λ xs. Ok (x ∷ xs)
 
--- the first that is there
+-- the first value that exists
 abbrev pub or_else : {A : Type 0} → Option A → Option A → Option A
 or_else (Some x) other = Some x
 or_else None other = other
@@ -61,7 +61,7 @@ pub record Extracted : Type 0 where
   pub enum_charset : Option (ℕ × List ℕ)
   pub enum_charsets : Option (List ℕ)
 
--- the last of each kind
+-- the last field of each kind
 abbrev pub lasts : List Field → Extracted
 lasts fs = record {
   signs = last_of signs_in fs;
@@ -74,11 +74,11 @@ lasts fs = record {
   enum_charsets = last_of enum_charsets_in fs;
 }
 
--- what all fields give, or the fault of the first that can't be read
+-- the last field of each kind, or the error of the first field that can't be read
 abbrev pub extracted : List (Reading Field) → Reading Extracted
 extracted items = all_read items >>= λ fs. Ok (lasts fs)
 
--- what was taken before, and then a field; a step towards `extracted`
+-- the fields so far and one more field; a step of `extracted`
 abbrev pub with_field : Extracted → Field → Extracted
 with_field e f = record {
   signs = or_else (signs_in f) e.signs;
@@ -91,6 +91,6 @@ with_field e f = record {
   enum_charsets = or_else (enum_charsets_in f) e.enum_charsets;
 }
 
--- nothing was taken
+-- the result for no fields
 abbrev pub nothing : Extracted
 nothing = lasts []

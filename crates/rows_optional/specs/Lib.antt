@@ -1,7 +1,7 @@
 pub mod Entries
-pub mod EntryRefusals
+pub mod EntryErrors
 pub mod Lists
-pub mod FieldSpellings
+pub mod FieldEncodings
 pub mod KnownConstants
 pub mod MetadataFields
 pub mod Members

@@ -1,7 +1,7 @@
--- The fields of the optional metadata: a type in one byte, the length of the value, and the value.
+-- The fields of the optional metadata (MySQL Internals: Table_map_event): a type in one byte, the length of the value, and the value.
 use Rattle.std.specs.Prelude.{◌≡◌, ℕ, zero, suc, ◌+◌, ◌/◌, ◌==◌, Bool, false, List, [], ◌∷◌, length, slice_index, map, find, count_by, Option, Some, None, nat_lt, if◌then◌else◌}
 use Rattle.std.specs.declared.result.Result.TheVariants.{Ok, Err}
-use Rattle.wire_buf.specs.Spelling.{ByteForm, Both}
+use Rattle.wire_buf.specs.Encoding.{Encoding, Both}
 use Rattle.wire_consts.specs.ColumnTypes.{column_type_number, is_numeric}
 use Rattle.wire_consts.specs.declared.column_type.ColumnType.{ColumnType}
 use Rattle.rows_consts.specs.declared.optional_metadata_field_type.OptionalMetadataFieldType.{OptionalMetadataFieldType}
@@ -10,7 +10,7 @@ use Rattle.rows_values.specs.BitLists.{highest_bit}
 use Rattle.rows_times.specs.declared.fault.RowsError.TheVariants.{EndOfBody, RemainingBytes}
 use Rattle.wire_consts.specs.AllColumnTypes.{column_types}
 use Rattle.rows_times.specs.Readings.{Reading, ◌>>=◌}
-use Rattle.rows_optional.specs.Entries.{StringForm, front, number_at, string_at}
+use Rattle.rows_optional.specs.Entries.{StringEncoding, split_at, lenenc_at, string_at}
 use Rattle.rows_optional.specs.Lists.{items_of}
 use Rattle.rows_optional.specs.KnownConstants.{field_type}
 
@@ -19,7 +19,7 @@ unfoldable pub bits_from : (ℕ → Bool) → ℕ → ℕ → List Bool
 bits_from bit k zero = []
 bits_from bit k (suc n) = bit k ∷ bits_from bit (k + 1) n
 
--- n bits in exactly the bytes that hold them, each byte from its highest bit on: `EndOfBody` where there are fewer bytes, and `RemainingBytes` where there are more
+-- n bits in exactly the bytes needed, from the highest bit of each byte: `EndOfBody` if there are fewer bytes, `RemainingBytes` if there are more
 abbrev pub bits_in : ℕ → List ℕ → Reading (List Bool)
 bits_in n value =
     if nat_lt (length value) ((n + 7) / 8) then Err EndOfBody
@@ -34,11 +34,11 @@ numeric (Some t) = is_numeric t
 unfoldable pub is_numeric_number : ℕ → Bool
 is_numeric_number n = numeric (find (λ t. column_type_number t == n) column_types)
 
--- how many columns are numeric, by the types that the table map has for them
+-- the number of numeric columns, by the type bytes in the table map
 abbrev pub numeric_count : List ℕ → ℕ
 numeric_count columns = count_by is_numeric_number columns
 
--- The value of a field. Of a default charset it is the charset, and the bytes of the pairs that follow it; of lists their bytes.
+-- The value of a field. That of a default charset is the charset and the bytes of the pairs after it; that of a list is its bytes.
 pub data Field : Type 0 where
   signedness : List Bool → Field
   default_charset : ℕ × List ℕ → Field
@@ -54,10 +54,10 @@ pub data Field : Type 0 where
   column_visibility : List Bool → Field
   dimensionality : List ℕ → Field
 
--- the value of a field of this type, in a table of columns of these types
+-- the value of a field of this type, in a table whose columns have these type bytes
 abbrev pub field_of : List ℕ → OptionalMetadataFieldType → List ℕ → Reading Field
 field_of columns SIGNEDNESS value = bits_in (numeric_count columns) value >>= λ bits. Ok (signedness bits)
-field_of columns DEFAULT_CHARSET value = number_at value >>= λ charset. Ok (default_charset charset)
+field_of columns DEFAULT_CHARSET value = lenenc_at value >>= λ charset. Ok (default_charset charset)
 field_of columns COLUMN_CHARSET value = Ok (column_charset value)
 field_of columns COLUMN_NAME value = Ok (column_name value)
 field_of columns SET_STR_VALUE value = Ok (set_str_value value)
@@ -65,7 +65,7 @@ field_of columns ENUM_STR_VALUE value = Ok (enum_str_value value)
 field_of columns GEOMETRY_TYPE value = Ok (geometry_types value)
 field_of columns SIMPLE_PRIMARY_KEY value = Ok (simple_primary_key value)
 field_of columns PRIMARY_KEY_WITH_PREFIX value = Ok (primary_key_with_prefix value)
-field_of columns ENUM_AND_SET_DEFAULT_CHARSET value = number_at value >>= λ charset. Ok (enum_and_set_default_charset charset)
+field_of columns ENUM_AND_SET_DEFAULT_CHARSET value = lenenc_at value >>= λ charset. Ok (enum_and_set_default_charset charset)
 field_of columns ENUM_AND_SET_COLUMN_CHARSET value = Ok (enum_and_set_column_charset value)
 field_of columns COLUMN_VISIBILITY value = bits_in (length columns) value >>= λ bits. Ok (column_visibility bits)
 field_of columns VECTOR_DIMENSIONALITY value = Ok (dimensionality value)
@@ -74,17 +74,17 @@ field_of columns VECTOR_DIMENSIONALITY value = Ok (dimensionality value)
 abbrev pub field_in : List ℕ → ℕ → List ℕ → Reading Field
 field_in columns number value = field_type number >>= λ t. field_of columns t value
 
--- the form of a field: the number of its type, and the value as a length-encoded string
-abbrev pub ByteItself : ByteForm ℕ
+-- the encoding of a field: the number of its type, and its value as a length-encoded string
+abbrev pub ByteItself : Encoding ℕ
 ByteItself v bytes rest = bytes ≡ v ∷ []
 
-abbrev pub FieldForm : ByteForm (ℕ × List ℕ)
-FieldForm = Both ByteItself StringForm
+abbrev pub FieldEncoding : Encoding (ℕ × List ℕ)
+FieldEncoding = Both ByteItself StringEncoding
 
--- the number of a type and a value at the front, and what follows them; this computes what `FieldForm` says, as the law `entries_are_read` has it
+-- the type number and the value that bytes begin with, and the bytes after them; this computes what `FieldEncoding` states, as the law `entries_are_read` says
 abbrev pub tagged_at : List ℕ → Reading ((ℕ × List ℕ) × List ℕ)
 tagged_at bytes = do
-  tag ← front 1 bytes
+  tag ← split_at 1 bytes
   value ← string_at tag.1
   Ok ((slice_index tag.0 0, value.0), value.1)
 

@@ -1,15 +1,15 @@
--- What the lists of the code stand for: the items that their iterators have left.
+-- The specification's values for the crate's lists: the items that their iterators have yet to return.
 use Rattle.std.specs.Prelude.{◌≡◌, ◌⊎◌, ◌-◌, ℕ, suc, ◌%◌, Bool, List, [], ◌∷◌, map, Option, Some, None, option_map}
 use Rattle.std.specs.declared.result.Result.{Result}
 use Rattle.std.specs.declared.result.Result.TheVariants.{Ok, Err}
 use Rattle.std.specs.Iterator.{YieldsFirstBy}
-use Rattle.wire_forms.specs.RawTexts.{text_of}
+use Rattle.wire_forms.specs.RawTexts.{raw_string}
 use Rattle.wire_consts.specs.declared.geometry_type.GeometryType.{GeometryType}
 use Rattle.rows_values.specs.BitLists.{bit_of, len_of}
 use Rattle.rows_values.specs.declared.bits.Bits.{Bits}
 use Rattle.rows_times.specs.declared.fault.RowsError.{RowsError}
 use Rattle.rows_times.specs.declared.fault.RowsError.TheVariants.{Memory}
-use Rattle.rows_times.specs.Readings.{Reading, ◌>>=◌, shown}
+use Rattle.rows_times.specs.Readings.{Reading, ◌>>=◌, map_reading}
 use Rattle.rows_optional.specs.declared.entries.Entries.{Entries}
 use Rattle.rows_optional.specs.declared.charsets.DefaultCharset.{DefaultCharset}
 use Rattle.rows_optional.specs.declared.charsets.NonDefaultCharset.{NonDefaultCharset}
@@ -36,9 +36,9 @@ use Rattle.rows_optional.specs.declared.field.OptionalMetadataField.{OptionalMet
 use Rattle.rows_optional.specs.declared.field.OptionalMetadataField.TheVariants as made
 use Rattle.rows_optional.specs.declared.field.OptionalMetadataIter.{OptionalMetadataIter}
 use Rattle.rows_optional.specs.declared.extractor.OptionalMetaExtractor.{OptionalMetaExtractor}
-use Rattle.rows_optional.specs.declared.served.IterSignedness.{IterSignedness}
-use Rattle.rows_optional.specs.declared.served.KeyIndexes.{KeyIndexes}
-use Rattle.rows_optional.specs.declared.served.IterPrimaryKey.{IterPrimaryKey}
+use Rattle.rows_optional.specs.declared.columns_iter.IterSignedness.{IterSignedness}
+use Rattle.rows_optional.specs.declared.columns_iter.KeyIndexes.{KeyIndexes}
+use Rattle.rows_optional.specs.declared.columns_iter.IterPrimaryKey.{IterPrimaryKey}
 use Rattle.rows_optional.specs.declared.served_charsets.NextEntry.{NextEntry}
 use Rattle.rows_optional.specs.declared.served_charsets.NextEntry.TheVariants as entry
 use Rattle.rows_optional.specs.declared.served_charsets.CharsetEntries.{CharsetEntries}
@@ -50,15 +50,15 @@ use Rattle.rows_optional.specs.Members.{members}
 use Rattle.rows_optional.specs.Extracted.{Extracted}
 use Rattle.rows_optional.specs.Served.{CharsetEntry, of_column, plain, chained, pair_entry, charset_after}
 
--- the number of a character set has 16 bits; of a longer one the lowest 16 stay
+-- the number of a character set has 16 bits; only the lowest 16 of a larger one are kept
 abbrev pub charset : ℕ → ℕ
 charset n = n % 65536
 
--- the number of a geometry type has 8 bits
+-- the number of a geometry type has 8 bits; only the lowest 8 of a larger one are kept
 abbrev pub geometry : Reading ℕ → Reading GeometryType
 geometry number = number >>= λ n. geometry_type (n % 256)
 
--- the charset of most columns, and the bytes of those of the others
+-- the default charset, and the bytes of the pairs for columns with another one
 abbrev pub default_charset_view : DefaultCharset → ℕ × List ℕ
 default_charset_view d = (d.default_charset, d.non_default.now)
 
@@ -84,7 +84,7 @@ indexes_view k = k.indexes.now
 abbrev pub keys_view : PrimaryKeysWithPrefix → List ℕ
 keys_view k = k.keys.now
 
--- an index and a charset, an index and the length of a prefix, a name
+-- entries: an index and a charset; an index and the length of a prefix; a name
 abbrev pub non_default_view : NonDefaultCharset → ℕ × ℕ
 non_default_view c = (c.column_index, c.charset)
 
@@ -92,32 +92,32 @@ abbrev pub key_view : PrimaryKeyWithPrefix → ℕ × ℕ
 key_view k = (k.column_index, k.prefix_length)
 
 abbrev pub name_view : ColumnName → List ℕ
-name_view n = text_of n.name
+name_view n = raw_string n.name
 
--- the items that are left
-abbrev pub bytes_left : Entries → List ℕ
-bytes_left e = e.bytes.now
+-- the remaining items
+abbrev pub remaining_list : Entries → List ℕ
+remaining_list e = e.bytes.now
 
 abbrev pub non_default_left : IterNonDefault → List (Reading (ℕ × ℕ))
-non_default_left it = pairs (bytes_left it.entries)
+non_default_left it = pairs (remaining_list it.entries)
 
-abbrev pub charsets_left : IterCharsets → List (Reading ℕ)
-charsets_left it = map (shown charset) (numbers (bytes_left it.entries))
+abbrev pub remaining_charsets : IterCharsets → List (Reading ℕ)
+remaining_charsets it = map (map_reading charset) (numbers (remaining_list it.entries))
 
-abbrev pub names_left : IterNames → List (Reading (List ℕ))
-names_left it = strings (bytes_left it.entries)
+abbrev pub remaining_names : IterNames → List (Reading (List ℕ))
+remaining_names it = strings (remaining_list it.entries)
 
 abbrev pub geometry_types_left : IterGeometryTypes → List (Reading GeometryType)
-geometry_types_left it = map geometry (numbers (bytes_left it.entries))
+geometry_types_left it = map geometry (numbers (remaining_list it.entries))
 
 abbrev pub dimensionalities_left : IterVectorDimensionalities → List (Reading ℕ)
-dimensionalities_left it = numbers (bytes_left it.entries)
+dimensionalities_left it = numbers (remaining_list it.entries)
 
 abbrev pub indexes_left : IterIndexes → List (Reading ℕ)
-indexes_left it = numbers (bytes_left it.entries)
+indexes_left it = numbers (remaining_list it.entries)
 
-abbrev pub keys_left : IterKeys → List (Reading (ℕ × ℕ))
-keys_left it = pairs (bytes_left it.entries)
+abbrev pub remaining_keys : IterKeys → List (Reading (ℕ × ℕ))
+remaining_keys it = pairs (remaining_list it.entries)
 
 -- the bits, in order
 abbrev pub bits_view : Bits → List Bool
@@ -139,23 +139,23 @@ field_view (made.ColumnVisibility b) = column_visibility (bits_view b)
 field_view (made.Dimensionality v) = dimensionality v.dimensionalities.now
 
 abbrev pub fields_left : OptionalMetadataIter → List (Reading Field)
-fields_left it = map (read_field it.columns.now) (tagged (bytes_left it.entries))
+fields_left it = map (read_field it.columns.now) (tagged (remaining_list it.entries))
 
 -- the strings of a column's members
 abbrev pub value_view : StrValue → List ℕ
-value_view v = text_of v.value
+value_view v = raw_string v.value
 
 abbrev pub values_view : StrValues → List (List ℕ)
 values_view v = map value_view v.values.items
 
-abbrev pub members_left : IterStrValues → List (Reading (List (List ℕ)))
-members_left it = members it.bytes.now
+abbrev pub remaining_members : IterStrValues → List (Reading (List (List ℕ)))
+remaining_members it = members it.bytes.now
 
--- the members of the next column are given, or a fault, which is the last; or memory was refused, which is the last too
-abbrev pub GivesMembers : IterStrValues → Option (Result StrValues RowsError) → IterStrValues → Type 0
-GivesMembers it item after = YieldsFirstBy (shown values_view) members_left it item after ⊎ ((item ≡ Some (Err Memory)) × (members_left after ≡ []))
+-- the members of the next column are returned, or an error, which is the last item; or the call is out of memory, which is the last item too
+abbrev pub ReturnsMembers : IterStrValues → Option (Result StrValues RowsError) → IterStrValues → Type 0
+ReturnsMembers it item after = YieldsFirstBy (map_reading values_view) remaining_members it item after ⊎ ((item ≡ Some (Err Memory)) × (remaining_members after ≡ []))
 
--- what columns take
+-- what the columns use
 abbrev pub extracted_view : OptionalMetaExtractor → Extracted
 extracted_view e = record {
   signs = option_map bits_view e.signedness;
@@ -171,35 +171,35 @@ extracted_view e = record {
 abbrev pub signs_left : IterSignedness → List Bool
 signs_left it = bits_from (bit_of it.bits) it.next (len_of it.bits - it.next)
 
--- the item that was read ahead, if there is one, and those behind it
+-- the item that was read ahead, if any, and the items after it
 abbrev pub ahead_of : {A : Type 0} → Option A → List A → List A
 ahead_of None items = []
 ahead_of (Some x) items = x ∷ items
 
 abbrev pub key_indexes_left : KeyIndexes → List (Reading ℕ)
-key_indexes_left k = chained (indexes_left k.simple) (map (shown (λ (key : ℕ × ℕ). key.0)) (keys_left k.prefixed))
+key_indexes_left k = chained (indexes_left k.simple) (map (map_reading (λ (key : ℕ × ℕ). key.0)) (remaining_keys k.prefixed))
 
 abbrev pub primary_key_left : IterPrimaryKey → List (Reading ℕ)
-primary_key_left it = ahead_of it.ahead (key_indexes_left it.behind)
+primary_key_left it = ahead_of it.ahead (key_indexes_left it.following)
 
--- the entry that was read ahead, and those behind it
-abbrev pub entry_before : NextEntry → List (Reading CharsetEntry) → List (Reading CharsetEntry)
-entry_before entry.End entries = []
-entry_before (entry.Fault e) entries = Err e ∷ entries
-entry_before (entry.OfColumn j c) entries = Ok (of_column j c) ∷ entries
-entry_before (entry.Plain c) entries = Ok (plain c) ∷ entries
+-- the entry that was read ahead, and the entries after it
+abbrev pub prepend_entry : NextEntry → List (Reading CharsetEntry) → List (Reading CharsetEntry)
+prepend_entry entry.End entries = []
+prepend_entry (entry.Fault e) entries = Err e ∷ entries
+prepend_entry (entry.OfColumn j c) entries = Ok (of_column j c) ∷ entries
+prepend_entry (entry.Plain c) entries = Ok (plain c) ∷ entries
 
 abbrev pub entries_left : CharsetEntries → List (Reading CharsetEntry)
-entries_left e = chained (map (shown pair_entry) (non_default_left e.indexed)) (map (shown plain) (charsets_left e.each))
+entries_left e = chained (map (map_reading pair_entry) (non_default_left e.indexed)) (map (map_reading plain) (remaining_charsets e.each))
 
--- the charset of the column that comes k columns after the next one
+-- the charset of the column that is k columns after the next one
 abbrev pub charset_left : IterCharset → ℕ → Option (Reading ℕ)
-charset_left it k = charset_after it.default (entry_before it.ahead (entries_left it.behind)) it.index k
+charset_left it k = charset_after it.default (prepend_entry it.ahead (entries_left it.following)) it.index k
 
--- one step over charsets: the first is given, and the others are left
-abbrev pub TakesCharset : IterCharset → Option (Reading ℕ) → IterCharset → Type 0
-TakesCharset it item after = (item ≡ charset_left it 0) × ((k : ℕ) → charset_left after k ≡ charset_left it (suc k))
+-- one step over charsets: the first is returned, and the others remain
+abbrev pub ReturnsCharset : IterCharset → Option (Reading ℕ) → IterCharset → Type 0
+ReturnsCharset it item after = (item ≡ charset_left it 0) × ((k : ℕ) → charset_left after k ≡ charset_left it (suc k))
 
--- the charsets of all columns are still to come
-abbrev pub GivesCharsets : IterCharset → (ℕ → Option (Reading ℕ)) → Type 0
-GivesCharsets it item = (k : ℕ) → charset_left it k ≡ item k
+-- the charsets of all columns remain
+abbrev pub IteratesCharsets : IterCharset → (ℕ → Option (Reading ℕ)) → Type 0
+IteratesCharsets it item = (k : ℕ) → charset_left it k ≡ item k

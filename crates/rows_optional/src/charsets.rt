@@ -1,15 +1,15 @@
-//! The character sets of columns: of character columns, or of `ENUM` and `SET` columns.
+//! The character sets of character columns, and of `ENUM` and `SET` columns.
 
 ghost use Rattle.std.specs.Prelude.{◌≡◌, ◌%◌, ℕ, List, [], map, Err};
 ghost use Rattle.std.specs.Iterator.{YieldsFirst, YieldsFirstBy, item_count};
 ghost use Rattle.wire_forms.specs.Texts.{IsAll};
-ghost use Rattle.rows_times.specs.Readings.{shown};
-ghost use Rattle.rows_optional.specs.Entries.{PairForm, number_at, pair_at};
-ghost use Rattle.rows_optional.specs.FieldSpellings.{DefaultForm, all_spelling, pair_spelling, default_spelling};
+ghost use Rattle.rows_times.specs.Readings.{map_reading};
+ghost use Rattle.rows_optional.specs.Entries.{PairEncoding, lenenc_at, pair_at};
+ghost use Rattle.rows_optional.specs.FieldEncodings.{DefaultEncoding, all_encoded, pair_encoded, default_encoded};
 ghost use Rattle.rows_optional.specs.Lists.{numbers, pairs};
-ghost use Rattle.rows_optional.specs.MetadataViews.{charset as charset_of, default_charset_view, charsets_view, non_default_view, non_default_left, charsets_left};
+ghost use Rattle.rows_optional.specs.MetadataViews.{charset as charset_of, default_charset_view, charsets_view, non_default_view, non_default_left, remaining_charsets};
 
-use crate::entries::{Entries, number_front};
+use crate::entries::{Entries, split_number};
 use crate::reading::{take_all, take_pair};
 use crate::writing::{put_all, put_pair};
 use rows_times::RowsError;
@@ -19,8 +19,8 @@ use wire_buf::{AnySize, Inner, MyDeserialize, MySerialize, ParseBuf, WireFault};
 use wire_forms::{EofBytes, RawBytes};
 use wire_ints::{LenEnc, RawInt};
 
-/// The character set of most columns, and those of the others: of character columns in the field
-/// `DEFAULT_CHARSET`, of `ENUM` and `SET` columns in `ENUM_AND_SET_DEFAULT_CHARSET`.
+/// A default character set, and the columns with another one: of character columns in the field `DEFAULT_CHARSET`, of `ENUM` and
+/// `SET` columns in `ENUM_AND_SET_DEFAULT_CHARSET`.
 #[derive(Clone, Copy, PartialEq, Eq)]
 pub struct DefaultCharset<'a> {
     default_charset: u64,
@@ -28,29 +28,27 @@ pub struct DefaultCharset<'a> {
 }
 
 impl<'a> DefaultCharset<'a> {
-    /// The character sets in the value of a field: a length-encoded integer, and then pairs of them, a column's
-    /// index and its character set. `EndOfBody` or `UnknownNumber` where no number stands at the front; the
-    /// pairs aren't looked at.
+    /// Reads the value of a field: a length-encoded integer, and then pairs of a column's index and its character set. The pairs
+    /// aren't checked. Returns `EndOfBody` or `UnknownNumber` if the value doesn't begin with an integer.
     pub(crate) fn of_value(value: &'a [u8]) -> Result<DefaultCharset<'a>, RowsError>
-        ensures { shown default_charset_view result ≡ number_at value.entry.now }
+        ensures { map_reading default_charset_view result ≡ lenenc_at value.entry.now }
     {
-        let (default_charset, non_default) = number_front(value)?;
+        let (default_charset, non_default) = split_number(value)?;
         Ok(DefaultCharset {
             default_charset,
             non_default,
         })
     }
 
-    /// The character set of the columns that have none of their own. Of a number past 16 bits it is the lowest
-    /// 16.
+    /// Returns the character set of the columns that have none of their own. Only the lowest 16 bits of a larger number are kept.
     pub fn default_charset(&self) -> u16
         ensures { result ≡ charset_of self.now.default_charset }
     {
         (self.default_charset % 65_536) as u16
     }
 
-    /// The columns whose character set isn't the default one. An index counts the columns of the field's kind
-    /// alone, in the table's order.
+    /// Iterates over the columns whose character set isn't the default. Their indexes count only columns of the field's kind, in
+    /// the table's order.
     pub fn iter_non_default(&self) -> IterNonDefault<'a>
         ensures { non_default_left result ≡ pairs self.now.non_default.now }
     {
@@ -60,7 +58,7 @@ impl<'a> DefaultCharset<'a> {
     }
 }
 
-/// The column of an index and its character set.
+/// A column's index and its character set.
 #[derive(Clone, Copy, PartialEq, Eq)]
 pub struct NonDefaultCharset {
     column_index: u64,
@@ -68,7 +66,7 @@ pub struct NonDefaultCharset {
 }
 
 impl NonDefaultCharset {
-    /// This character set for the column of this index.
+    /// Creates an entry for the column of this index.
     pub fn new(column_index: u64, charset: u16) -> NonDefaultCharset
         ensures { non_default_view result ≡ (column_index, charset) }
     {
@@ -78,14 +76,14 @@ impl NonDefaultCharset {
         }
     }
 
-    /// The column's index, among the columns of the field's kind.
+    /// Returns the column's index among the columns of the field's kind.
     pub fn column_index(&self) -> u64
         ensures { result ≡ self.now.column_index }
     {
         self.column_index
     }
 
-    /// The column's character set. Of a number past 16 bits it is the lowest 16.
+    /// Returns the column's character set. Only the lowest 16 bits of a larger number are kept.
     pub fn charset(&self) -> u16
         ensures { result ≡ charset_of self.now.charset }
     {
@@ -93,7 +91,7 @@ impl NonDefaultCharset {
     }
 }
 
-/// The entries of [`DefaultCharset::iter_non_default`]. One that can't be read is the last.
+/// The entries of [`DefaultCharset::iter_non_default`]. An entry that can't be read is the last item.
 #[derive(Clone, Copy)]
 pub struct IterNonDefault<'a> {
     entries: Entries<'a>,
@@ -102,7 +100,7 @@ pub struct IterNonDefault<'a> {
 impl<'a> Iterator for IterNonDefault<'a> {
     type Item = Result<NonDefaultCharset, RowsError>;
 
-    ghost next_gives = { YieldsFirstBy (shown non_default_view) non_default_left };
+    ghost next_gives = { YieldsFirstBy (map_reading non_default_view) non_default_left };
 
     ghost remaining = { item_count non_default_left };
 
@@ -126,14 +124,14 @@ pub struct ColumnCharsets<'a> {
 }
 
 impl<'a> ColumnCharsets<'a> {
-    /// The character sets in the value of a field: length-encoded integers.
+    /// Wraps the value of a field: length-encoded integers.
     pub(crate) fn of_value(value: &'a [u8]) -> ColumnCharsets<'a>
         ensures { result.charsets ≡ value.entry }
     {
         ColumnCharsets { charsets: value }
     }
 
-    /// The pairs that a field without a default has: none.
+    /// Returns no pairs, for a field that is missing.
     pub(crate) fn no_pairs() -> IterNonDefault<'a>
         ensures { non_default_left result ≡ pairs [] }
     {
@@ -142,9 +140,9 @@ impl<'a> ColumnCharsets<'a> {
         }
     }
 
-    /// The character sets, in the order of the columns.
+    /// Iterates over the character sets, in the order of the columns.
     pub fn iter_charsets(&self) -> IterCharsets<'a>
-        ensures { charsets_left result ≡ map (shown charset_of) (numbers self.now.charsets.now) }
+        ensures { remaining_charsets result ≡ map (map_reading charset_of) (numbers self.now.charsets.now) }
     {
         IterCharsets {
             entries: Entries::of(self.charsets),
@@ -152,8 +150,8 @@ impl<'a> ColumnCharsets<'a> {
     }
 }
 
-/// The entries of [`ColumnCharsets::iter_charsets`]. Of a number past 16 bits it gives the lowest 16. One that
-/// can't be read is the last.
+/// The entries of [`ColumnCharsets::iter_charsets`]: the lowest 16 bits of each number. An entry that can't be read is the last
+/// item.
 #[derive(Clone, Copy)]
 pub struct IterCharsets<'a> {
     entries: Entries<'a>,
@@ -162,9 +160,9 @@ pub struct IterCharsets<'a> {
 impl<'a> Iterator for IterCharsets<'a> {
     type Item = Result<u16, RowsError>;
 
-    ghost next_gives = { YieldsFirst charsets_left };
+    ghost next_gives = { YieldsFirst remaining_charsets };
 
-    ghost remaining = { item_count charsets_left };
+    ghost remaining = { item_count remaining_charsets };
 
     fn next(&mut self) -> Option<Result<u16, RowsError>> {
         match self.entries.next_number() {
@@ -175,8 +173,8 @@ impl<'a> Iterator for IterCharsets<'a> {
     }
 }
 
-/// The default character set, and then the bytes of the pairs, to the end, which aren't looked at. `EndOfBody`
-/// or `UnknownNumber` where no number stands at the front.
+/// Reads the default character set; the rest of the bytes are the pairs, which aren't checked. Returns `EndOfBody` or
+/// `UnknownNumber` if the bytes don't begin with an integer.
 impl<'de> MyDeserialize<'de> for DefaultCharset<'de> {
     const SIZE: Option<usize> = None;
 
@@ -190,9 +188,9 @@ impl<'de> MyDeserialize<'de> for DefaultCharset<'de> {
 
     ghost view = { default_charset_view };
 
-    ghost spells = { λ ctx. DefaultForm };
+    ghost encodes = { λ ctx. DefaultEncoding };
 
-    ghost refusal = { λ ctx x e. number_at x ≡ Err e };
+    ghost fails_with = { λ ctx x e. lenenc_at x ≡ Err e };
 
     fn deserialize(
         _alloc: Global,
@@ -210,11 +208,11 @@ impl MySerialize for DefaultCharset<'_> {
 
     ghost view = { default_charset_view };
 
-    ghost form = { DefaultForm };
+    ghost encoding = { DefaultEncoding };
 
-    ghost spelling = { default_spelling };
+    ghost encoded = { default_encoded };
 
-    ghost suits = { λ rest. rest ≡ [] };
+    ghost allows_rest = { λ rest. rest ≡ [] };
 
     fn serialize<A: Allocator>(&self, buf: &mut Vec<u8, A>) -> Result<(), WireFault> {
         let pairs = RawBytes::<EofBytes>::new(CowSlice::Borrowed(self.non_default));
@@ -222,8 +220,10 @@ impl MySerialize for DefaultCharset<'_> {
     }
 }
 
-/// A column's index and its character set. The refusals of a length-encoded integer: `EndOfBody` where
-/// bytes are missing, and `UnknownNumber` where one begins with 251 or 255.
+/// Reads a column's index and its character set.
+///
+/// - `EndOfBody`: bytes are missing.
+/// - `UnknownNumber`: a number begins with 251 or 255.
 impl<'de> MyDeserialize<'de> for NonDefaultCharset {
     const SIZE: Option<usize> = None;
 
@@ -237,9 +237,9 @@ impl<'de> MyDeserialize<'de> for NonDefaultCharset {
 
     ghost view = { non_default_view };
 
-    ghost spells = { λ ctx. PairForm };
+    ghost encodes = { λ ctx. PairEncoding };
 
-    ghost refusal = { λ ctx x e. pair_at x ≡ Err e };
+    ghost fails_with = { λ ctx x e. pair_at x ≡ Err e };
 
     fn deserialize(
         _alloc: Global,
@@ -263,9 +263,9 @@ impl MySerialize for NonDefaultCharset {
 
     ghost view = { non_default_view };
 
-    ghost form = { PairForm };
+    ghost encoding = { PairEncoding };
 
-    ghost spelling = { pair_spelling };
+    ghost encoded = { pair_encoded };
 
     fn serialize<A: Allocator>(&self, buf: &mut Vec<u8, A>) -> Result<(), WireFault> {
         put_pair(self.column_index, self.charset, buf)
@@ -276,7 +276,7 @@ impl Inner for NonDefaultCharset {
     ghost before_any = { λ rest. tt };
 }
 
-/// The character sets, to the end of the bytes. Reading refuses nothing.
+/// Takes all bytes as the list of character sets; reading never fails.
 impl<'de> MyDeserialize<'de> for ColumnCharsets<'de> {
     const SIZE: Option<usize> = None;
 
@@ -290,9 +290,9 @@ impl<'de> MyDeserialize<'de> for ColumnCharsets<'de> {
 
     ghost view = { charsets_view };
 
-    ghost spells = { λ ctx. IsAll };
+    ghost encodes = { λ ctx. IsAll };
 
-    ghost refusal = { λ ctx x e. ⊥ };
+    ghost fails_with = { λ ctx x e. ⊥ };
 
     fn deserialize(
         _alloc: Global,
@@ -310,11 +310,11 @@ impl MySerialize for ColumnCharsets<'_> {
 
     ghost view = { charsets_view };
 
-    ghost form = { IsAll };
+    ghost encoding = { IsAll };
 
-    ghost spelling = { all_spelling };
+    ghost encoded = { all_encoded };
 
-    ghost suits = { λ rest. rest ≡ [] };
+    ghost allows_rest = { λ rest. rest ≡ [] };
 
     fn serialize<A: Allocator>(&self, buf: &mut Vec<u8, A>) -> Result<(), WireFault> {
         put_all(self.charsets, buf)

@@ -1,9 +1,9 @@
-//! The dimensions of vector columns.
+//! The number of dimensions of vector columns.
 
 ghost use Rattle.std.specs.Prelude.{◌≡◌, ℕ, List, []};
 ghost use Rattle.std.specs.Iterator.{YieldsFirst, item_count};
 ghost use Rattle.wire_forms.specs.Texts.{IsAll};
-ghost use Rattle.rows_optional.specs.FieldSpellings.{all_spelling};
+ghost use Rattle.rows_optional.specs.FieldEncodings.{all_encoded};
 ghost use Rattle.rows_optional.specs.Lists.{numbers};
 ghost use Rattle.rows_optional.specs.MetadataViews.{dimensionalities_view, dimensionalities_left};
 
@@ -14,14 +14,14 @@ use rows_times::RowsError;
 use std::alloc::{Allocator, Global};
 use wire_buf::{AnySize, MyDeserialize, MySerialize, ParseBuf, WireFault};
 
-/// How many dimensions each vector column has, in the field `VECTOR_DIMENSIONALITY`.
+/// The number of dimensions of each vector column, in the field `VECTOR_DIMENSIONALITY`.
 #[derive(Clone, Copy, PartialEq, Eq)]
 pub struct VectorDimensionalities<'a> {
     dimensionalities: &'a [u8],
 }
 
 impl<'a> VectorDimensionalities<'a> {
-    /// The dimensions in the value of a field: length-encoded integers.
+    /// Wraps the value of a field: length-encoded integers.
     pub(crate) fn of_value(value: &'a [u8]) -> VectorDimensionalities<'a>
         ensures { result.dimensionalities ≡ value.entry }
     {
@@ -30,7 +30,7 @@ impl<'a> VectorDimensionalities<'a> {
         }
     }
 
-    /// The dimensions, in the order of the vector columns.
+    /// Iterates over the dimensions, in the order of the vector columns.
     pub fn iter_dimensionalities(&self) -> IterVectorDimensionalities<'a>
         ensures { dimensionalities_left result ≡ numbers self.now.dimensionalities.now }
     {
@@ -40,7 +40,7 @@ impl<'a> VectorDimensionalities<'a> {
     }
 }
 
-/// The entries of [`VectorDimensionalities::iter_dimensionalities`]. One that can't be read is the last.
+/// The entries of [`VectorDimensionalities::iter_dimensionalities`]. An entry that can't be read is the last item.
 #[derive(Clone, Copy)]
 pub struct IterVectorDimensionalities<'a> {
     entries: Entries<'a>,
@@ -58,7 +58,7 @@ impl<'a> Iterator for IterVectorDimensionalities<'a> {
     }
 }
 
-/// The dimensions, to the end of the bytes. Reading refuses nothing.
+/// Takes all bytes as the list of dimensions; reading never fails.
 impl<'de> MyDeserialize<'de> for VectorDimensionalities<'de> {
     const SIZE: Option<usize> = None;
 
@@ -72,9 +72,9 @@ impl<'de> MyDeserialize<'de> for VectorDimensionalities<'de> {
 
     ghost view = { dimensionalities_view };
 
-    ghost spells = { λ ctx. IsAll };
+    ghost encodes = { λ ctx. IsAll };
 
-    ghost refusal = { λ ctx x e. ⊥ };
+    ghost fails_with = { λ ctx x e. ⊥ };
 
     fn deserialize(
         _alloc: Global,
@@ -92,11 +92,11 @@ impl MySerialize for VectorDimensionalities<'_> {
 
     ghost view = { dimensionalities_view };
 
-    ghost form = { IsAll };
+    ghost encoding = { IsAll };
 
-    ghost spelling = { all_spelling };
+    ghost encoded = { all_encoded };
 
-    ghost suits = { λ rest. rest ≡ [] };
+    ghost allows_rest = { λ rest. rest ≡ [] };
 
     fn serialize<A: Allocator>(&self, buf: &mut Vec<u8, A>) -> Result<(), WireFault> {
         put_all(self.dimensionalities, buf)

@@ -1,23 +1,23 @@
-//! What the columns of a table take from its optional metadata.
+//! What the columns of a table use from its optional metadata.
 
 ghost use Rattle.std.specs.Prelude.{◌≡◌};
-ghost use Rattle.rows_times.specs.Readings.{shown};
+ghost use Rattle.rows_times.specs.Readings.{map_reading};
 ghost use Rattle.rows_optional.specs.Lists.{strings};
 ghost use Rattle.rows_optional.specs.Extracted.{extracted, with_field, nothing};
 ghost use Rattle.rows_optional.specs.Served.{bytes_or_none, key_indexes, charset_item, signs_or_none};
-ghost use Rattle.rows_optional.specs.MetadataViews.{field_view, fields_left, extracted_view, names_left, names_view, signs_left, primary_key_left, GivesCharsets};
+ghost use Rattle.rows_optional.specs.MetadataViews.{field_view, fields_left, extracted_view, remaining_names, names_view, signs_left, primary_key_left, IteratesCharsets};
 
 use crate::charsets::{ColumnCharsets, DefaultCharset};
+use crate::columns_iter::{IterPrimaryKey, IterSignedness};
 use crate::field::{OptionalMetadataField, OptionalMetadataIter};
 use crate::names::{ColumnNames, IterNames};
 use crate::primary_keys::{PrimaryKeysWithPrefix, SimplePrimaryKey};
-use crate::served::{IterPrimaryKey, IterSignedness};
 use crate::served_charsets::IterCharset;
 use rows_times::RowsError;
 use rows_values::Bits;
 
-/// The fields of the optional metadata from which columns take something. Of two fields of one type it has the
-/// later. What a list holds isn't looked at before a column asks for it.
+/// The optional metadata that columns use. Of two fields of the same type the later one counts. The contents of a list aren't
+/// checked before a column asks for its entry.
 #[derive(Clone, Copy)]
 pub struct OptionalMetaExtractor<'a> {
     signedness: Option<Bits<'a>>,
@@ -31,10 +31,10 @@ pub struct OptionalMetaExtractor<'a> {
 }
 
 impl<'a> OptionalMetaExtractor<'a> {
-    /// What these fields give, or the fault of the first that can't be read: bytes that are no field, a type that
-    /// no field has, bits in too few or too many bytes, a default character set that is no number.
+    /// Collects these fields. Returns the error of the first field that can't be read: bytes that aren't a field, an unknown
+    /// type, bits in too few or too many bytes, or a default character set that isn't a number.
     pub fn new(fields: OptionalMetadataIter<'a>) -> Result<OptionalMetaExtractor<'a>, RowsError>
-        ensures { shown extracted_view result ≡ extracted (fields_left fields.entry) }
+        ensures { map_reading extracted_view result ≡ extracted (fields_left fields.entry) }
     {
         let mut found = OptionalMetaExtractor::of_nothing();
         for field in fields {
@@ -46,7 +46,7 @@ impl<'a> OptionalMetaExtractor<'a> {
         Ok(found)
     }
 
-    /// What no fields give.
+    /// Returns the result for no fields.
     fn of_nothing() -> OptionalMetaExtractor<'a>
         ensures { extracted_view result ≡ nothing }
     {
@@ -62,7 +62,7 @@ impl<'a> OptionalMetaExtractor<'a> {
         }
     }
 
-    /// Takes one more field.
+    /// Adds one more field.
     fn take(&mut self, field: OptionalMetadataField<'a>)
         ensures { extracted_view self.new ≡ with_field (extracted_view self.old) (field_view field.entry) }
     {
@@ -89,7 +89,7 @@ impl<'a> OptionalMetaExtractor<'a> {
         }
     }
 
-    /// For each numeric column, in order, whether it is unsigned. Nothing where the table map has no signs.
+    /// Iterates over the numeric columns in order: whether each is unsigned. Empty if the table map has no signedness field.
     pub fn iter_signedness(&self) -> IterSignedness<'a>
         ensures { signs_left result ≡ signs_or_none (extracted_view self.now).signs }
     {
@@ -99,18 +99,18 @@ impl<'a> OptionalMetaExtractor<'a> {
         }
     }
 
-    /// The character set of each character column, in order. With a default one it never ends, so it is asked as
-    /// often as there are columns; without any it gives nothing.
+    /// Iterates over the character sets of the character columns, in order. With a default character set it never ends, so call
+    /// it once for each column; without any character sets it is empty.
     pub fn iter_charset(&self) -> IterCharset<'a>
-        ensures { GivesCharsets result (charset_item (extracted_view self.now).charset (extracted_view self.now).charsets) }
+        ensures { IteratesCharsets result (charset_item (extracted_view self.now).charset (extracted_view self.now).charsets) }
     {
         IterCharset::of(self.default_charset, self.column_charset)
     }
 
-    /// The character set of each `ENUM` and `SET` column, in order. With a default one it never ends, so it is
-    /// asked as often as there are columns; without any it gives nothing.
+    /// Iterates over the character sets of the `ENUM` and `SET` columns, in order. With a default character set it never ends, so
+    /// call it once for each column; without any character sets it is empty.
     pub fn iter_enum_and_set_charset(&self) -> IterCharset<'a>
-        ensures { GivesCharsets result (charset_item (extracted_view self.now).enum_charset (extracted_view self.now).enum_charsets) }
+        ensures { IteratesCharsets result (charset_item (extracted_view self.now).enum_charset (extracted_view self.now).enum_charsets) }
     {
         IterCharset::of(
             self.enum_and_set_default_charset,
@@ -118,14 +118,14 @@ impl<'a> OptionalMetaExtractor<'a> {
         )
     }
 
-    /// The indexes of the columns of the primary key: of the whole ones, and then of those with a prefix.
+    /// Iterates over the indexes of the columns in the primary key: first whole columns, then columns with a prefix.
     pub fn iter_primary_key(&self) -> IterPrimaryKey<'a>
         ensures { primary_key_left result ≡ key_indexes (extracted_view self.now).simple_key (extracted_view self.now).prefixed_key }
     {
         IterPrimaryKey::of(self.simple_primary_key, self.primary_key_with_prefix)
     }
 
-    /// The names of the columns, in order. There are none where the table map has no names.
+    /// Returns the names of the columns, in order; none if the table map has no names.
     pub fn column_names(&self) -> ColumnNames<'a>
         ensures { names_view result ≡ bytes_or_none (extracted_view self.now).names }
     {
@@ -135,9 +135,9 @@ impl<'a> OptionalMetaExtractor<'a> {
         }
     }
 
-    /// The names of the columns, in order. Nothing where the table map has no names.
+    /// Iterates over the names of the columns, in order. Empty if the table map has no names.
     pub fn iter_column_name(&self) -> IterNames<'a>
-        ensures { names_left result ≡ strings (bytes_or_none (extracted_view self.now).names) }
+        ensures { remaining_names result ≡ strings (bytes_or_none (extracted_view self.now).names) }
     {
         self.column_names().iter_names()
     }

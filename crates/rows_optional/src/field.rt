@@ -1,8 +1,8 @@
-//! The fields of the optional metadata of a table map.
+//! The fields of a table map's optional metadata.
 
 ghost use Rattle.std.specs.Prelude.{◌≡◌, count_by, length};
 ghost use Rattle.std.specs.Iterator.{YieldsFirstBy, item_count};
-ghost use Rattle.rows_times.specs.Readings.{shown};
+ghost use Rattle.rows_times.specs.Readings.{map_reading};
 ghost use Rattle.rows_optional.specs.KnownConstants.{field_type};
 ghost use Rattle.rows_optional.specs.MetadataFields.{field_of as field_of_type, field_in, fields, bits_in, is_numeric_number, numeric_count};
 ghost use Rattle.rows_optional.specs.MetadataViews.{bits_view, field_view, fields_left};
@@ -19,12 +19,12 @@ use rows_times::RowsError;
 use rows_values::Bits;
 use wire_consts::ColumnType;
 
-/// A field of the optional metadata, borrowed from the table map's bytes.
+/// A field of the optional metadata, borrowed from the table map's bytes. MySQL Internals: Table_map_event.
 #[derive(Clone, Copy, PartialEq, Eq)]
 pub enum OptionalMetadataField<'a> {
     /// For each numeric column, whether it is unsigned.
     Signedness(Bits<'a>),
-    /// The character sets of character columns, by a default one.
+    /// The default character set of character columns, and the columns with another one.
     DefaultCharset(DefaultCharset<'a>),
     /// The character set of each character column.
     ColumnCharset(ColumnCharsets<'a>),
@@ -36,22 +36,22 @@ pub enum OptionalMetadataField<'a> {
     EnumStrValue(EnumsStrValues<'a>),
     /// The type of each geometry column.
     GeometryType(GeometryTypes<'a>),
-    /// The columns of a primary key over whole columns.
+    /// The columns of a primary key without prefixes.
     SimplePrimaryKey(SimplePrimaryKey<'a>),
-    /// The columns of a primary key over prefixes.
+    /// The columns of a primary key with prefixes.
     PrimaryKeyWithPrefix(PrimaryKeysWithPrefix<'a>),
-    /// The character sets of `ENUM` and `SET` columns, by a default one.
+    /// The default character set of `ENUM` and `SET` columns, and the columns with another one.
     EnumAndSetDefaultCharset(DefaultCharset<'a>),
     /// The character set of each `ENUM` and `SET` column.
     EnumAndSetColumnCharset(ColumnCharsets<'a>),
     /// For each column, whether it is visible.
     ColumnVisibility(Bits<'a>),
-    /// How many dimensions each vector column has.
+    /// The number of dimensions of each vector column.
     Dimensionality(VectorDimensionalities<'a>),
 }
 
-/// The fields of the optional metadata that are still to come. A field that can't be read is an error, and the
-/// next ones follow; bytes that can't be taken apart into a type, a length and a value are the last item.
+/// The remaining fields of the optional metadata. A field with an unknown type or an invalid value is an error, and the next
+/// fields follow; bytes that can't be split into a type, a length and a value are the last item.
 #[derive(Clone, Copy)]
 pub struct OptionalMetadataIter<'a> {
     columns: &'a [u8],
@@ -59,8 +59,7 @@ pub struct OptionalMetadataIter<'a> {
 }
 
 impl<'a> OptionalMetadataIter<'a> {
-    /// The fields in these bytes, in a table of columns of these types. A type is the byte that the table map has
-    /// for the column.
+    /// Creates an iterator over the fields in these bytes, for a table whose columns have these type bytes in the table map.
     pub fn new(columns: &'a [u8], bytes: &'a [u8]) -> OptionalMetadataIter<'a>
         ensures { fields_left result ≡ fields columns.entry.now bytes.entry.now }
     {
@@ -74,13 +73,17 @@ impl<'a> OptionalMetadataIter<'a> {
 impl<'a> Iterator for OptionalMetadataIter<'a> {
     type Item = Result<OptionalMetadataField<'a>, RowsError>;
 
-    ghost next_gives = { YieldsFirstBy (shown field_view) fields_left };
+    ghost next_gives = { YieldsFirstBy (map_reading field_view) fields_left };
 
     ghost remaining = { item_count fields_left };
 
-    /// `EndOfBody` where a type, a length or a value isn't whole, and `UnknownNumber` where a length begins with
-    /// 251 or 255: these end the fields. `UnknownNumber` for a type that no field has; `EndOfBody` and
-    /// `RemainingBytes` for bits in too few or too many bytes; for a default character set those of a number.
+    /// Returns the next field, or an error.
+    ///
+    /// - `EndOfBody`: a type, a length or a value is incomplete; this is the last item.
+    /// - `UnknownNumber`: a length begins with 251 or 255; this is the last item.
+    /// - `UnknownNumber`: no field has the type, or a default character set begins with 251 or 255.
+    /// - `EndOfBody`, `RemainingBytes`: there are too few or too many bytes for the bits; `EndOfBody` also if a default character
+    ///   set is incomplete.
     fn next(&mut self) -> Option<Result<OptionalMetadataField<'a>, RowsError>> {
         match self.entries.next_tagged() {
             Some(Ok((number, value))) => Some(field_in(self.columns, number, value)),
@@ -90,13 +93,13 @@ impl<'a> Iterator for OptionalMetadataIter<'a> {
     }
 }
 
-/// The field whose type has this number.
+/// Returns the field whose type has this number.
 fn field_in<'a>(
     columns: &[u8],
     number: u8,
     value: &'a [u8],
 ) -> Result<OptionalMetadataField<'a>, RowsError>
-    ensures { shown field_view result ≡ field_in columns.now number value.now }
+    ensures { map_reading field_view result ≡ field_in columns.now number value.now }
 {
     match type_of(number) {
         Ok(kind) => field_of(columns, kind, value),
@@ -104,7 +107,7 @@ fn field_in<'a>(
     }
 }
 
-/// The type that has the number.
+/// Returns the type with this number.
 fn type_of(number: u8) -> Result<OptionalMetadataFieldType, RowsError>
     ensures { result ≡ field_type number }
 {
@@ -114,13 +117,13 @@ fn type_of(number: u8) -> Result<OptionalMetadataFieldType, RowsError>
     }
 }
 
-/// The field of this type.
+/// Returns the field of this type.
 fn field_of<'a>(
     columns: &[u8],
     kind: OptionalMetadataFieldType,
     value: &'a [u8],
 ) -> Result<OptionalMetadataField<'a>, RowsError>
-    ensures { shown field_view result ≡ field_of_type columns.now kind value.now }
+    ensures { map_reading field_view result ≡ field_of_type columns.now kind value.now }
 {
     Ok(match kind {
         OptionalMetadataFieldType::SIGNEDNESS => {
@@ -165,10 +168,10 @@ fn field_of<'a>(
     })
 }
 
-/// So many bits, in exactly the bytes that hold them, each byte from its highest bit on. `EndOfBody` where there
-/// are fewer bytes, and `RemainingBytes` where there are more.
+/// Returns `len` bits in exactly the bytes needed, from the highest bit of each byte. Returns `EndOfBody` if there are fewer
+/// bytes, `RemainingBytes` if there are more.
 fn bits_of(value: &[u8], len: usize) -> Result<Bits<'_>, RowsError>
-    ensures { shown bits_view result ≡ bits_in len value.now }
+    ensures { map_reading bits_view result ≡ bits_in len value.now }
 {
     let size = len.div_ceil(8);
     if value.len() < size {
@@ -180,14 +183,14 @@ fn bits_of(value: &[u8], len: usize) -> Result<Bits<'_>, RowsError>
     Ok(Bits::highest(value, len))
 }
 
-/// How many of these types are numeric.
+/// Returns how many of these types are numeric.
 fn numeric_columns(columns: &[u8]) -> usize
     ensures { result ≡ numeric_count columns.now }
 {
     columns.iter().filter(|number| is_numeric(**number)).count()
 }
 
-/// Whether the number is that of a numeric type. A number that no type has isn't.
+/// Returns whether the number is that of a numeric type; false for a number that no type has.
 fn is_numeric(number: u8) -> bool
     ensures { result ≡ is_numeric_number number }
 {

@@ -3,7 +3,7 @@
 ghost use Rattle.std.specs.Prelude.{◌≡◌, ◌%◌, ℕ, List, [], map};
 ghost use Rattle.std.specs.Iterator.{YieldsFirst, item_count};
 ghost use Rattle.wire_forms.specs.Texts.{IsAll};
-ghost use Rattle.rows_optional.specs.FieldSpellings.{all_spelling};
+ghost use Rattle.rows_optional.specs.FieldEncodings.{all_encoded};
 ghost use Rattle.rows_optional.specs.KnownConstants.{geometry_type};
 ghost use Rattle.rows_optional.specs.Lists.{numbers};
 ghost use Rattle.rows_optional.specs.MetadataViews.{geometry, geometry_types_view, geometry_types_left};
@@ -23,7 +23,7 @@ pub struct GeometryTypes<'a> {
 }
 
 impl<'a> GeometryTypes<'a> {
-    /// The types in the value of a field: length-encoded integers.
+    /// Wraps the value of a field: length-encoded integers.
     pub(crate) fn of_value(value: &'a [u8]) -> GeometryTypes<'a>
         ensures { result.geometry_types ≡ value.entry }
     {
@@ -32,7 +32,7 @@ impl<'a> GeometryTypes<'a> {
         }
     }
 
-    /// The types, in the order of the geometry columns.
+    /// Iterates over the types, in the order of the geometry columns.
     pub fn iter_geometry_types(&self) -> IterGeometryTypes<'a>
         ensures { geometry_types_left result ≡ map geometry (numbers self.now.geometry_types.now) }
     {
@@ -42,8 +42,8 @@ impl<'a> GeometryTypes<'a> {
     }
 }
 
-/// The entries of [`GeometryTypes::iter_geometry_types`], by the lowest 8 bits of their numbers. A number that
-/// no type has is `UnknownNumber`, and the next entries follow; an entry that can't be read is the last.
+/// The entries of [`GeometryTypes::iter_geometry_types`], by the lowest 8 bits of their numbers. A number that no type has is
+/// `UnknownNumber`, and the next entries follow; an entry that can't be read is the last item.
 #[derive(Clone, Copy)]
 pub struct IterGeometryTypes<'a> {
     entries: Entries<'a>,
@@ -65,7 +65,7 @@ impl<'a> Iterator for IterGeometryTypes<'a> {
     }
 }
 
-/// The type that has the number.
+/// Returns the type with this number.
 fn type_of(number: u8) -> Result<GeometryType, RowsError>
     ensures { result ≡ geometry_type number }
 {
@@ -75,7 +75,7 @@ fn type_of(number: u8) -> Result<GeometryType, RowsError>
     }
 }
 
-/// The types, to the end of the bytes. Reading refuses nothing.
+/// Takes all bytes as the list of types; reading never fails.
 impl<'de> MyDeserialize<'de> for GeometryTypes<'de> {
     const SIZE: Option<usize> = None;
 
@@ -89,9 +89,9 @@ impl<'de> MyDeserialize<'de> for GeometryTypes<'de> {
 
     ghost view = { geometry_types_view };
 
-    ghost spells = { λ ctx. IsAll };
+    ghost encodes = { λ ctx. IsAll };
 
-    ghost refusal = { λ ctx x e. ⊥ };
+    ghost fails_with = { λ ctx x e. ⊥ };
 
     fn deserialize(
         _alloc: Global,
@@ -109,11 +109,11 @@ impl MySerialize for GeometryTypes<'_> {
 
     ghost view = { geometry_types_view };
 
-    ghost form = { IsAll };
+    ghost encoding = { IsAll };
 
-    ghost spelling = { all_spelling };
+    ghost encoded = { all_encoded };
 
-    ghost suits = { λ rest. rest ≡ [] };
+    ghost allows_rest = { λ rest. rest ≡ [] };
 
     fn serialize<A: Allocator>(&self, buf: &mut Vec<u8, A>) -> Result<(), WireFault> {
         put_all(self.geometry_types, buf)

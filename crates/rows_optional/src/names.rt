@@ -5,11 +5,11 @@ ghost use Rattle.std.specs.Cow.{cow_slice_items, cow_str_bytes, IsOwnedSlice};
 ghost use Rattle.std.specs.Iterator.{YieldsFirstBy, item_count};
 ghost use Rattle.std.specs.Str.Lossy.{utf8_lossy};
 ghost use Rattle.wire_forms.specs.Texts.{IsAll};
-ghost use Rattle.rows_times.specs.Readings.{shown};
-ghost use Rattle.rows_optional.specs.Entries.{StringForm, string_at};
-ghost use Rattle.rows_optional.specs.FieldSpellings.{all_spelling, string_spelling};
+ghost use Rattle.rows_times.specs.Readings.{map_reading};
+ghost use Rattle.rows_optional.specs.Entries.{StringEncoding, string_at};
+ghost use Rattle.rows_optional.specs.FieldEncodings.{all_encoded, string_encoded};
 ghost use Rattle.rows_optional.specs.Lists.{strings};
-ghost use Rattle.rows_optional.specs.MetadataViews.{name_view, names_view, names_left};
+ghost use Rattle.rows_optional.specs.MetadataViews.{name_view, names_view, remaining_names};
 
 use crate::entries::Entries;
 use crate::reading::{take_all, take_string};
@@ -28,7 +28,7 @@ pub struct ColumnName<'a> {
 }
 
 impl<'a> ColumnName<'a> {
-    /// A column's name of these bytes.
+    /// Creates a column's name from these bytes.
     pub fn new(name: CowSlice<'a, u8>) -> ColumnName<'a>
         ensures { name_view result ≡ cow_slice_items name.entry }
     {
@@ -37,21 +37,21 @@ impl<'a> ColumnName<'a> {
         }
     }
 
-    /// The bytes of the name.
+    /// Returns the bytes of the name.
     pub fn name_raw(&self) -> &[u8]
         ensures { result.now ≡ name_view self.now }
     {
         self.name.as_bytes()
     }
 
-    /// The name as text, with replacement characters where it isn't UTF-8.
+    /// Returns the name as text, with replacement characters where it isn't UTF-8.
     pub fn name(&self, alloc: Global) -> Result<CowStr<'_>, AllocError>
         ensures { IfOk result (λ t. cow_str_bytes t ≡ utf8_lossy (name_view self.now)) }
     {
         self.name.as_str(alloc)
     }
 
-    /// The same name, borrowed from nothing.
+    /// Returns the same name with bytes of its own.
     pub fn into_owned(self, alloc: Global) -> Result<ColumnName<'static>, AllocError>
         ensures name { IfOk result (λ n. name_view n ≡ name_view self.entry) }
         ensures owned { IfOk result (λ n. IsOwnedSlice n.name.0) }
@@ -69,23 +69,23 @@ pub struct ColumnNames<'a> {
 }
 
 impl<'a> ColumnNames<'a> {
-    /// The names in the value of a field: length-encoded strings.
+    /// Wraps the value of a field: length-encoded strings.
     pub fn of_value(value: &'a [u8]) -> ColumnNames<'a>
         ensures { result.names ≡ value.entry }
     {
         ColumnNames { names: value }
     }
 
-    /// The value of the field: length-encoded strings.
+    /// Returns the value of the field: length-encoded strings.
     pub fn value(&self) -> &'a [u8]
         ensures { result.now ≡ names_view self.now }
     {
         self.names
     }
 
-    /// The names, in the order of the columns.
+    /// Iterates over the names, in the order of the columns.
     pub fn iter_names(&self) -> IterNames<'a>
-        ensures { names_left result ≡ strings (names_view self.now) }
+        ensures { remaining_names result ≡ strings (names_view self.now) }
     {
         IterNames {
             entries: Entries::of(self.names),
@@ -93,7 +93,7 @@ impl<'a> ColumnNames<'a> {
     }
 }
 
-/// The entries of [`ColumnNames::iter_names`], borrowed. One that can't be read is the last.
+/// The entries of [`ColumnNames::iter_names`], borrowed. An entry that can't be read is the last item.
 #[derive(Clone, Copy)]
 pub struct IterNames<'a> {
     entries: Entries<'a>,
@@ -102,9 +102,9 @@ pub struct IterNames<'a> {
 impl<'a> Iterator for IterNames<'a> {
     type Item = Result<ColumnName<'a>, RowsError>;
 
-    ghost next_gives = { YieldsFirstBy (shown name_view) names_left };
+    ghost next_gives = { YieldsFirstBy (map_reading name_view) remaining_names };
 
-    ghost remaining = { item_count names_left };
+    ghost remaining = { item_count remaining_names };
 
     fn next(&mut self) -> Option<Result<ColumnName<'a>, RowsError>> {
         match self.entries.next_string() {
@@ -115,8 +115,10 @@ impl<'a> Iterator for IterNames<'a> {
     }
 }
 
-/// The name, as a length-encoded string. `EndOfBody` where bytes are missing, and `UnknownNumber` where the length
-/// begins with 251 or 255.
+/// Reads the name, a length-encoded string.
+///
+/// - `EndOfBody`: bytes are missing.
+/// - `UnknownNumber`: the length begins with 251 or 255.
 impl<'de> MyDeserialize<'de> for ColumnName<'de> {
     const SIZE: Option<usize> = None;
 
@@ -130,9 +132,9 @@ impl<'de> MyDeserialize<'de> for ColumnName<'de> {
 
     ghost view = { name_view };
 
-    ghost spells = { λ ctx. StringForm };
+    ghost encodes = { λ ctx. StringEncoding };
 
-    ghost refusal = { λ ctx x e. string_at x ≡ Err e };
+    ghost fails_with = { λ ctx x e. string_at x ≡ Err e };
 
     fn deserialize(
         _alloc: Global,
@@ -153,9 +155,9 @@ impl MySerialize for ColumnName<'_> {
 
     ghost view = { name_view };
 
-    ghost form = { StringForm };
+    ghost encoding = { StringEncoding };
 
-    ghost spelling = { string_spelling };
+    ghost encoded = { string_encoded };
 
     fn serialize<A: Allocator>(&self, buf: &mut Vec<u8, A>) -> Result<(), WireFault> {
         self.name.serialize(buf)
@@ -166,7 +168,7 @@ impl Inner for ColumnName<'_> {
     ghost before_any = { λ rest. tt };
 }
 
-/// The names, to the end of the bytes. Reading refuses nothing.
+/// Takes all bytes as the list of names; reading never fails.
 impl<'de> MyDeserialize<'de> for ColumnNames<'de> {
     const SIZE: Option<usize> = None;
 
@@ -180,9 +182,9 @@ impl<'de> MyDeserialize<'de> for ColumnNames<'de> {
 
     ghost view = { names_view };
 
-    ghost spells = { λ ctx. IsAll };
+    ghost encodes = { λ ctx. IsAll };
 
-    ghost refusal = { λ ctx x e. ⊥ };
+    ghost fails_with = { λ ctx x e. ⊥ };
 
     fn deserialize(
         _alloc: Global,
@@ -200,11 +202,11 @@ impl MySerialize for ColumnNames<'_> {
 
     ghost view = { names_view };
 
-    ghost form = { IsAll };
+    ghost encoding = { IsAll };
 
-    ghost spelling = { all_spelling };
+    ghost encoded = { all_encoded };
 
-    ghost suits = { λ rest. rest ≡ [] };
+    ghost allows_rest = { λ rest. rest ≡ [] };
 
     fn serialize<A: Allocator>(&self, buf: &mut Vec<u8, A>) -> Result<(), WireFault> {
         put_all(self.names, buf)

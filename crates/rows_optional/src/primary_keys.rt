@@ -3,11 +3,11 @@
 ghost use Rattle.std.specs.Prelude.{◌≡◌, ℕ, List, [], Err};
 ghost use Rattle.std.specs.Iterator.{YieldsFirst, YieldsFirstBy, item_count};
 ghost use Rattle.wire_forms.specs.Texts.{IsAll};
-ghost use Rattle.rows_times.specs.Readings.{shown};
-ghost use Rattle.rows_optional.specs.Entries.{PairForm, pair_at};
-ghost use Rattle.rows_optional.specs.FieldSpellings.{all_spelling, pair_spelling};
+ghost use Rattle.rows_times.specs.Readings.{map_reading};
+ghost use Rattle.rows_optional.specs.Entries.{PairEncoding, pair_at};
+ghost use Rattle.rows_optional.specs.FieldEncodings.{all_encoded, pair_encoded};
 ghost use Rattle.rows_optional.specs.Lists.{numbers, pairs};
-ghost use Rattle.rows_optional.specs.MetadataViews.{key_view, indexes_view, keys_view, indexes_left, keys_left};
+ghost use Rattle.rows_optional.specs.MetadataViews.{key_view, indexes_view, keys_view, indexes_left, remaining_keys};
 
 use crate::entries::Entries;
 use crate::reading::{take_all, take_pair};
@@ -16,21 +16,21 @@ use rows_times::RowsError;
 use std::alloc::{Allocator, Global};
 use wire_buf::{AnySize, Inner, MyDeserialize, MySerialize, ParseBuf, WireFault};
 
-/// The columns of a primary key over whole columns, in the field `SIMPLE_PRIMARY_KEY`.
+/// The columns of a primary key without prefixes, in the field `SIMPLE_PRIMARY_KEY`.
 #[derive(Clone, Copy, PartialEq, Eq)]
 pub struct SimplePrimaryKey<'a> {
     indexes: &'a [u8],
 }
 
 impl<'a> SimplePrimaryKey<'a> {
-    /// The key in the value of a field: length-encoded integers.
+    /// Wraps the value of a field: length-encoded integers.
     pub(crate) fn of_value(value: &'a [u8]) -> SimplePrimaryKey<'a>
         ensures { result.indexes ≡ value.entry }
     {
         SimplePrimaryKey { indexes: value }
     }
 
-    /// The indexes of the columns in the table, from 0.
+    /// Iterates over the indexes of the columns in the table, from 0.
     pub fn iter_indexes(&self) -> IterIndexes<'a>
         ensures { indexes_left result ≡ numbers self.now.indexes.now }
     {
@@ -40,7 +40,7 @@ impl<'a> SimplePrimaryKey<'a> {
     }
 }
 
-/// The entries of [`SimplePrimaryKey::iter_indexes`]. One that can't be read is the last.
+/// The entries of [`SimplePrimaryKey::iter_indexes`]. An entry that can't be read is the last item.
 #[derive(Clone, Copy)]
 pub struct IterIndexes<'a> {
     entries: Entries<'a>,
@@ -58,23 +58,23 @@ impl<'a> Iterator for IterIndexes<'a> {
     }
 }
 
-/// The columns of a primary key over prefixes of columns, in the field `PRIMARY_KEY_WITH_PREFIX`.
+/// The columns of a primary key with prefixes, in the field `PRIMARY_KEY_WITH_PREFIX`.
 #[derive(Clone, Copy, PartialEq, Eq)]
 pub struct PrimaryKeysWithPrefix<'a> {
     keys: &'a [u8],
 }
 
 impl<'a> PrimaryKeysWithPrefix<'a> {
-    /// The key in the value of a field: pairs of length-encoded integers.
+    /// Wraps the value of a field: pairs of length-encoded integers.
     pub(crate) fn of_value(value: &'a [u8]) -> PrimaryKeysWithPrefix<'a>
         ensures { result.keys ≡ value.entry }
     {
         PrimaryKeysWithPrefix { keys: value }
     }
 
-    /// The columns and the lengths of their prefixes.
+    /// Iterates over the columns and the lengths of their prefixes.
     pub fn iter_keys(&self) -> IterKeys<'a>
-        ensures { keys_left result ≡ pairs self.now.keys.now }
+        ensures { remaining_keys result ≡ pairs self.now.keys.now }
     {
         IterKeys {
             entries: Entries::of(self.keys),
@@ -82,7 +82,7 @@ impl<'a> PrimaryKeysWithPrefix<'a> {
     }
 }
 
-/// The entries of [`PrimaryKeysWithPrefix::iter_keys`]. One that can't be read is the last.
+/// The entries of [`PrimaryKeysWithPrefix::iter_keys`]. An entry that can't be read is the last item.
 #[derive(Clone, Copy)]
 pub struct IterKeys<'a> {
     entries: Entries<'a>,
@@ -91,9 +91,9 @@ pub struct IterKeys<'a> {
 impl<'a> Iterator for IterKeys<'a> {
     type Item = Result<PrimaryKeyWithPrefix, RowsError>;
 
-    ghost next_gives = { YieldsFirstBy (shown key_view) keys_left };
+    ghost next_gives = { YieldsFirstBy (map_reading key_view) remaining_keys };
 
-    ghost remaining = { item_count keys_left };
+    ghost remaining = { item_count remaining_keys };
 
     fn next(&mut self) -> Option<Result<PrimaryKeyWithPrefix, RowsError>> {
         match self.entries.next_pair() {
@@ -106,7 +106,7 @@ impl<'a> Iterator for IterKeys<'a> {
     }
 }
 
-/// A column of a primary key, and how long the prefix is that counts.
+/// A column of a primary key, and the length of its prefix in the key.
 #[derive(Clone, Copy, PartialEq, Eq)]
 pub struct PrimaryKeyWithPrefix {
     column_index: u64,
@@ -114,7 +114,7 @@ pub struct PrimaryKeyWithPrefix {
 }
 
 impl PrimaryKeyWithPrefix {
-    /// The column of this index, with a prefix of this length.
+    /// Creates an entry for the column of this index, with a prefix of this length.
     pub fn new(column_index: u64, prefix_length: u64) -> PrimaryKeyWithPrefix
         ensures { key_view result ≡ (column_index, prefix_length) }
     {
@@ -124,14 +124,14 @@ impl PrimaryKeyWithPrefix {
         }
     }
 
-    /// The column's index in the table, from 0.
+    /// Returns the column's index in the table, from 0.
     pub fn column_index(&self) -> u64
         ensures { result ≡ self.now.column_index }
     {
         self.column_index
     }
 
-    /// The length of the prefix, in bytes of the column's value; 0 where the whole column counts.
+    /// Returns the length of the prefix, in bytes of the column's value; 0 if the whole column is in the key.
     pub fn prefix_length(&self) -> u64
         ensures { result ≡ self.now.prefix_length }
     {
@@ -139,7 +139,7 @@ impl PrimaryKeyWithPrefix {
     }
 }
 
-/// The indexes, to the end of the bytes. Reading refuses nothing.
+/// Takes all bytes as the list of indexes; reading never fails.
 impl<'de> MyDeserialize<'de> for SimplePrimaryKey<'de> {
     const SIZE: Option<usize> = None;
 
@@ -153,9 +153,9 @@ impl<'de> MyDeserialize<'de> for SimplePrimaryKey<'de> {
 
     ghost view = { indexes_view };
 
-    ghost spells = { λ ctx. IsAll };
+    ghost encodes = { λ ctx. IsAll };
 
-    ghost refusal = { λ ctx x e. ⊥ };
+    ghost fails_with = { λ ctx x e. ⊥ };
 
     fn deserialize(
         _alloc: Global,
@@ -173,18 +173,18 @@ impl MySerialize for SimplePrimaryKey<'_> {
 
     ghost view = { indexes_view };
 
-    ghost form = { IsAll };
+    ghost encoding = { IsAll };
 
-    ghost spelling = { all_spelling };
+    ghost encoded = { all_encoded };
 
-    ghost suits = { λ rest. rest ≡ [] };
+    ghost allows_rest = { λ rest. rest ≡ [] };
 
     fn serialize<A: Allocator>(&self, buf: &mut Vec<u8, A>) -> Result<(), WireFault> {
         put_all(self.indexes, buf)
     }
 }
 
-/// The columns and their prefixes, to the end of the bytes. Reading refuses nothing.
+/// Takes all bytes as the list of columns and prefixes; reading never fails.
 impl<'de> MyDeserialize<'de> for PrimaryKeysWithPrefix<'de> {
     const SIZE: Option<usize> = None;
 
@@ -198,9 +198,9 @@ impl<'de> MyDeserialize<'de> for PrimaryKeysWithPrefix<'de> {
 
     ghost view = { keys_view };
 
-    ghost spells = { λ ctx. IsAll };
+    ghost encodes = { λ ctx. IsAll };
 
-    ghost refusal = { λ ctx x e. ⊥ };
+    ghost fails_with = { λ ctx x e. ⊥ };
 
     fn deserialize(
         _alloc: Global,
@@ -218,19 +218,21 @@ impl MySerialize for PrimaryKeysWithPrefix<'_> {
 
     ghost view = { keys_view };
 
-    ghost form = { IsAll };
+    ghost encoding = { IsAll };
 
-    ghost spelling = { all_spelling };
+    ghost encoded = { all_encoded };
 
-    ghost suits = { λ rest. rest ≡ [] };
+    ghost allows_rest = { λ rest. rest ≡ [] };
 
     fn serialize<A: Allocator>(&self, buf: &mut Vec<u8, A>) -> Result<(), WireFault> {
         put_all(self.keys, buf)
     }
 }
 
-/// A column's index and the length of its prefix. The refusals of a length-encoded integer: `EndOfBody` where
-/// bytes are missing, and `UnknownNumber` where one begins with 251 or 255.
+/// Reads a column's index and the length of its prefix.
+///
+/// - `EndOfBody`: bytes are missing.
+/// - `UnknownNumber`: a number begins with 251 or 255.
 impl<'de> MyDeserialize<'de> for PrimaryKeyWithPrefix {
     const SIZE: Option<usize> = None;
 
@@ -244,9 +246,9 @@ impl<'de> MyDeserialize<'de> for PrimaryKeyWithPrefix {
 
     ghost view = { key_view };
 
-    ghost spells = { λ ctx. PairForm };
+    ghost encodes = { λ ctx. PairEncoding };
 
-    ghost refusal = { λ ctx x e. pair_at x ≡ Err e };
+    ghost fails_with = { λ ctx x e. pair_at x ≡ Err e };
 
     fn deserialize(
         _alloc: Global,
@@ -270,9 +272,9 @@ impl MySerialize for PrimaryKeyWithPrefix {
 
     ghost view = { key_view };
 
-    ghost form = { PairForm };
+    ghost encoding = { PairEncoding };
 
-    ghost spelling = { pair_spelling };
+    ghost encoded = { pair_encoded };
 
     fn serialize<A: Allocator>(&self, buf: &mut Vec<u8, A>) -> Result<(), WireFault> {
         put_pair(self.column_index, self.prefix_length, buf)

@@ -1,29 +1,29 @@
-//! The character sets of columns, one after the other.
+//! The character sets of columns, in order.
 
 ghost use Rattle.std.specs.Prelude.{◌≡◌, option_map, map};
 ghost use Rattle.std.specs.Iterator.{endless};
-ghost use Rattle.rows_times.specs.Readings.{shown};
+ghost use Rattle.rows_times.specs.Readings.{map_reading};
 ghost use Rattle.rows_optional.specs.Served.{bytes_or_none, pair_bytes, charset_entries, charset_item, default_item};
 ghost use Rattle.rows_optional.specs.Lists.{numbers, pairs};
-ghost use Rattle.rows_optional.specs.MetadataViews.{charset, default_charset_view, charsets_view, entry_before, entries_left, non_default_left, charsets_left, TakesCharset, GivesCharsets};
+ghost use Rattle.rows_optional.specs.MetadataViews.{charset, default_charset_view, charsets_view, prepend_entry, entries_left, non_default_left, remaining_charsets, ReturnsCharset, IteratesCharsets};
 
 use crate::charsets::{ColumnCharsets, DefaultCharset, IterCharsets, IterNonDefault};
 use rows_times::RowsError;
 
-/// The next entry of those that say character sets.
+/// The next entry with a character set.
 #[derive(Clone, Copy)]
 pub(crate) enum NextEntry {
-    /// All were given.
+    /// No entry remains.
     End,
-    /// It can't be read, and none follows.
+    /// The entry can't be read, and none follows.
     Fault(RowsError),
-    /// The character set of the column of an index.
+    /// The character set of the column with an index.
     OfColumn(u64, u16),
     /// The character set of the next column.
     Plain(u16),
 }
 
-/// The entries that are still to come: those with an index first. A fault is the last.
+/// The remaining entries: those with an index first. An error is the last item.
 #[derive(Clone, Copy)]
 pub(crate) struct CharsetEntries<'a> {
     indexed: IterNonDefault<'a>,
@@ -31,7 +31,7 @@ pub(crate) struct CharsetEntries<'a> {
 }
 
 impl<'a> CharsetEntries<'a> {
-    /// The entries of these fields; a field that isn't there has none.
+    /// Returns the entries of these fields; a missing field has none.
     fn of(
         with_default: Option<DefaultCharset<'a>>,
         each: Option<ColumnCharsets<'a>>,
@@ -44,9 +44,9 @@ impl<'a> CharsetEntries<'a> {
         }
     }
 
-    /// The next entry.
+    /// Returns the next entry.
     fn take_entry(&mut self) -> NextEntry
-        ensures { entries_left self.old ≡ entry_before result (entries_left self.new) }
+        ensures { entries_left self.old ≡ prepend_entry result (entries_left self.new) }
     {
         match self.indexed.next() {
             Some(Ok(entry)) => NextEntry::OfColumn(entry.column_index(), entry.charset()),
@@ -63,7 +63,7 @@ impl<'a> CharsetEntries<'a> {
     }
 }
 
-/// The pairs of a field; a field that isn't there has none.
+/// Returns the pairs of a field; a missing field has none.
 fn indexed_of(with_default: Option<DefaultCharset<'_>>) -> IterNonDefault<'_>
     ensures { non_default_left result ≡ pairs (pair_bytes (option_map default_charset_view with_default.entry)) }
 {
@@ -73,9 +73,9 @@ fn indexed_of(with_default: Option<DefaultCharset<'_>>) -> IterNonDefault<'_>
     }
 }
 
-/// The character sets of a field; a field that isn't there has none.
+/// Returns the character sets of a field; a missing field has none.
 fn each_of(each: Option<ColumnCharsets<'_>>) -> IterCharsets<'_>
-    ensures { charsets_left result ≡ map (shown charset) (numbers (bytes_or_none (option_map charsets_view each.entry))) }
+    ensures { remaining_charsets result ≡ map (map_reading charset) (numbers (bytes_or_none (option_map charsets_view each.entry))) }
 {
     match each {
         Some(charsets) => charsets.iter_charsets(),
@@ -83,39 +83,38 @@ fn each_of(each: Option<ColumnCharsets<'_>>) -> IterCharsets<'_>
     }
 }
 
-/// The character sets of the columns of a kind that are still to come. With a default one it never ends. A
-/// fault is the last.
+/// The character sets of the remaining columns of a kind. With a default character set it never ends. An error is the last item.
 #[derive(Clone, Copy)]
 pub struct IterCharset<'a> {
     default: Option<u16>,
     ahead: NextEntry,
-    behind: CharsetEntries<'a>,
+    following: CharsetEntries<'a>,
     index: u64,
 }
 
 impl<'a> IterCharset<'a> {
-    /// The character sets that these fields give.
+    /// Returns the character sets of these fields.
     pub(crate) fn of(
         with_default: Option<DefaultCharset<'a>>,
         each: Option<ColumnCharsets<'a>>,
     ) -> IterCharset<'a>
-        ensures { GivesCharsets result (charset_item (option_map default_charset_view with_default.entry) (option_map charsets_view each.entry)) }
+        ensures { IteratesCharsets result (charset_item (option_map default_charset_view with_default.entry) (option_map charsets_view each.entry)) }
     {
         let default = match with_default {
             Some(charset) => Some(charset.default_charset()),
             None => None,
         };
-        let mut behind = CharsetEntries::of(with_default, each);
-        let ahead = behind.take_entry();
+        let mut following = CharsetEntries::of(with_default, each);
+        let ahead = following.take_entry();
         IterCharset {
             default,
             ahead,
-            behind,
+            following,
             index: 0,
         }
     }
 
-    /// The default character set, if there is one.
+    /// Returns the default character set, if there is one.
     fn default_charset(&self) -> Option<Result<u16, RowsError>>
         ensures { result ≡ default_item self.now.default }
     {
@@ -129,7 +128,7 @@ impl<'a> IterCharset<'a> {
 impl<'a> Iterator for IterCharset<'a> {
     type Item = Result<u16, RowsError>;
 
-    ghost next_gives = { TakesCharset };
+    ghost next_gives = { ReturnsCharset };
 
     ghost remaining = { λ it. endless };
 
@@ -144,14 +143,14 @@ impl<'a> Iterator for IterCharset<'a> {
                 Some(Err(fault))
             }
             NextEntry::Plain(charset) => {
-                self.ahead = self.behind.take_entry();
+                self.ahead = self.following.take_entry();
                 Some(Ok(charset))
             }
             NextEntry::OfColumn(column, charset) => {
                 if column != index {
                     return self.default_charset();
                 }
-                self.ahead = self.behind.take_entry();
+                self.ahead = self.following.take_entry();
                 Some(Ok(charset))
             }
         }

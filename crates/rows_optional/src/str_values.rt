@@ -8,18 +8,20 @@ ghost use Rattle.wire_buf.specs.Writing.{WritesField};
 ghost use Rattle.wire_buf.specs.declared.fault.WireFault.TheVariants.{Memory as WantOfMemory};
 ghost use Rattle.wire_forms.specs.Texts.{IsAll};
 ghost use Rattle.rows_times.specs.declared.fault.RowsError.TheVariants.{Memory};
-ghost use Rattle.rows_optional.specs.Entries.{StringForm, string_at};
-ghost use Rattle.rows_optional.specs.FieldSpellings.{all_spelling, string_spelling, members_spelling};
-ghost use Rattle.rows_optional.specs.Members.{MembersForm, members, members_at};
-ghost use Rattle.rows_optional.specs.MetadataViews.{value_view, values_view, columns_values_view, members_left, GivesMembers};
+ghost use Rattle.rows_optional.specs.Entries.{StringEncoding, string_at};
+ghost use Rattle.rows_optional.specs.FieldEncodings.{all_encoded, string_encoded, members_encoded};
+ghost use Rattle.rows_optional.specs.Members.{MembersEncoding, members, members_at};
+ghost use Rattle.rows_optional.specs.MetadataViews.{value_view, values_view, columns_values_view, remaining_members, ReturnsMembers};
 
-use crate::entries::{number_front, string_front};
+use crate::entries::{split_number, split_string};
 use crate::reading::{take_all, take_string};
 use crate::writing::put_all;
 use rows_times::RowsError;
 use std::alloc::{AllocError, Allocator, Global};
 use std::borrow::{CowSlice, CowStr};
-use wire_buf::{AnySize, Inner, MyDeserialize, MySerialize, ParseBuf, WireFault, whole_or_none};
+use wire_buf::{
+    AnySize, Inner, MyDeserialize, MySerialize, ParseBuf, WireFault, truncate_on_error,
+};
 use wire_forms::RawBytes;
 use wire_ints::{BufMutExt, LenEnc};
 
@@ -36,7 +38,7 @@ pub type SetStrValue<'a> = StrValue<'a>;
 pub type EnumStrValue<'a> = StrValue<'a>;
 
 impl<'a> StrValue<'a> {
-    /// A member of this name.
+    /// Creates a member with this name.
     pub fn new(value: CowSlice<'a, u8>) -> StrValue<'a>
         ensures { value_view result ≡ cow_slice_items value.entry }
     {
@@ -45,14 +47,14 @@ impl<'a> StrValue<'a> {
         }
     }
 
-    /// The bytes of the name.
+    /// Returns the bytes of the name.
     pub fn value_raw(&self) -> &[u8]
         ensures { result.now ≡ value_view self.now }
     {
         self.value.as_bytes()
     }
 
-    /// The name as text, with replacement characters where it isn't UTF-8.
+    /// Returns the name as text, with replacement characters where it isn't UTF-8.
     pub fn value(&self, alloc: Global) -> Result<CowStr<'_>, AllocError>
         ensures { IfOk result (λ t. cow_str_bytes t ≡ utf8_lossy (value_view self.now)) }
     {
@@ -73,14 +75,14 @@ pub type SetStrValues<'a> = StrValues<'a>;
 pub type EnumStrValues<'a> = StrValues<'a>;
 
 impl<'a> StrValues<'a> {
-    /// How many members there are.
+    /// Returns the number of members.
     pub fn num_variants(&self) -> u64
         ensures { result ≡ length (values_view self.now) }
     {
         self.values.len() as u64
     }
 
-    /// The members, in their order.
+    /// Returns the members, in order.
     pub fn values(&self) -> &[StrValue<'a>]
         ensures { map value_view result.now ≡ values_view self.now }
     {
@@ -88,7 +90,7 @@ impl<'a> StrValues<'a> {
     }
 }
 
-/// The members of each column of a kind, in the fields `SET_STR_VALUE` and `ENUM_STR_VALUE`.
+/// The members of each `ENUM` or each `SET` column, in the fields `ENUM_STR_VALUE` and `SET_STR_VALUE`.
 #[derive(Clone, Copy, PartialEq, Eq)]
 pub struct ColumnsStrValues<'a> {
     values: &'a [u8],
@@ -101,18 +103,17 @@ pub type SetsStrValues<'a> = ColumnsStrValues<'a>;
 pub type EnumsStrValues<'a> = ColumnsStrValues<'a>;
 
 impl<'a> ColumnsStrValues<'a> {
-    /// The members in the value of a field: for each column a count as a length-encoded integer, and that many
-    /// length-encoded strings.
+    /// Wraps the value of a field: for each column a count as a length-encoded integer, and that many length-encoded strings.
     pub(crate) fn of_value(value: &'a [u8]) -> ColumnsStrValues<'a>
         ensures { result.values ≡ value.entry }
     {
         ColumnsStrValues { values: value }
     }
 
-    /// The members of the columns, in the order of the columns. The iterator keeps the allocator for the lists
-    /// that it gives.
+    /// Iterates over the members of each column, in the order of the columns. The iterator keeps the allocator for the lists that
+    /// it returns.
     pub fn iter_values(&self, alloc: Global) -> IterStrValues<'a>
-        ensures { members_left result ≡ members self.now.values.now }
+        ensures { remaining_members result ≡ members self.now.values.now }
     {
         IterStrValues {
             bytes: self.values,
@@ -121,24 +122,24 @@ impl<'a> ColumnsStrValues<'a> {
     }
 }
 
-/// The members of the columns that are still to come. A list grows with the strings that are read, whatever its
-/// count says. A column whose members can't be read is the last item, and so is `Memory`.
+/// The members of the remaining columns. A list grows with the strings that are read, not by its count. A column whose members
+/// can't be read is the last item, and so is `Memory`.
 #[derive(Drop)]
 pub struct IterStrValues<'a> {
     bytes: &'a [u8],
     alloc: Global,
 }
 
-/// The members of `SET` columns that are still to come.
+/// The members of the remaining `SET` columns.
 pub type IterSetStrValues<'a> = IterStrValues<'a>;
 
-/// The members of `ENUM` columns that are still to come.
+/// The members of the remaining `ENUM` columns.
 pub type IterEnumStrValues<'a> = IterStrValues<'a>;
 
 impl<'a> Iterator for IterStrValues<'a> {
     type Item = Result<StrValues<'a>, RowsError>;
 
-    ghost next_gives = { GivesMembers };
+    ghost next_gives = { ReturnsMembers };
 
     ghost remaining = { λ it. at_most (length it.bytes.now) };
 
@@ -146,7 +147,7 @@ impl<'a> Iterator for IterStrValues<'a> {
         if self.bytes.is_empty() {
             return None;
         }
-        match members_front(self.alloc, self.bytes) {
+        match split_members(self.alloc, self.bytes) {
             Ok((values, rest)) => {
                 self.bytes = rest;
                 Some(Ok(values))
@@ -159,17 +160,19 @@ impl<'a> Iterator for IterStrValues<'a> {
     }
 }
 
-/// The members of one column, and what follows them. `Memory` where memory was refused; the refusals of
-/// `number_front` for the count and of `string_front` for a member.
-fn members_front(alloc: Global, bytes: &[u8]) -> Result<(StrValues<'_>, &[u8]), RowsError>
+/// Reads the members of one column; returns them and the bytes after them.
+///
+/// - The errors of `split_number` for the count, and of `split_string` for a member.
+/// - `Memory`: out of memory.
+fn split_members(alloc: Global, bytes: &[u8]) -> Result<(StrValues<'_>, &[u8]), RowsError>
     ensures ok { IfOk result (λ x. members_at bytes.now ≡ Ok (values_view x.0, x.1.now)) }
     ensures less { IfOk result (λ x. length x.1.now < length bytes.now) }
     ensures err { IfErr result (λ e. (e ≡ Memory) ⊎ (members_at bytes.now ≡ Err e)) }
 {
-    let (count, mut rest) = number_front(bytes)?;
+    let (count, mut rest) = split_number(bytes)?;
     let mut values = Vec::new(alloc);
     for _ in 0..count {
-        match string_front(rest) {
+        match split_string(rest) {
             Ok((value, after)) => {
                 values.push(StrValue::new(CowSlice::Borrowed(value)))?;
                 rest = after;
@@ -180,8 +183,10 @@ fn members_front(alloc: Global, bytes: &[u8]) -> Result<(StrValues<'_>, &[u8]), 
     Ok((StrValues { values }, rest))
 }
 
-/// The name, as a length-encoded string. `EndOfBody` where bytes are missing, and `UnknownNumber` where the length
-/// begins with 251 or 255.
+/// Reads the name, a length-encoded string.
+///
+/// - `EndOfBody`: bytes are missing.
+/// - `UnknownNumber`: the length begins with 251 or 255.
 impl<'de> MyDeserialize<'de> for StrValue<'de> {
     const SIZE: Option<usize> = None;
 
@@ -195,9 +200,9 @@ impl<'de> MyDeserialize<'de> for StrValue<'de> {
 
     ghost view = { value_view };
 
-    ghost spells = { λ ctx. StringForm };
+    ghost encodes = { λ ctx. StringEncoding };
 
-    ghost refusal = { λ ctx x e. string_at x ≡ Err e };
+    ghost fails_with = { λ ctx x e. string_at x ≡ Err e };
 
     fn deserialize(
         _alloc: Global,
@@ -218,9 +223,9 @@ impl MySerialize for StrValue<'_> {
 
     ghost view = { value_view };
 
-    ghost form = { StringForm };
+    ghost encoding = { StringEncoding };
 
-    ghost spelling = { string_spelling };
+    ghost encoded = { string_encoded };
 
     fn serialize<A: Allocator>(&self, buf: &mut Vec<u8, A>) -> Result<(), WireFault> {
         self.value.serialize(buf)
@@ -231,8 +236,11 @@ impl Inner for StrValue<'_> {
     ghost before_any = { λ rest. tt };
 }
 
-/// The members of one column: their count as a length-encoded integer, and that many length-encoded strings.
-/// `EndOfBody` and `UnknownNumber` where these can't be read; `Memory` where memory was refused.
+/// Reads the members of one column: their count as a length-encoded integer, and that many length-encoded strings.
+///
+/// - `EndOfBody`: bytes are missing.
+/// - `UnknownNumber`: the count or a length begins with 251 or 255.
+/// - `Memory`: out of memory.
 impl<'de> MyDeserialize<'de> for StrValues<'de> {
     const SIZE: Option<usize> = None;
 
@@ -246,16 +254,16 @@ impl<'de> MyDeserialize<'de> for StrValues<'de> {
 
     ghost view = { values_view };
 
-    ghost spells = { λ ctx. MembersForm };
+    ghost encodes = { λ ctx. MembersEncoding };
 
-    ghost refusal = { λ ctx x e. (e ≡ Memory) ⊎ (members_at x ≡ Err e) };
+    ghost fails_with = { λ ctx x e. (e ≡ Memory) ⊎ (members_at x ≡ Err e) };
 
     fn deserialize(
         alloc: Global,
         _ctx: (),
         buf: &mut ParseBuf<'de>,
     ) -> Result<StrValues<'de>, RowsError> {
-        match members_front(alloc, buf.0) {
+        match split_members(alloc, buf.0) {
             Ok((values, rest)) => {
                 buf.0 = rest;
                 Ok(values)
@@ -272,14 +280,14 @@ impl MySerialize for StrValues<'_> {
 
     ghost view = { values_view };
 
-    ghost form = { MembersForm };
+    ghost encoding = { MembersEncoding };
 
-    ghost spelling = { members_spelling };
+    ghost encoded = { members_encoded };
 
     fn serialize<A: Allocator>(&self, buf: &mut Vec<u8, A>) -> Result<(), WireFault> {
         let start = buf.len();
         let written = append_members(&self.values, buf);
-        whole_or_none(written, start, buf)
+        truncate_on_error(written, start, buf)
     }
 }
 
@@ -287,12 +295,12 @@ impl Inner for StrValues<'_> {
     ghost before_any = { λ rest. tt };
 }
 
-/// Appends the count of the members and their names, or a part of it.
+/// Appends the number of members and their names; on an error it may have appended a part.
 fn append_members<A: Allocator>(
     values: &[StrValue<'_>],
     buf: &mut Vec<u8, A>,
 ) -> Result<(), WireFault>
-    ensures ok { OnOk result (WritesField members_spelling MembersForm (λ rest. ⊤) (map value_view values.now) buf.old.items buf.new.items) }
+    ensures ok { OnOk result (WritesField members_encoded MembersEncoding (λ rest. ⊤) (map value_view values.now) buf.old.items buf.new.items) }
     ensures err { IfErr result (λ e. e ≡ WantOfMemory) }
     ensures kept { take (length buf.old.items) buf.new.items ≡ buf.old.items }
 {
@@ -303,7 +311,7 @@ fn append_members<A: Allocator>(
     Ok(())
 }
 
-/// The members of the columns, to the end of the bytes. Reading refuses nothing.
+/// Takes all bytes as the members of the columns; reading never fails.
 impl<'de> MyDeserialize<'de> for ColumnsStrValues<'de> {
     const SIZE: Option<usize> = None;
 
@@ -317,9 +325,9 @@ impl<'de> MyDeserialize<'de> for ColumnsStrValues<'de> {
 
     ghost view = { columns_values_view };
 
-    ghost spells = { λ ctx. IsAll };
+    ghost encodes = { λ ctx. IsAll };
 
-    ghost refusal = { λ ctx x e. ⊥ };
+    ghost fails_with = { λ ctx x e. ⊥ };
 
     fn deserialize(
         _alloc: Global,
@@ -337,11 +345,11 @@ impl MySerialize for ColumnsStrValues<'_> {
 
     ghost view = { columns_values_view };
 
-    ghost form = { IsAll };
+    ghost encoding = { IsAll };
 
-    ghost spelling = { all_spelling };
+    ghost encoded = { all_encoded };
 
-    ghost suits = { λ rest. rest ≡ [] };
+    ghost allows_rest = { λ rest. rest ≡ [] };
 
     fn serialize<A: Allocator>(&self, buf: &mut Vec<u8, A>) -> Result<(), WireFault> {
         put_all(self.values, buf)

@@ -1,16 +1,16 @@
-//! Bits that stand in bytes.
+//! Bits encoded in bytes.
 
 use rows_values::Bits;
 
-/// Whether the bits are one that is set, one that is not and one that is set, by their places.
-fn are_at_their_places(bits: &Bits<'_>) -> bool {
+/// Whether the bits at their indexes are set, clear and set.
+fn are_at_their_indexes(bits: &Bits<'_>) -> bool {
     bits.get(0) == Some(true)
         && bits.get(1) == Some(false)
         && bits.get(2) == Some(true)
         && bits.get(3).is_none()
 }
 
-/// Whether the bits are the same ones, in order.
+/// Whether the bits are the same, in order.
 fn are_in_order(bits: &Bits<'_>) -> bool {
     let mut left = bits.iter();
     left.next() == Some(true)
@@ -24,15 +24,15 @@ fn bits_both_orders(rt: HostRuntime) {
     let lowest = Bits::lowest(&[0x05], 3);
     let highest = Bits::highest(&[0xa0], 3);
     assert!(rt;
-        are_at_their_places(&lowest)
+        are_at_their_indexes(&lowest)
             && are_in_order(&lowest)
-            && are_at_their_places(&highest)
+            && are_at_their_indexes(&highest)
             && are_in_order(&highest)
     );
     assert!(rt; highest.len() == 3 && !highest.is_empty() && highest.count_ones() == 2);
 }
 
-// The bits that are counted are compared, in whatever order they stand in their bytes; what follows them isn't.
+// Only the bits that are counted are compared, in whichever order their bytes have them; the bits after them aren't.
 #[test]
 fn equal_bits(rt: HostRuntime) {
     let lowest = Bits::lowest(&[0x05], 3);

@@ -7,7 +7,7 @@ use std::rc::RcSlice;
 use std::test::Fail;
 use wire_consts::{ColumnFlags, ColumnType};
 
-/// A column whose names are a letter each, the last with a byte behind it that is no text.
+/// A column whose names are one letter each, the last followed by a byte that isn't UTF-8.
 fn column(alloc: Global) -> Result<Column, AllocError> {
     let column = Column::new(alloc, ColumnType::MYSQL_TYPE_LONG)
         .with_schema(b"s")?
@@ -21,7 +21,7 @@ fn column(alloc: Global) -> Result<Column, AllocError> {
     )
 }
 
-/// Whether each field of the column is the one that it was made with.
+/// Whether each field of the column is the one that was set.
 fn has_its_fields(column: &Column) -> bool {
     column.column_type() == ColumnType::MYSQL_TYPE_LONG
         && column.schema_ref() == b"s".as_slice()
@@ -32,7 +32,7 @@ fn has_its_fields(column: &Column) -> bool {
         && column.character_set() == 45
 }
 
-/// A row of bytes and of a null, at the column.
+/// A row of bytes and a NULL, with the column.
 fn row(alloc: Global) -> Result<Row, Fail> {
     let mut columns = Vec::new(alloc);
     columns.push(column(alloc)?)?;

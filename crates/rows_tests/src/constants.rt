@@ -1,4 +1,4 @@
-//! Conversions of constants into numbers, their order, and named lengths. The numbers of constants are cases of `rows_cases`.
+//! Conversions of constants to numbers, their order, and named lengths. The numbers of constants are cases of `rows_cases`.
 
 use rows_consts::{
     BINLOG_CHECKSUM_ALG_DESC_LEN, BINLOG_CHECKSUM_LEN, BinlogVersion, CHECKSUM_VERSION_PRODUCT,

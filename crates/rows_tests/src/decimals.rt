@@ -1,5 +1,5 @@
-//! Decimals of many digits, and readers and writers that fail. Their texts, their order and their packed forms are cases of
-//! `rows_cases`.
+//! Decimals of many digits, and readers and writers that fail. The texts, the order and the packed format of decimals are cases
+//! of `rows_cases`.
 
 use crate::devices::{FailingReader, NarrowWriter, is_text};
 use rows_decimal::{
@@ -10,7 +10,7 @@ use std::alloc::{AllocError, Global};
 use std::str;
 use wire_buf::WireFault;
 
-/// Whether a decimal is made and is shown so.
+/// Whether a decimal is created and has this text.
 fn is_shown(alloc: Global, decimal: Result<Decimal, AllocError>, shown: &str) -> bool {
     match decimal {
         Ok(decimal) => is_text(decimal.to_string(alloc), shown),
@@ -34,7 +34,7 @@ fn flags_are_ignored(rt: HostRuntime) -> Result<(), ParseDecimalError> {
     Ok(())
 }
 
-/// As many nines on both sides of a point.
+/// `count` nines before and after a point.
 fn nines(alloc: Global, count: usize) -> Result<Vec<u8>, AllocError> {
     let mut text: Vec<u8> = Vec::new(alloc);
     text.resize(count, b'9')?;
@@ -43,7 +43,7 @@ fn nines(alloc: Global, count: usize) -> Result<Vec<u8>, AllocError> {
     Ok(text)
 }
 
-/// Whether the decimal, of as many digits on both sides of its point, is read back as it is written.
+/// Whether the decimal, with `count` digits before and after its point, is read back as it was written.
 fn is_read_back(alloc: Global, decimal: &Decimal, count: usize) -> bool {
     let mut packed = Vec::new(alloc);
     let Ok(()) = decimal.write_bin(alloc, &mut packed) else {
@@ -55,7 +55,7 @@ fn is_read_back(alloc: Global, decimal: &Decimal, count: usize) -> bool {
     }
 }
 
-/// Whether as many nines on both sides of the point are taken, shown and read back as they are.
+/// Whether `count` nines before and after the point are parsed, shown and read back unchanged.
 fn takes_nines(alloc: Global, count: usize) -> bool {
     let Ok(text) = nines(alloc, count) else {
         return false;
@@ -102,7 +102,7 @@ fn writers_that_fail(rt: HostRuntime) -> Result<(), ParseDecimalError> {
     Ok(())
 }
 
-/// Whether no decimal is read, since the reader failed.
+/// Whether reading the decimal failed because of the reader.
 fn is_unread(decimal: Result<Decimal, RowsError>) -> bool {
     match decimal {
         Ok(_) => false,

@@ -1,5 +1,4 @@
-//! What the tests have in common: readers and writers that fail, what comes of a call in little memory,
-//! and the comparison of texts.
+//! Shared by the tests: readers and writers that fail, and the comparison of texts.
 
 use std::alloc::{AllocError, Global};
 use std::borrow::CowStr;
@@ -15,7 +14,7 @@ impl Read for FailingReader {
     }
 }
 
-/// A writer that takes so many bytes, and then fails.
+/// A writer that accepts a number of bytes, and then fails.
 #[derive(Drop)]
 pub(crate) struct NarrowWriter {
     pub(crate) room: usize,
@@ -36,20 +35,7 @@ impl Write for NarrowWriter {
     }
 }
 
-/// What comes of a text in memory of some size.
-#[derive(Clone, Copy)]
-pub(crate) enum Outcome {
-    /// Not even what stands in front of the text fits.
-    TooSmall,
-    /// The text is written.
-    Written,
-    /// Want of memory is answered, and what stood there stands.
-    Refused,
-    /// None of these.
-    Wrong,
-}
-
-/// Whether a text is made and is this one.
+/// Whether a text is created and equals this one.
 pub(crate) fn is_text(text: Result<String, AllocError>, wanted: &str) -> bool {
     match text {
         Ok(text) => text.as_str() == wanted,
@@ -57,7 +43,7 @@ pub(crate) fn is_text(text: Result<String, AllocError>, wanted: &str) -> bool {
     }
 }
 
-/// Whether a text that may be borrowed is made and is this one.
+/// Whether a text that may be borrowed is created and equals this one.
 pub(crate) fn is_borrowed_text(text: Result<CowStr<'_, Global>, AllocError>, wanted: &str) -> bool {
     match text {
         Ok(text) => text.as_str() == wanted,

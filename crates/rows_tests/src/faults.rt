@@ -1,4 +1,4 @@
-//! Faults of the wire and of documents, as faults of rows.
+//! Conversion of the errors of fields and of documents to errors of rows.
 
 use rows_times::{JsonbError, RowsError};
 use wire_buf::WireFault;

@@ -7,7 +7,7 @@ use rows_flags::{
     UserVarFlags,
 };
 
-// A set of flags, through the bound alone.
+// A set of flags, by its trait alone.
 fn known_of<F: Flags>(bits: F::Bits) -> F {
     F::from_bits_truncate(bits)
 }
@@ -44,7 +44,7 @@ fn flags_of_a_byte(rt: HostRuntime) {
     );
 }
 
-// The bits that no flag names are dropped.
+// Unknown bits are dropped.
 #[test]
 fn known_flags(rt: HostRuntime) {
     assert!(rt;
@@ -67,9 +67,9 @@ fn no_flags(rt: HostRuntime) {
     );
 }
 
-// The text of a refusal.
+// The text of an error.
 #[test]
-fn refusal_as_text(rt: HostRuntime) {
+fn error_as_text(rt: HostRuntime) {
     assert!(rt;
         is_text(
             UnknownGtidFlags(6).to_string(rt.alloc()),

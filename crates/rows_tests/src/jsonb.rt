@@ -1,4 +1,4 @@
-//! JSON documents: their trees, the values in their bytes, and changes of a part of a document.
+//! JSON documents: their trees, the values in their bytes, and JSON diffs.
 
 ghost use Rattle.std.specs.Prelude.{◌<◌};
 
@@ -15,11 +15,11 @@ use wire_buf::{MySerialize, ParseBuf};
 use wire_consts::ColumnType;
 
 /// The tree of a document.
-pub fn tree(alloc: Global, bytes: &[u8]) -> Result<JsonDom, RowsError> {
+pub(crate) fn tree(alloc: Global, bytes: &[u8]) -> Result<JsonDom, RowsError> {
     ParseBuf(bytes).parse::<Value<'_>>(alloc, ())?.parse(alloc)
 }
 
-/// `n` small arrays within one another, after a type byte; each but the last has the next as its one entry.
+/// `n` nested small arrays, after a type byte; each but the innermost has the next as its only element.
 fn nested(alloc: Global, n: usize) -> Result<Vec<u8>, AllocError>
     requires { n < 200 }
 {
@@ -34,7 +34,7 @@ fn nested(alloc: Global, n: usize) -> Result<Vec<u8>, AllocError>
     Ok(bytes)
 }
 
-/// Whether `n` arrays within one another are of this length, and as a document have this answer.
+/// Whether `n` nested arrays have this length, and as a document give this result.
 fn nested_gives(alloc: Global, n: usize, len: usize, fault: Option<RowsError>) -> bool
     requires { n < 200 }
 {
@@ -52,7 +52,7 @@ fn json_depth_limit(rt: HostRuntime) {
     );
 }
 
-/// Whether a value is of an array of two elements, and of no other kind.
+/// Whether a value is an array of two elements, and nothing else.
 fn is_array_of_two(value: &Value<'_>) -> bool {
     value.is_array()
         && !value.is_object()
@@ -71,7 +71,7 @@ fn is_i16(value: &Value<'_>, wanted: i16) -> bool {
     }
 }
 
-/// Whether an element is this number, or there is none.
+/// Whether an element is this number, or missing.
 fn is_number(element: Result<Option<Value<'_>>, RowsError>, wanted: Option<i16>) -> bool {
     let is_wanted = match (&element, wanted) {
         (Ok(Some(value)), Some(wanted)) => is_i16(value, wanted),
@@ -82,7 +82,7 @@ fn is_number(element: Result<Option<Value<'_>>, RowsError>, wanted: Option<i16>)
     is_wanted
 }
 
-/// Whether the second element of two is 2, and there is no third.
+/// Whether the second of two elements is 2, and there is no third.
 fn has_elements(array: &ComplexValue<'_, Small, Array>) -> bool {
     array.element_count() == 2
         && is_number(array.elem_at(1), Some(2))
@@ -97,7 +97,7 @@ fn yields_elements(array: &ComplexValue<'_, Small, Array>) -> bool {
         && is_number(elements.next().transpose(), None)
 }
 
-/// Whether the owned form of a value is the array of 1 and 2.
+/// Whether the owned value is the array of 1 and 2.
 fn owns_elements(alloc: Global, value: Value<'_>) -> bool {
     match value.into_owned(alloc) {
         Ok(Value::SmallArray(array)) => has_elements(&array) && yields_elements(&array),
@@ -105,7 +105,7 @@ fn owns_elements(alloc: Global, value: Value<'_>) -> bool {
     }
 }
 
-// An array of 1 and 2, and a byte behind it.
+// An array of 1 and 2, and a byte after it.
 #[test]
 fn values_in_their_bytes(rt: HostRuntime) -> Result<(), RowsError> {
     let alloc = rt.alloc();
@@ -116,12 +116,12 @@ fn values_in_their_bytes(rt: HostRuntime) -> Result<(), RowsError> {
     Ok(())
 }
 
-/// An object of the one member `a`, which is null.
+/// An object with the only member `a`, which is null.
 fn member_of_null(alloc: Global) -> Result<ComplexValue<'static, Small, Object>, RowsError> {
     ParseBuf(b"\x01\x00\x0c\x00\x0b\x00\x01\x00\x04\x00\x00a").parse(alloc, ())
 }
 
-/// Whether a key is this one, or there is none.
+/// Whether a key is this one, or missing.
 fn is_key(key: Result<Option<ObjectKey<'_>>, RowsError>, wanted: Option<&[u8]>) -> bool {
     match key {
         Ok(Some(key)) => wanted == Some(key.value_raw()),
@@ -152,13 +152,13 @@ fn keys(rt: HostRuntime) {
     assert!(rt; key.value_raw() == b"a".as_slice() && is_borrowed_text(key.value(rt.alloc()), "a"));
 }
 
-/// Whether the keys are `a` alone.
+/// Whether `a` is the only key.
 fn yields_key(object: &ComplexValue<'_, Small, Object>) -> bool {
     let mut keys = object.keys();
     is_key(keys.next().transpose(), Some(b"a")) && is_key(keys.next().transpose(), None)
 }
 
-/// Whether a member is the null under `a`.
+/// Whether a member is `a` with the value null.
 fn is_member(member: Option<Result<(ObjectKey<'_>, Value<'_>), RowsError>>) -> bool {
     match member {
         Some(Ok((key, value))) => key.value_raw() == b"a".as_slice() && value == Value::Null,
@@ -166,7 +166,7 @@ fn is_member(member: Option<Result<(ObjectKey<'_>, Value<'_>), RowsError>>) -> b
     }
 }
 
-/// Whether the members are this one alone.
+/// Whether this is the only member.
 fn yields_member(object: &ComplexValue<'_, Small, Object>) -> bool {
     let mut members = object.iter();
     is_member(members.next()) && members.next().is_none()
@@ -179,8 +179,8 @@ fn iterators_of_containers(rt: HostRuntime) -> Result<(), RowsError> {
     Ok(())
 }
 
-/// Whether the first element is refused, and the one behind it is 2.
-fn goes_on_behind_a_refused_one(array: &ComplexValue<'_, Small, Array>) -> bool {
+/// Whether the first element is an error, and the second is 2.
+fn goes_on_after_an_error(array: &ComplexValue<'_, Small, Array>) -> bool {
     let mut elements = array.iter();
     let first = elements.next().transpose();
     first.err() == Some(RowsError::Jsonb(None))
@@ -189,10 +189,10 @@ fn goes_on_behind_a_refused_one(array: &ComplexValue<'_, Small, Array>) -> bool 
 }
 
 #[test]
-fn elements_behind_a_refused_one(rt: HostRuntime) -> Result<(), RowsError> {
+fn elements_after_an_error(rt: HostRuntime) -> Result<(), RowsError> {
     let mut buf = ParseBuf(b"\x02\x00\x0a\x00\x0d\x00\x00\x05\x02\x00");
     let array = buf.parse::<ComplexValue<'_, Small, Array>>(rt.alloc(), ())?;
-    assert!(rt; goes_on_behind_a_refused_one(&array));
+    assert!(rt; goes_on_after_an_error(&array));
     Ok(())
 }
 
@@ -205,7 +205,7 @@ fn is_written(alloc: Global, string: &JsonbString<'_>, wanted: &[u8]) -> bool {
     out.as_slice() == wanted
 }
 
-/// Whether the owned form of the string is the bytes `ab`.
+/// Whether the owned string is `ab`.
 fn owns_string(alloc: Global, string: JsonbString<'_>) -> bool {
     match string.into_owned(alloc) {
         Ok(owned) => {
@@ -236,7 +236,7 @@ fn string_of_too_few_bytes(rt: HostRuntime) {
     assert!(rt; short.err() == Some(RowsError::Jsonb(None)));
 }
 
-/// Whether the owned form of the opaque value is of a column's bytes.
+/// Whether the owned opaque value has the column type and the bytes.
 fn owns_opaque(alloc: Global, opaque: OpaqueValue<'_>) -> bool {
     match opaque.into_owned(alloc) {
         Ok(owned) => Value::Opaque(owned).field_type() == Some(ColumnType::MYSQL_TYPE_BLOB),
@@ -264,7 +264,7 @@ fn is_one(value: Option<&Value<'_>>) -> bool {
     }
 }
 
-/// Whether the change is that of `$.a` to 1.
+/// Whether the diff replaces `$.a` by 1.
 fn is_replacement(alloc: Global, diff: &JsonDiff<'_>) -> bool {
     diff.operation() == JsonDiffOperation::REPLACE
         && diff.path() == b"$.a".as_slice()
@@ -272,7 +272,7 @@ fn is_replacement(alloc: Global, diff: &JsonDiff<'_>) -> bool {
         && is_one(diff.value())
 }
 
-/// Whether the owned form of the change is so too.
+/// Whether the owned diff does so too.
 fn owns_replacement(alloc: Global, diff: JsonDiff<'_>) -> bool {
     match diff.into_owned(alloc) {
         Ok(owned) => is_replacement(alloc, &owned),
@@ -280,7 +280,7 @@ fn owns_replacement(alloc: Global, diff: JsonDiff<'_>) -> bool {
     }
 }
 
-// The value 1 replaces what stands at $.a, behind a length that has a byte more.
+// `$.a` is replaced by 1; the document's length counts one byte more than its value takes.
 #[test]
 fn changes_of_a_document(rt: HostRuntime) -> Result<(), RowsError> {
     let alloc = rt.alloc();
@@ -291,15 +291,15 @@ fn changes_of_a_document(rt: HostRuntime) -> Result<(), RowsError> {
     Ok(())
 }
 
-/// Whether the change is at the front of the bytes, with one byte behind it.
-fn is_front(alloc: Global, bytes: &[u8]) -> bool {
-    match JsonDiff::front(bytes) {
+/// Whether the bytes begin with the diff, with one byte after it.
+fn begins_with_diff(alloc: Global, bytes: &[u8]) -> bool {
+    match JsonDiff::split_diff(bytes) {
         Ok((diff, rest)) => is_replacement(alloc, &diff) && rest == b"z".as_slice(),
         Err(_) => false,
     }
 }
 
-/// Whether the bytes are two changes, each that of `$.a` to 1.
+/// Whether the bytes are two diffs, each of which replaces `$.a` by 1.
 fn are_two(alloc: Global, bytes: &[u8]) -> bool {
     match json_diffs(alloc, bytes) {
         Ok(diffs) => match diffs.as_slice() {
@@ -315,14 +315,14 @@ fn changes_in_their_bytes(rt: HostRuntime) {
     let alloc = rt.alloc();
     let two = b"\x00\x03$.a\x03\x05\x01\x00\x00\x03$.a\x03\x05\x01\x00".as_slice();
     assert!(rt;
-        is_front(alloc, b"\x00\x03$.a\x03\x05\x01\x00z")
+        begins_with_diff(alloc, b"\x00\x03$.a\x03\x05\x01\x00z")
             && are_two(alloc, two)
             && check_json_diffs(two) == Ok(())
             && check_json_diffs(&two[..17]) == Err(RowsError::Jsonb(None))
     );
 }
 
-/// Whether the document is read, and its tree, which is made twice, is the number 2.
+/// Whether the document is read, and its tree, built twice, is the number 2.
 fn is_two(alloc: Global, bytes: &[u8]) -> bool {
     let two = JsonDom::Scalar(JsonScalar::Number(JsonNumber::Int(2)));
     match Value::read_document(&mut ParseBuf(bytes)) {
@@ -343,24 +343,24 @@ fn removal_from_a_document(rt: HostRuntime) -> Result<(), RowsError> {
     Ok(())
 }
 
-/// Whether the byte turns into a type of values and back, or is refused with itself.
-fn is_type_or_refused(byte: u8) -> bool {
+/// Whether the byte is converted to a type of values and back, or to an error with the byte.
+fn is_type_or_failed(byte: u8) -> bool {
     match JsonbType::try_from(byte) {
         Ok(found) => found as u8 == byte,
         Err(unknown) => unknown == UnknownJsonbType(byte) && u8::from(unknown) == byte,
     }
 }
 
-/// Whether the byte turns into a literal and back, or is refused with itself.
-fn is_literal_or_refused(byte: u8) -> bool {
+/// Whether the byte is converted to a literal and back, or to an error with the byte.
+fn is_literal_or_failed(byte: u8) -> bool {
     match LiteralType::try_from(byte) {
         Ok(found) => found as u8 == byte,
         Err(unknown) => unknown == UnknownLiteralType(byte) && u8::from(unknown) == byte,
     }
 }
 
-/// Whether the byte turns into an operation and back, or is refused with itself.
-fn is_operation_or_refused(byte: u8) -> bool {
+/// Whether the byte is converted to an operation and back, or to an error with the byte.
+fn is_operation_or_failed(byte: u8) -> bool {
     match JsonDiffOperation::try_from(byte) {
         Ok(found) => found as u8 == byte,
         Err(unknown) => unknown == UnknownJsonDiffOperation(byte) && u8::from(unknown) == byte,
@@ -370,7 +370,7 @@ fn is_operation_or_refused(byte: u8) -> bool {
 #[test]
 fn numbers_of_types(rt: HostRuntime) {
     for byte in 0..=u8::MAX {
-        assert!(rt; is_type_or_refused(byte));
-        assert!(rt; is_literal_or_refused(byte) && is_operation_or_refused(byte));
+        assert!(rt; is_type_or_failed(byte));
+        assert!(rt; is_literal_or_failed(byte) && is_operation_or_failed(byte));
     }
 }

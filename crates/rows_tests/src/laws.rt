@@ -1,4 +1,4 @@
-//! Each law can be called; it does nothing.
+//! Each law can be called, without effect.
 
 #[test]
 fn laws_of_constants(_rt: HostRuntime) {
@@ -20,19 +20,19 @@ fn laws_of_values(_rt: HostRuntime) {
 #[test]
 fn laws_of_times(_rt: HostRuntime) {
     rows_times::laws::times_by_cases();
-    rows_times::laws::fields_stand_at_their_places();
+    rows_times::laws::packed_fields_are_read_back();
     rows_times::laws::worked_time();
 }
 
 #[test]
 fn laws_of_decimals(_rt: HostRuntime) {
     rows_decimal::laws::numbers_in_order();
-    rows_decimal::laws::packed_forms_are_uniquely_read();
-    rows_decimal::laws::packed_forms_are_unpacked();
-    rows_decimal::laws::packed_forms_are_read_back();
+    rows_decimal::laws::packed_bytes_are_uniquely_read();
+    rows_decimal::laws::packed_bytes_are_unpacked();
+    rows_decimal::laws::packed_bytes_are_read_back();
     rows_decimal::laws::named_numbers();
     rows_decimal::laws::only_zero_groups_are_dropped();
-    rows_decimal::laws::texts_are_taken_back();
+    rows_decimal::laws::texts_are_parsed_back();
     rows_decimal::laws::worked_decimals();
     rows_decimal::laws::worked_unpacking();
 }
@@ -50,23 +50,23 @@ fn laws_of_documents_and_metadata(_rt: HostRuntime) {
 }
 
 #[test]
-fn laws_of_rows(_rt: HostRuntime) {
-    rows_cells::laws::cells_are_read();
-    rows_cells::laws::no_cell_begins_another();
-    rows_cells::laws::kept_values_are_those_of_cells();
-    rows_cells::laws::images_are_read();
-    rows_cells::laws::no_image_begins_another();
-    rows_cells::laws::rows_are_read();
-    rows_cells::laws::lists_of_rows_are_read();
-    rows_events::laws::events_are_written_whole();
-    rows_events::laws::equal_events_say_the_same();
-}
-
-#[test]
 fn laws_of_texts(_rt: HostRuntime) {
     feed_text::laws::equal_quotes_are_of_equal_bytes();
     feed_text::laws::values_have_the_texts_of_cells();
     feed_text::laws::values_of_cells_have_their_texts();
     feed_text::laws::worked_quote();
     feed_text::laws::worked_times();
+}
+
+#[test]
+fn laws_of_rows(_rt: HostRuntime) {
+    rows_cells::laws::cells_are_read();
+    rows_cells::laws::no_cell_is_prefix_of_another();
+    rows_cells::laws::kept_values_are_those_of_cells();
+    rows_cells::laws::images_are_read();
+    rows_cells::laws::no_image_is_prefix_of_another();
+    rows_cells::laws::rows_are_read();
+    rows_cells::laws::lists_of_rows_are_read();
+    rows_events::laws::events_are_written_whole();
+    rows_events::laws::equal_events_say_the_same();
 }

@@ -1,11 +1,11 @@
-//! Tests of the rows layer and of `feed_text` that no table of cases can have: a file for each subject, and what the tests
-//! have in common in `devices`. The cases are in `rows_cases`.
+//! Tests of the rows layer and of `feed_text` that no table of cases can have: a file for each subject, and `devices` for what
+//! they share. The cases are in `rows_cases`.
 #![tactic(auto)]
 
 #[cfg(test)]
 mod bits;
 #[cfg(test)]
-mod cells;
+mod cell_contents;
 #[cfg(test)]
 mod columns_and_rows;
 #[cfg(test)]
@@ -15,11 +15,17 @@ mod decimals;
 #[cfg(test)]
 mod devices;
 #[cfg(test)]
+mod equal_events;
+#[cfg(test)]
 mod example;
+#[cfg(test)]
+mod failed_cells;
 #[cfg(test)]
 mod faults;
 #[cfg(test)]
 mod flags;
+#[cfg(test)]
+mod image_cells;
 #[cfg(test)]
 mod json_text;
 #[cfg(test)]
@@ -31,11 +37,9 @@ mod optional_metadata;
 #[cfg(test)]
 mod owned_rows;
 #[cfg(test)]
-mod row_events;
-#[cfg(test)]
-mod rows;
-#[cfg(test)]
 mod rows_by_plan;
+#[cfg(test)]
+mod rows_without_memory;
 #[cfg(test)]
 mod text_buffers;
 #[cfg(test)]

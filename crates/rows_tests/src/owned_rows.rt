@@ -1,15 +1,15 @@
-//! Rows in memory of their own: their values one by one, their places, and rows of plain values made of them.
+//! Owned rows: access to their values, the column indexes of these, and conversion to rows of plain values.
 
-use rows_cells::{BinlogValue, BinlogValueToValueError, CellForm, ImageColumn, Width};
+use rows_cells::{BinlogValue, BinlogValueToValueError, CellFormat, ImageColumn, Width};
 use rows_images::{BinlogRow, BinlogRowToRowError};
 use rows_jsonb::Value as JsonbValue;
 use rows_values::{Column, Row, Value};
 use std::alloc::{AllocError, Global};
+use std::io::Write;
 use std::rc::RcSlice;
-use std::test::Fail;
 use wire_consts::ColumnType;
 
-/// So many columns.
+/// `count` columns.
 fn columns(alloc: Global, count: usize) -> Result<RcSlice<Column, Global>, AllocError> {
     let mut columns = Vec::new(alloc);
     for _ in 0..count {
@@ -28,7 +28,7 @@ fn document(number: i16) -> Option<BinlogValue<'static>> {
     Some(BinlogValue::Jsonb(JsonbValue::I16(number)))
 }
 
-/// A row of three values, the one in the middle as it is given.
+/// A row of three values, with this value in the middle.
 fn row(alloc: Global, middle: Option<BinlogValue<'static>>) -> Result<BinlogRow, AllocError> {
     let values = Vec::from_array(alloc, [number(1), middle, number(3)])?;
     Ok(BinlogRow::new(values, columns(alloc, 3)?))
@@ -54,8 +54,9 @@ fn has_numbers(row: &BinlogRow) -> bool {
 
 #[test]
 fn values_of_rows(rt: HostRuntime) {
+    let alloc = rt.alloc();
     assert!(rt;
-        match row(rt.alloc(), number(2)) {
+        match row(alloc, number(2)) {
             Ok(row) => has_numbers(&row),
             Err(_) => false,
         }
@@ -70,7 +71,7 @@ fn empty_rows(rt: HostRuntime) -> Result<(), AllocError> {
     Ok(())
 }
 
-/// Whether the row gives its columns, which both then have in common.
+/// Whether the row returns its columns, which are then shared.
 fn shares_columns(row: &BinlogRow) -> bool {
     match row.columns() {
         Ok(shared) => row.columns_ref().len() == 3 && shared.as_slice() == row.columns_ref(),
@@ -80,8 +81,9 @@ fn shares_columns(row: &BinlogRow) -> bool {
 
 #[test]
 fn columns_in_common(rt: HostRuntime) {
+    let alloc = rt.alloc();
     assert!(rt;
-        match row(rt.alloc(), number(2)) {
+        match row(alloc, number(2)) {
             Ok(row) => shares_columns(&row),
             Err(_) => false,
         }
@@ -101,7 +103,7 @@ fn takes_number(row: &mut BinlogRow, index: usize, wanted: i64) -> bool {
     is_wanted
 }
 
-/// Whether there is no value to take at the index.
+/// Whether the index has no value to take.
 fn takes_none(row: &mut BinlogRow, index: usize) -> bool {
     let value = take(row, index);
     let is_none = value.is_none();
@@ -109,7 +111,7 @@ fn takes_none(row: &mut BinlogRow, index: usize) -> bool {
     is_none
 }
 
-/// Whether the number 2 is taken from the middle once, and the row keeps its length and its other values.
+/// Whether the number 2 can be taken from the middle once, and the row keeps its length and its other values.
 fn gives_middle(row: BinlogRow) -> bool {
     let mut row = row;
     takes_number(&mut row, 1, 2)
@@ -123,15 +125,16 @@ fn gives_middle(row: BinlogRow) -> bool {
 
 #[test]
 fn taken_values(rt: HostRuntime) {
+    let alloc = rt.alloc();
     assert!(rt;
-        match row(rt.alloc(), number(2)) {
+        match row(alloc, number(2)) {
             Ok(row) => gives_middle(row),
             Err(_) => false,
         }
     );
 }
 
-/// Whether the row is equal to one with this value in the middle, or unequal, as it is wanted.
+/// Whether comparing the row to one with this value in the middle gives the expected result.
 fn compares(
     alloc: Global,
     first: &BinlogRow,
@@ -144,7 +147,7 @@ fn compares(
     }
 }
 
-/// Whether the row is compared by its values, before the one in the middle is taken and then.
+/// Whether the row is compared by its values, before and after the one in the middle is taken.
 fn is_compared(alloc: Global, taken: BinlogRow) -> bool {
     let mut taken = taken;
     compares(alloc, &taken, number(2), true)
@@ -165,7 +168,7 @@ fn equal_rows(rt: HostRuntime) {
     );
 }
 
-/// The place of the value at the index; None where the row has none.
+/// The column index of the value at the index; None if the row has no such value.
 fn place(row: &BinlogRow, index: usize) -> Option<usize> {
     if index < row.len() {
         Some(row.place(index))
@@ -174,8 +177,8 @@ fn place(row: &BinlogRow, index: usize) -> Option<usize> {
     }
 }
 
-/// Whether the places of the row's three values are their indices.
-fn has_plain_places(row: &BinlogRow) -> bool {
+/// Whether the column indexes of the row's three values are their indexes.
+fn has_plain_column_indexes(row: &BinlogRow) -> bool {
     place(row, 0) == Some(0)
         && place(row, 1) == Some(1)
         && place(row, 2) == Some(2)
@@ -183,33 +186,34 @@ fn has_plain_places(row: &BinlogRow) -> bool {
 }
 
 #[test]
-fn places_without_an_image(rt: HostRuntime) {
+fn column_indexes_without_an_image(rt: HostRuntime) {
+    let alloc = rt.alloc();
     assert!(rt;
-        match row(rt.alloc(), None) {
-            Ok(row) => has_plain_places(&row),
+        match row(alloc, None) {
+            Ok(row) => has_plain_column_indexes(&row),
             Err(_) => false,
         }
     );
 }
 
-/// A column that has this place in the table.
-fn column_at(place: u32) -> ImageColumn {
+/// A column with this index in the table.
+fn column_at(column: u32) -> ImageColumn {
     ImageColumn {
-        place,
-        form: CellForm::Signed(Width::Four),
-        json_index: 0,
+        column,
+        format: CellFormat::Signed(Width::Four),
+        json_column: 0,
     }
 }
 
-/// A row of a number and no value, whose columns have the places 0 and 5.
+/// A row of a number and no value, whose columns have the indexes 0 and 5.
 fn row_of_image(alloc: Global) -> Result<BinlogRow, AllocError> {
     let values = Vec::from_array(alloc, [number(1), None])?;
     let image = RcSlice::from_vec(Vec::from_array(alloc, [column_at(0), column_at(5)])?)?;
     Ok(BinlogRow::of_image(values, columns(alloc, 2)?, image))
 }
 
-/// Whether the row has the places 0 and 5, also once its first value is taken.
-fn keeps_places(row: BinlogRow) -> bool {
+/// Whether the row keeps the column indexes 0 and 5 after its first value is taken.
+fn keeps_column_indexes(row: BinlogRow) -> bool {
     let mut row = row;
     place(&row, 0) == Some(0)
         && place(&row, 1) == Some(5)
@@ -220,10 +224,11 @@ fn keeps_places(row: BinlogRow) -> bool {
 }
 
 #[test]
-fn places_of_values(rt: HostRuntime) {
+fn column_indexes_of_values(rt: HostRuntime) {
+    let alloc = rt.alloc();
     assert!(rt;
-        match row_of_image(rt.alloc()) {
-            Ok(row) => keeps_places(row),
+        match row_of_image(alloc) {
+            Ok(row) => keeps_column_indexes(row),
             Err(_) => false,
         }
     );
@@ -251,8 +256,9 @@ fn is_document(value: Option<&BinlogValue<'static>>, wanted: i16) -> bool {
 
 #[test]
 fn unwrapped_rows(rt: HostRuntime) {
+    let alloc = rt.alloc();
     assert!(rt;
-        match unwrapped(rt.alloc(), 1, 2) {
+        match unwrapped(alloc, 1, 2) {
             Ok(values) => values.len() == 2
                 && is_number(values.get(0), 1)
                 && is_document(values.get(1), 2),
@@ -261,7 +267,7 @@ fn unwrapped_rows(rt: HostRuntime) {
     );
 }
 
-/// The row of plain values that a row is turned into.
+/// The result of converting a row to a row of plain values.
 fn plain_row(alloc: Global, row: BinlogRow) -> Result<Row, BinlogRowToRowError> {
     row.into_row(alloc)
 }
@@ -274,7 +280,7 @@ fn is_plain_number(value: Option<&Value>, wanted: i64) -> bool {
     }
 }
 
-/// Whether the row has three values and columns, the numbers 1 and 3 around one.
+/// Whether the row has three values and columns, with the numbers 1 and 3 at the ends.
 fn is_plain(row: &Row) -> bool {
     row.len() == 3
         && row.columns_ref().len() == 3
@@ -282,7 +288,7 @@ fn is_plain(row: &Row) -> bool {
         && is_plain_number(row.as_ref(2), 3)
 }
 
-/// Whether the row is turned into one of the numbers 1, 2 and 3.
+/// Whether the row is converted to one with the numbers 1, 2 and 3.
 fn becomes_plain(alloc: Global, row: BinlogRow) -> bool {
     match plain_row(alloc, row) {
         Ok(plain) => is_plain(&plain) && is_plain_number(plain.as_ref(1), 2),
@@ -301,7 +307,7 @@ fn rows_of_plain_values(rt: HostRuntime) {
     );
 }
 
-/// Whether the row, once the value in the middle is taken, is turned into one that has none there.
+/// Whether the row, after the value in the middle is taken, is converted to one without a value there.
 fn becomes_plain_without_middle(alloc: Global, row: BinlogRow) -> bool {
     let mut row = row;
     drop(take(&mut row, 1));
@@ -322,15 +328,15 @@ fn taken_values_stay_none(rt: HostRuntime) {
     );
 }
 
-/// Why a row with this value in the middle is no row of plain values.
-fn refusal(alloc: Global, middle: Option<BinlogValue<'static>>) -> Option<BinlogRowToRowError> {
+/// Why a row with this value in the middle can't be converted to plain values.
+fn fails_with(alloc: Global, middle: Option<BinlogValue<'static>>) -> Option<BinlogRowToRowError> {
     match row(alloc, middle) {
         Ok(row) => plain_row(alloc, row).err(),
         Err(_) => None,
     }
 }
 
-/// That the value in the middle is no plain one.
+/// The error for the value in the middle.
 fn in_the_middle(error: BinlogValueToValueError) -> Option<BinlogRowToRowError> {
     Some(BinlogRowToRowError {
         column_offset: 1,
@@ -339,24 +345,26 @@ fn in_the_middle(error: BinlogValueToValueError) -> Option<BinlogRowToRowError> 
 }
 
 #[test]
-fn refused_values(rt: HostRuntime) {
+fn failed_values(rt: HostRuntime) {
     let alloc = rt.alloc();
     let changes = Some(BinlogValue::JsonDiff(Vec::new(alloc)));
-    assert!(rt; refusal(alloc, changes) == in_the_middle(BinlogValueToValueError::JsonDiff));
-    assert!(rt; refusal(alloc, document(2)) == in_the_middle(BinlogValueToValueError::ToJson));
+    assert!(rt;
+        fails_with(alloc, changes) == in_the_middle(BinlogValueToValueError::JsonDiff)
+            && fails_with(alloc, document(2)) == in_the_middle(BinlogValueToValueError::ToJson)
+    );
 }
 
 #[test]
-fn words_of_refusals(rt: HostRuntime) -> Result<(), Fail> {
+fn words_of_errors(rt: HostRuntime) {
     let alloc = rt.alloc();
-    let refusal = BinlogRowToRowError {
+    let error = BinlogRowToRowError {
         column_offset: 1,
         error: BinlogValueToValueError::ToJson,
     };
-    let words = format!(in alloc; "{refusal}")?;
+    let mut words = Vec::new(alloc);
     assert!(rt;
-        words.as_str()
-            == "Can't convert BinlogRow to Row at column offset 1: a JSON document is no plain value"
+        write!(words, "{error}").is_ok()
+            && words.as_slice()
+                == b"Can't convert BinlogRow to Row at column offset 1: a JSON document is no plain value".as_slice()
     );
-    Ok(())
 }

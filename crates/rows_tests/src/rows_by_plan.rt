@@ -1,4 +1,4 @@
-//! Images by the plan of a table's columns, and a table of a thousand columns. Plans, and rows by them, are cases of `rows_cases`.
+//! Images by the plan of a table's columns, and a table with a thousand columns.
 
 use rows_cells::{BinlogValue, CellRef, ImageColumn, RowPart, RowsCursor};
 use rows_events::{EventColumns, RowsEvent, RowsEventCtx, RowsEventType};
@@ -7,51 +7,11 @@ use rows_meta::TableMapEvent;
 use rows_times::RowsError;
 use rows_values::{Bits, Column, Value};
 use std::alloc::{AllocError, Global};
-use std::test::Fail;
 use wire_buf::ParseBuf;
 use wire_consts::{ColumnFlags, ColumnType};
 
-/// The numbers of the types LONG and VARCHAR.
-const LONG: u8 = 3;
-
-const VARCHAR: u8 = 15;
-
-/// Appends a length, length-encoded in nine bytes.
-fn put_len(len: usize, out: &mut Vec<u8>) -> Result<(), AllocError> {
-    out.push(0xfe)?;
-    out.extend_from_slice(&(len as u64).to_le_bytes())
-}
-
-/// Appends the table map of the table `t` of the database `d`, with columns of these types, this metadata and
-/// this optional metadata.
-fn put_map(
-    types: &[u8],
-    metadata: &[u8],
-    optional: &[u8],
-    out: &mut Vec<u8>,
-) -> Result<(), AllocError> {
-    out.extend_from_slice(b"\x07\0\0\0\0\0\x01\0\x01d\0\x01t\0")?;
-    put_len(types.len(), out)?;
-    out.extend_from_slice(types)?;
-    put_len(metadata.len(), out)?;
-    out.extend_from_slice(metadata)?;
-    for _ in 0..types.len().div_ceil(8) {
-        out.push(0)?;
-    }
-    out.extend_from_slice(optional)
-}
-
-/// The plan of that table.
-fn plan(
-    alloc: Global,
-    types: &[u8],
-    metadata: &[u8],
-    optional: &[u8],
-) -> Result<ColumnPlan, RowsError> {
-    let mut bytes = Vec::new(alloc);
-    put_map(types, metadata, optional, &mut bytes)?;
-    plan_of(alloc, &bytes)
-}
+/// The table map of `d`.`t` with table id 7: a LONG, a VARCHAR(10) and a LONG.
+const THREE: &[u8] = b"\x07\0\0\0\0\0\x01\0\x01d\0\x01t\0\x03\x03\x0f\x03\x02\x0a\0\0";
 
 /// The plan of the columns of a table map.
 fn plan_of(alloc: Global, bytes: &[u8]) -> Result<ColumnPlan, RowsError> {
@@ -62,7 +22,7 @@ fn plan_of(alloc: Global, bytes: &[u8]) -> Result<ColumnPlan, RowsError> {
 /// Whether these are the columns 0 and 2 of their table.
 fn are_two(columns: &[ImageColumn]) -> bool {
     match columns {
-        [first, second] => first.place == 0 && second.place == 2,
+        [first, second] => first.column == 0 && second.column == 2,
         _ => false,
     }
 }
@@ -99,7 +59,7 @@ fn has_five(row: &BinlogRow) -> bool {
         && is_value(row.as_ref(1), -1)
 }
 
-/// Whether the row of an image with the columns 0 and 2 is read so, with one byte behind it.
+/// Whether the row of an image with the columns 0 and 2 is read, with one byte after it.
 fn reads_two(alloc: Global, plan: &ColumnPlan) -> bool {
     let Ok(image) = RowImage::new(alloc, plan, Bits::lowest(b"\x05", 3), false) else {
         return false;
@@ -114,14 +74,14 @@ fn reads_two(alloc: Global, plan: &ColumnPlan) -> bool {
 fn columns_of_an_image(rt: HostRuntime) {
     let alloc = rt.alloc();
     assert!(rt;
-        match plan(alloc, &[LONG, VARCHAR, LONG], b"\x0a\0", b"") {
+        match plan_of(alloc, THREE) {
             Ok(plan) => takes_two(alloc, &plan) && reads_two(alloc, &plan),
             Err(_) => false,
         }
     );
 }
 
-/// Whether the bytes aren't read as a row of one column, since there are two bits.
+/// Whether the bytes can't be read as a row of one column, because there are two bits.
 fn is_row_without_bits<'a>(
     alloc: Global,
     table_map: &'a TableMapEvent<'a>,
@@ -136,7 +96,7 @@ fn is_row_without_bits<'a>(
     ParseBuf(bytes).parse::<BinlogRow>(alloc, ctx).err() == Some(RowsError::Metadata)
 }
 
-/// Whether no image is read of a table of an INT and a VARCHAR where the event has one column and two bits.
+/// Whether no image is read for a table of an INT and a VARCHAR if the event has one column and two bits.
 fn has_no_image(alloc: Global, bytes: &[u8]) -> bool {
     match ParseBuf(bytes).parse::<TableMapEvent<'_>>(alloc, 8) {
         Ok(map) => is_row_without_bits(alloc, &map, b"\x00\x03xyz"),
@@ -144,31 +104,37 @@ fn has_no_image(alloc: Global, bytes: &[u8]) -> bool {
     }
 }
 
-// There must be a bit for each column.
+// There must be exactly one bit for each column.
 #[test]
 fn rows_of_no_image(rt: HostRuntime) {
+    let alloc = rt.alloc();
     let map = b"\x07\0\0\0\0\0\x01\0\x01d\0\x01t\0\x02\x03\x0f\x02\x0a\0\0";
-    assert!(rt; has_no_image(rt.alloc(), map));
+    assert!(rt; has_no_image(alloc, map));
 }
 
 /// A thousand.
 const MANY: usize = 1_000;
 
-/// The optional metadata with a name for each of a thousand columns: the two bytes of its index.
-fn many_names(alloc: Global) -> Result<Vec<u8>, AllocError> {
-    let mut field = Vec::from_slice(alloc, b"\x04")?;
-    put_len(3 * MANY, &mut field)?;
+/// The number of the type LONG.
+const LONG: u8 = 3;
+
+/// The table map of a thousand columns of type LONG, each with its index in two bytes as its name.
+fn many_columns(alloc: Global) -> Result<Vec<u8>, AllocError> {
+    let mut map = Vec::from_slice(alloc, b"\x07\0\0\0\0\0\x01\0\x01d\0\x01t\0\xfc\xe8\x03")?;
+    map.extend_from_slice(&[LONG; MANY])?;
+    map.push(0)?;
+    map.extend_from_slice(&[0; 125])?;
+    map.extend_from_slice(b"\x04\xfc\xb8\x0b")?;
     for index in 0..1_000u16 {
-        field.push(2)?;
-        field.extend_from_slice(&index.to_be_bytes())?;
+        map.push(2)?;
+        map.extend_from_slice(&index.to_be_bytes())?;
     }
-    Ok(field)
+    Ok(map)
 }
 
-/// An insert of a row of a thousand columns: each cell has its column's index.
+/// An insert of a row with a thousand columns: each cell has its column's index.
 fn many_cells(alloc: Global) -> Result<Vec<u8>, AllocError> {
-    let mut event = Vec::from_slice(alloc, b"\x07\0\0\0\0\0\x01\0\x02\0")?;
-    put_len(MANY, &mut event)?;
+    let mut event = Vec::from_slice(alloc, b"\x07\0\0\0\0\0\x01\0\x02\0\xfc\xe8\x03")?;
     event.extend_from_slice(&[0xff; 125])?;
     event.extend_from_slice(&[0; 125])?;
     for index in 0..1_000u32 {
@@ -177,7 +143,7 @@ fn many_cells(alloc: Global) -> Result<Vec<u8>, AllocError> {
     Ok(event)
 }
 
-/// Whether the column is one of integers of this name, without flags.
+/// Whether this is an INT column with this name, without flags.
 fn is_named(column: Option<&Column>, name: &[u8]) -> bool {
     match column {
         Some(column) => column.name_ref() == name
@@ -188,7 +154,7 @@ fn is_named(column: Option<&Column>, name: &[u8]) -> bool {
     }
 }
 
-/// Whether the plan has a thousand columns, of which the first and the last are named by their indices.
+/// Whether the plan has a thousand columns, the first and the last of which have their indexes as names.
 fn has_many(alloc: Global, plan: &ColumnPlan) -> bool {
     match plan.definitions(alloc, Bits::lowest(&[0xff; 125], MANY)) {
         Ok(columns) => plan.reach() == Some(1_000)
@@ -199,7 +165,14 @@ fn has_many(alloc: Global, plan: &ColumnPlan) -> bool {
     }
 }
 
-/// Whether the parts are a row of a thousand cells, each the number of its column, and then no more.
+/// The context of a WRITE_ROWS_EVENT.
+const WRITE_ROWS: RowsEventCtx = RowsEventCtx {
+    event_type: RowsEventType::WriteRows,
+    post_header_len: 10,
+    write_post_header_len: 10,
+};
+
+/// Whether the parts are a row of a thousand cells, each with the number of its column, and then nothing.
 fn are_many(rows: RowsCursor<'_, '_>) -> bool {
     let mut rows = rows;
     for index in 0..1_000u32 {
@@ -217,24 +190,31 @@ fn are_many(rows: RowsCursor<'_, '_>) -> bool {
 
 /// Whether the event's row has a thousand cells by the plan.
 fn reads_many(alloc: Global, plan: &ColumnPlan, bytes: &[u8]) -> bool {
-    let ctx = RowsEventCtx {
-        event_type: RowsEventType::WriteRows,
-        post_header_len: 10,
-        write_post_header_len: 10,
-    };
-    let Ok(event) = ParseBuf(bytes).parse::<RowsEvent<'_>>(alloc, ctx) else {
-        return false;
-    };
-    let mut columns = EventColumns::new(alloc);
-    columns.fill(&event, plan) == Ok(()) && are_many(event.cursor(&columns))
+    match ParseBuf(bytes).parse::<RowsEvent<'_>>(alloc, WRITE_ROWS) {
+        Ok(event) => {
+            let mut columns = EventColumns::new(alloc);
+            columns.fill(&event, plan) == Ok(()) && are_many(event.cursor(&columns))
+        }
+        Err(_) => false,
+    }
 }
 
+/// Whether the plan of a thousand columns has them, and gives the row with these cells.
+fn are_read(alloc: Global, columns: &[u8], cells: &[u8]) -> bool {
+    match plan_of(alloc, columns) {
+        Ok(plan) => has_many(alloc, &plan) && reads_many(alloc, &plan, cells),
+        Err(_) => false,
+    }
+}
+
+// A table may have a thousand columns.
 #[test]
-fn a_thousand_columns(rt: HostRuntime) -> Result<(), Fail> {
+fn a_thousand_columns(rt: HostRuntime) {
     let alloc = rt.alloc();
-    let names = many_names(alloc)?;
-    let cells = many_cells(alloc)?;
-    let plan = plan(alloc, &[LONG; 1_000], b"", &names)?;
-    assert!(rt; has_many(alloc, &plan) && reads_many(alloc, &plan, &cells));
-    Ok(())
+    assert!(rt;
+        match (many_columns(alloc), many_cells(alloc)) {
+            (Ok(columns), Ok(cells)) => are_read(alloc, &columns, &cells),
+            _ => false,
+        }
+    );
 }

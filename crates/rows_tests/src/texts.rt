@@ -1,6 +1,5 @@
-//! The texts of values that no cell has, and refused memory. The others are cases of `rows_cases`.
+//! The texts of values that no cell has, and running out of memory.
 
-use crate::devices::Outcome;
 use feed_text::{put_decimal, put_value, quote};
 use linked_list_allocator::LocalHeap;
 use rows_times::RowsError;
@@ -31,15 +30,30 @@ fn values_as_text(rt: HostRuntime) -> Result<(), AllocError> {
 fn dates_and_times_as_text(rt: HostRuntime) {
     let alloc = rt.alloc();
     let date = Value::Date(2009, 9, 24, 9, 3, 57, 0);
-    assert!(rt; has_text(alloc, date, b"2009-09-24T09:03:57.000000"));
-    let date = Value::Date(10_000, 0, 31, 0, 0, 0, 1_000_000);
-    assert!(rt; has_text(alloc, date, b"10000-00-31T00:00:00.1000000"));
+    let date_without_a_month = Value::Date(10_000, 0, 31, 0, 0, 0, 1_000_000);
     let time = Value::Time(false, 34, 22, 59, 59, 45);
-    assert!(rt; has_text(alloc, time, b"34d22:59:59.000045"));
+    assert!(rt;
+        has_text(alloc, date, b"2009-09-24T09:03:57.000000")
+            && has_text(alloc, date_without_a_month, b"10000-00-31T00:00:00.1000000")
+            && has_text(alloc, time, b"34d22:59:59.000045")
+    );
 }
 
-/// What comes of a value's text, of this length with two bytes in front of it, in memory of a size.
-fn outcome(alloc: Global, value: &Value, len: usize, size: usize) -> Outcome {
+/// The result of writing a text with limited memory.
+#[derive(Clone, Copy)]
+pub(crate) enum Outcome {
+    /// There isn't enough memory for the bytes before the text.
+    TooSmall,
+    /// The text is written.
+    Written,
+    /// Out of memory is returned, and the bytes before the text are unchanged.
+    Refused,
+    /// None of these.
+    Wrong,
+}
+
+/// The result of writing a value's text, of this length and after two bytes, with this much memory.
+fn outcome_of(alloc: Global, value: &Value, len: usize, size: usize) -> Outcome {
     let Ok(heap) = LocalHeap::new(alloc, size) else {
         return Outcome::Wrong;
     };
@@ -57,52 +71,56 @@ fn outcome(alloc: Global, value: &Value, len: usize, size: usize) -> Outcome {
     }
 }
 
-/// Whether the value's text is written or refused in memory of each size, and each comes about.
-fn is_written_or_refused(alloc: Global, value: Value, len: usize) -> bool {
-    let (mut written, mut refused) = (false, false);
+/// Whether, for every size of memory, the value's text is written or memory runs out, and both occur.
+fn is_written_or_failed(alloc: Global, value: Value, len: usize) -> bool {
+    let (mut written, mut failed) = (false, false);
     for size in 1..=256usize {
-        match outcome(alloc, &value, len, size) {
+        match outcome_of(alloc, &value, len, size) {
             Outcome::TooSmall => {}
             Outcome::Written => written = true,
-            Outcome::Refused => refused = true,
+            Outcome::Refused => failed = true,
             Outcome::Wrong => return false,
         }
     }
-    written && refused
+    written && failed
 }
 
-// Memory of each size is used up at another request: the refusal is answered, and what stood there
-// stands.
+// Each size of memory runs out at a different allocation: the error is returned, and the bytes before are unchanged.
 #[test]
-fn refused_memory(rt: HostRuntime) -> Result<(), AllocError> {
-    let alloc = rt.alloc();
-    let text = Vec::from_slice(alloc, b"a longer text\nof two lines, it's quoted\n")?;
-    assert!(rt; is_written_or_refused(alloc, Value::Bytes(text), 50));
-    Ok(())
-}
-
-#[test]
-fn refused_memory_for_numbers_and_times(rt: HostRuntime) {
+fn out_of_memory(rt: HostRuntime) {
     let alloc = rt.alloc();
     assert!(rt;
-        is_written_or_refused(alloc, Value::Int(i64::MIN), 22)
-            && is_written_or_refused(alloc, Value::Double(0x3ff0_0000_0000_0000), 19)
-            && is_written_or_refused(alloc, Value::Date(2009, 9, 24, 9, 3, 57, 0), 28)
-            && is_written_or_refused(alloc, Value::Time(true, 34, 22, 59, 59, 45), 21)
+        match Vec::from_slice(alloc, b"a longer text\nof two lines, it's quoted\n") {
+            Ok(text) => is_written_or_failed(alloc, Value::Bytes(text), 50),
+            Err(_) => false,
+        }
     );
 }
 
 #[test]
-fn refused_memory_for_bytes(rt: HostRuntime) -> Result<(), AllocError> {
-    let heap = LocalHeap::new(rt.alloc(), 32)?;
+fn out_of_memory_for_numbers_and_times(rt: HostRuntime) {
+    let alloc = rt.alloc();
+    assert!(rt;
+        is_written_or_failed(alloc, Value::Int(i64::MIN), 22)
+            && is_written_or_failed(alloc, Value::Double(0x3ff0_0000_0000_0000), 19)
+            && is_written_or_failed(alloc, Value::Date(2009, 9, 24, 9, 3, 57, 0), 28)
+            && is_written_or_failed(alloc, Value::Time(true, 34, 22, 59, 59, 45), 21)
+    );
+}
+
+#[test]
+fn out_of_memory_for_bytes(rt: HostRuntime) -> Result<(), AllocError> {
+    let alloc = rt.alloc();
+    let heap = LocalHeap::new(alloc, 32)?;
     let mut out = Vec::new(&heap);
     assert!(rt; quote(&[b'a'; 64], &mut out) == Err(RowsError::Memory) && out.is_empty());
     Ok(())
 }
 
 #[test]
-fn refused_memory_for_decimals(rt: HostRuntime) -> Result<(), AllocError> {
-    let heap = LocalHeap::new(rt.alloc(), 32)?;
+fn out_of_memory_for_decimals(rt: HostRuntime) -> Result<(), AllocError> {
+    let alloc = rt.alloc();
+    let heap = LocalHeap::new(alloc, 32)?;
     let mut out = Vec::new(&heap);
     let mut packed = [0; 27];
     packed[0] = 0x80;

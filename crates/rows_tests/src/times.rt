@@ -1,4 +1,4 @@
-//! Packed numbers of times, times in slices, and the texts of times that no cell has. The cells are cases of `rows_cases`.
+//! Packed times, times in slices, and the texts of times that no cell has. The cells are cases of `rows_cases`.
 
 use crate::devices::{FailingReader, is_text};
 use rows_times::{
@@ -26,7 +26,7 @@ fn moment(time_type: MysqlTimestampType) -> MysqlTime {
     }
 }
 
-/// Whether the date and time of this type is shown so.
+/// Whether the date and time of this type has this text.
 fn is_shown(alloc: Global, time_type: MysqlTimestampType, wanted: &str) -> bool {
     is_text(moment(time_type).to_string(alloc), wanted)
 }
@@ -63,7 +63,7 @@ fn minutes_out_of_range(rt: HostRuntime) {
     assert!(rt; is_text(time.to_string(rt.alloc()), "838:00:57"));
 }
 
-// Cells that lie in slices, with bytes behind them.
+// Cells in slices, with bytes after them.
 #[test]
 fn cells_in_slices(rt: HostRuntime) {
     assert!(rt; fraction_size(2) == 1 && time_of(b"\x7f\xff\xfe\xf6\x01", 2) == -16_877_216);

@@ -25,43 +25,43 @@ pub fits_neg : (q : ℕ) → q < 9223372036854775808 → FitsSigned w64 (neg_ℤ
 fits_neg zero h = record { sfits = h }
 fits_neg (suc q) h = record { sfits = omega (arith, h) }
 
--- a number below 2 * mid, seen from mid
+-- the distance of a number below 2 * mid from mid
 pub near : (n mid : ℕ) → n < mid + mid → unsigned_abs (pos n -ℤ pos mid) ≤ mid
 near n mid h =
     by_lt_z (pos n) (pos mid)
     (λ l. let e : pos n -ℤ pos mid ≡ negsuc (mid - n - 1) = omega (arith, ints, l) in rw e (omega (arith, ints, l)))
     (λ g. let e : pos n -ℤ pos mid ≡ pos (n - mid) = omega (arith, ints, g) in rw e (omega (arith, ints, h, g)))
 
--- what the code's numbers give, seen through the casts of their width
+-- the code's numbers, through the casts of their width
 pub seen : (b : ℤ) (n mid : ℕ) → FitsSigned w64 b → b ≡ pos n → to_z w64 (of_z w64 b) -ℤ pos mid ≡ pos n -ℤ pos mid
 seen b n mid fits is = ap (λ v. v -ℤ pos mid) (to_z-of_z w64 b fits ∙ is)
 
--- a number of 1/unit seconds, each worth so many microseconds, where the packed value fits
-module _ (unit worth limit : ℕ) (some : 0 < unit) (small : limit ≤ 9223372036854775808) (product : unit * worth < 9223372036854775808)
+-- a number of parts of a second, with `unit_micros` microseconds each, if the packed value fits
+module _ (unit unit_micros limit : ℕ) (some : 0 < unit) (small : limit ≤ 9223372036854775808) (product : unit * unit_micros < 9223372036854775808)
     (few : unit < 9223372036854775808)
-    (rescale : (r : ℕ) → neg_ℤ (pos r) *ℤ pos worth ≡ neg_ℤ (pos (r * worth)))
-    (room : (m : ℕ) → m < limit → packed_parts unit worth m < 9223372036854775808) where
-  parts_neg : (q r : ℕ) → (neg_ℤ (pos q) *ℤ pos 16777216) +ℤ (neg_ℤ (pos r) *ℤ pos worth) ≡ neg_ℤ (pos (q * 16777216 + r * worth))
+    (rescale : (r : ℕ) → neg_ℤ (pos r) *ℤ pos unit_micros ≡ neg_ℤ (pos (r * unit_micros)))
+    (room : (m : ℕ) → m < limit → packed_parts unit unit_micros m < 9223372036854775808) where
+  parts_neg : (q r : ℕ) → (neg_ℤ (pos q) *ℤ pos 16777216) +ℤ (neg_ℤ (pos r) *ℤ pos unit_micros) ≡ neg_ℤ (pos (q * 16777216 + r * unit_micros))
   parts_neg q r =
       let e : neg_ℤ (pos q) *ℤ pos 16777216 ≡ neg_ℤ (pos (q * 16777216)) = omega (arith, ints) in
-      let s : neg_ℤ (pos (q * 16777216)) +ℤ neg_ℤ (pos (r * worth)) ≡ neg_ℤ (pos (q * 16777216 + r * worth)) = omega (arith, ints) in
+      let s : neg_ℤ (pos (q * 16777216)) +ℤ neg_ℤ (pos (r * unit_micros)) ≡ neg_ℤ (pos (q * 16777216 + r * unit_micros)) = omega (arith, ints) in
       rw (e, rescale r) s
 
-  pub signed_is : (z : ℤ) → unsigned_abs z < limit → packed_time (int_div z (pos unit)) (int_rem z (pos unit) *ℤ pos worth) ≡ packed_signed unit worth z
-  signed_is (pos m) h = int_wrap_fits w64 _ (fits_pos (packed_parts unit worth m) (room m h))
+  pub signed_is : (z : ℤ) → unsigned_abs z < limit → packed_time (int_div z (pos unit)) (int_rem z (pos unit) *ℤ pos unit_micros) ≡ packed_signed unit unit_micros z
+  signed_is (pos m) h = int_wrap_fits w64 _ (fits_pos (packed_parts unit unit_micros m) (room m h))
   signed_is (negsuc m) h =
-      ap (int_wrap w64) (parts_neg (suc m / unit) (suc m % unit)) ∙ int_wrap_fits w64 _ (fits_neg (packed_parts unit worth (suc m)) (room (suc m) h))
+      ap (int_wrap w64) (parts_neg (suc m / unit) (suc m % unit)) ∙ int_wrap_fits w64 _ (fits_neg (packed_parts unit unit_micros (suc m)) (room (suc m) h))
 
   pub time_is : (t z r : ℤ) → t ≡ z → unsigned_abs z < limit
-      → r ≡ packed_time (to_z w64 (of_z w64 (int_div (to_z w64 (of_z w64 t)) (pos unit)))) (to_z w64 (of_z w64 (to_z w64 (of_z w64 (int_rem (to_z w64 (of_z w64 t)) (pos unit))) *ℤ pos worth)))
-      → r ≡ packed_signed unit worth z
+      → r ≡ packed_time (to_z w64 (of_z w64 (int_div (to_z w64 (of_z w64 t)) (pos unit)))) (to_z w64 (of_z w64 (to_z w64 (of_z w64 (int_rem (to_z w64 (of_z w64 t)) (pos unit))) *ℤ pos unit_micros)))
+      → r ≡ packed_signed unit unit_micros z
   time_is t z r same h is =
       let fz : FitsSigned w64 z = fits_signed_from_abs w64 z (omega (arith, h, small)) in
       let below = rem_below z (pos unit) some in
       let fq = quot_fits w64 z (pos unit) fz (omega (arith, ints, some)) in
       let fr = fits_signed_from_abs w64 (int_rem z (pos unit)) (omega (arith, below, few)) in
-      let fw = fits_signed_mul w64 (int_rem z (pos unit)) (pos worth) unit worth (omega (arith, below)) (omega arith) product in
-      is ∙ rw (same, to_z-of_z w64 z fz, to_z-of_z w64 (int_div z (pos unit)) fq, to_z-of_z w64 (int_rem z (pos unit)) fr, to_z-of_z w64 (int_rem z (pos unit) *ℤ pos worth) fw) (signed_is z h)
+      let fw = fits_signed_mul w64 (int_rem z (pos unit)) (pos unit_micros) unit unit_micros (omega (arith, below)) (omega arith) product in
+      is ∙ rw (same, to_z-of_z w64 z fz, to_z-of_z w64 (int_div z (pos unit)) fq, to_z-of_z w64 (int_rem z (pos unit)) fr, to_z-of_z w64 (int_rem z (pos unit) *ℤ pos unit_micros) fw) (signed_is z h)
 
 pub hundredths : (t z r : ℤ) → t ≡ z → unsigned_abs z < 4294967296
     → r ≡ packed_time (to_z w64 (of_z w64 (int_div (to_z w64 (of_z w64 t)) (pos 256)))) (to_z w64 (of_z w64 (to_z w64 (of_z w64 (int_rem (to_z w64 (of_z w64 t)) (pos 256))) *ℤ pos 10000)))

@@ -1,4 +1,4 @@
--- A TIME2 by cases, and packed times and dates by the places of their fields.
+-- A TIME2 by cases, and packed times and dates by the bits of their fields.
 use Rattle.std.proofs.Common.{◌≡◌, ◌<◌, ◌≤◌, ◌^◌, ◌*◌, ◌+◌, ◌-◌, ◌/◌, ◌%◌, ℕ, zero, suc, ℤ, pos, negsuc, ◌+ℤ◌, ◌-ℤ◌, ◌*ℤ◌, neg_ℤ, true, false, List, drop, ◌⊎◌, inl, inr, arith, ap, sym, refl, ◌∙◌}
 use Rattle.std.proofs.lemmas.Bool.Decides.{leb_tells}
 use Rattle.std.specs.Prelude.{int_lt}
@@ -7,12 +7,12 @@ use Rattle.std.proofs.lemmas.List.{get_or-drop}
 use Rattle.std.specs.Int.{w64, int_wrap}
 use Rattle.byteorder.specs.Endian.{big_number}
 use Rattle.byteorder.specs.Numbers.{big_from-lt}
-use Rattle.wire_buf.specs.Spelling.{AreBytes}
+use Rattle.wire_buf.specs.Encoding.{AreBytes}
 use Rattle.rows_times.specs.PackedTimes.{packed_time, packed_signed, time2}
 use Rattle.rows_times.specs.declared.times.mysql_time.MysqlTimestampType.{MysqlTimestampType}
 use Rattle.rows_times.specs.declared.times.mysql_time.MysqlTimestampType.TheVariants.{MYSQL_TIMESTAMP_TIME}
 use Rattle.rows_times.specs.TimeFields.{span_fields, date_fields}
-use Rattle.rows_times.specs.TimePlaces.{span_number, span_time, date_number, date_time}
+use Rattle.rows_times.specs.TimeBits.{span_number, span_time, date_number, date_time}
 use Rattle.rows_times.proofs.PackedLemmas.{fits_pos, fits_neg}
 
 -- ---- one number and its two parts
@@ -26,26 +26,26 @@ split (suc (suc (suc (suc n)))) xs h = absurd (omega (arith, h))
 
 -- ---- the parts of a magnitude
 
-above : (unit worth a f m : ℕ) (z i : ℤ) → z ≡ pos m → m / unit ≡ a → m % unit ≡ f → i ≡ pos a → a * 16777216 + f * worth < 9223372036854775808
-    → packed_signed unit worth z ≡ packed_time i (pos (f * worth))
-above unit worth a f m z i is whole part first small =
-    ap (packed_signed unit worth) is
-    ∙ ap (λ q. pos (q * 16777216 + m % unit * worth)) whole ∙ ap (λ r. pos (a * 16777216 + r * worth)) part
-    ∙ sym (int_wrap_fits w64 (pos (a * 16777216 + f * worth)) (fits_pos (a * 16777216 + f * worth) small))
-    ∙ ap (λ k. packed_time k (pos (f * worth))) (sym first)
+above : (unit unit_micros a f m : ℕ) (z i : ℤ) → z ≡ pos m → m / unit ≡ a → m % unit ≡ f → i ≡ pos a → a * 16777216 + f * unit_micros < 9223372036854775808
+    → packed_signed unit unit_micros z ≡ packed_time i (pos (f * unit_micros))
+above unit unit_micros a f m z i is whole part first small =
+    ap (packed_signed unit unit_micros) is
+    ∙ ap (λ q. pos (q * 16777216 + m % unit * unit_micros)) whole ∙ ap (λ r. pos (a * 16777216 + r * unit_micros)) part
+    ∙ sym (int_wrap_fits w64 (pos (a * 16777216 + f * unit_micros)) (fits_pos (a * 16777216 + f * unit_micros) small))
+    ∙ ap (λ k. packed_time k (pos (f * unit_micros))) (sym first)
 
-below : (unit worth a g k : ℕ) (z i f : ℤ) → z ≡ negsuc k → suc k / unit ≡ a → suc k % unit ≡ g → i ≡ neg_ℤ (pos a) → f ≡ neg_ℤ (pos (g * worth)) → a * 16777216 + g * worth < 9223372036854775808
-    → packed_signed unit worth z ≡ packed_time i f
-below unit worth a g k z i f is whole part first second small =
-    let p : ℕ = a * 16777216 + g * worth in
-    let sum : (neg_ℤ (pos a) *ℤ pos 16777216) +ℤ neg_ℤ (pos (g * worth)) ≡ neg_ℤ (pos p) =
+below : (unit unit_micros a g k : ℕ) (z i f : ℤ) → z ≡ negsuc k → suc k / unit ≡ a → suc k % unit ≡ g → i ≡ neg_ℤ (pos a) → f ≡ neg_ℤ (pos (g * unit_micros)) → a * 16777216 + g * unit_micros < 9223372036854775808
+    → packed_signed unit unit_micros z ≡ packed_time i f
+below unit unit_micros a g k z i f is whole part first second small =
+    let p : ℕ = a * 16777216 + g * unit_micros in
+    let sum : (neg_ℤ (pos a) *ℤ pos 16777216) +ℤ neg_ℤ (pos (g * unit_micros)) ≡ neg_ℤ (pos p) =
     let e : neg_ℤ (pos a) *ℤ pos 16777216 ≡ neg_ℤ (pos (a * 16777216)) = omega (arith, ints) in
-    let s : neg_ℤ (pos (a * 16777216)) +ℤ neg_ℤ (pos (g * worth)) ≡ neg_ℤ (pos p) = omega (arith, ints) in
+    let s : neg_ℤ (pos (a * 16777216)) +ℤ neg_ℤ (pos (g * unit_micros)) ≡ neg_ℤ (pos p) = omega (arith, ints) in
     rw e s in
-    ap (packed_signed unit worth) is
-    ∙ ap (λ q. neg_ℤ (pos (q * 16777216 + suc k % unit * worth))) whole ∙ ap (λ r. neg_ℤ (pos (a * 16777216 + r * worth))) part
+    ap (packed_signed unit unit_micros) is
+    ∙ ap (λ q. neg_ℤ (pos (q * 16777216 + suc k % unit * unit_micros))) whole ∙ ap (λ r. neg_ℤ (pos (a * 16777216 + r * unit_micros))) part
     ∙ sym (int_wrap_fits w64 (neg_ℤ (pos p)) (fits_neg p small)) ∙ ap (int_wrap w64) (sym sum)
-    ∙ ap (λ j. packed_time j (neg_ℤ (pos (g * worth)))) (sym first) ∙ ap (packed_time i) (sym second)
+    ∙ ap (λ j. packed_time j (neg_ℤ (pos (g * unit_micros)))) (sym first) ∙ ap (packed_time i) (sym second)
 
 -- 0 bytes of fraction
 from_zero-0 : (h f m : ℕ) → h < 16777216 → f < 1 → m ≡ h * 1 + f → (8388608 ≤ h) ⊎ (f ≡ 0) → packed_signed 1 1000000 (pos m -ℤ pos 8388608) ≡ packed_time (pos h -ℤ pos 8388608) (pos (f * 1000000))
@@ -65,7 +65,7 @@ below_zero-0 h f m low some b e =
     below 1 1000000 (8388607 - h) (1 - f) (8388608 - m - 1) (pos m -ℤ pos 8388608) ((pos h -ℤ pos 8388608) +ℤ pos 1) ((pos f -ℤ pos 1) *ℤ pos 1000000) (omega (arith, ints, e, some, b, low)) (omega (arith, e, some, b, low)) (omega (arith, e, some, b, low))
     (omega (arith, ints, low)) (omega (arith, ints, some, b)) (omega (arith, low, some, b))
 
--- 1 bytes of fraction
+-- 1 byte of fraction
 from_zero-1 : (h f m : ℕ) → h < 16777216 → f < 256 → m ≡ h * 256 + f → (8388608 ≤ h) ⊎ (f ≡ 0) → packed_signed 256 10000 (pos m -ℤ pos 2147483648) ≡ packed_time (pos h -ℤ pos 8388608) (pos (f * 10000))
 from_zero-1 h f m a b e which = elim (leb_tells 8388608 h) [
   | inl t ↦
@@ -144,7 +144,7 @@ module _ (xs : List ℕ) (are : AreBytes xs) where
   time-below_zero (suc (suc (suc zero))) few low some = below_zero-3 (big_number 3 xs) (big_number 3 (drop 3 xs)) (big_number 6 xs) low some (part_below 3 few) (split 3 xs few)
   time-below_zero (suc (suc (suc (suc n)))) few low some = absurd (omega (arith, few))
 
--- ---- fields at their places
+-- ---- the bits of the fields
 
 none_below : (n : ℕ) → int_lt (pos n) (pos 0) ≡ false
 none_below n = elim (leb_tells (suc n) 0) [ inl t ↦ absurd (omega (arith, t.1)) | inr t ↦ t.0 ]

@@ -1,4 +1,4 @@
--- Numbers with zeros before them, digit by digit, and the digits of microseconds that are shown.
+-- Numbers with leading zeros, digit by digit, and the printed digits of microseconds.
 use Rattle.std.proofs.Common.{◌≡◌, ◌≤◌, ◌<◌, ◌^◌, ◌+◌, ◌-◌, ◌/◌, ◌%◌, ◌∷◌, [], ◌++◌, ℕ, suc, List, Bool, Option, Some, true, false, length, take, min, replicate, append_assoc, ap, sym, refl, arith, ◌∙◌}
 use Rattle.std.specs.Prelude.{◌==◌, map, nat_lt, if◌then◌else◌}
 use Rattle.std.specs.List.{flat_map}
@@ -6,14 +6,14 @@ use Rattle.std.specs.Fmt.{decimal}
 use Rattle.std.proofs.lemmas.Bool.{ltb-true, ltb-false, lt-ltb}
 use Rattle.std.proofs.lemmas.Fmt.{decimal_digit, decimal_step, decimal_nonempty}
 use Rattle.std.proofs.lemmas.List.{take_min, take_all, take-map, replicate_more, length-append}
-use Rattle.rows_times.specs.TimeTexts.{padded, two_digits, micros_text}
+use Rattle.rows_times.specs.TimeTexts.{padded_decimal, two_digits, micros_text}
 
 longer : (n : ℕ) → 10 ≤ n → n < 2 ^ 64 → length (decimal n) ≡ length (decimal (n / 10)) + 1
 longer n m h = ap length (decimal_step n m h) ∙ length-append (decimal (n / 10)) ((48 + n % 10) ∷ [])
 
--- the last digit stands apart
-pub padded_more : (k n : ℕ) → n < 2 ^ 64 → padded (suc (suc k)) n ≡ padded (suc k) (n / 10) ++ (48 + n % 10) ∷ []
-unfolding padded
+-- the last digit separated
+pub padded_more : (k n : ℕ) → n < 2 ^ 64 → padded_decimal (suc (suc k)) n ≡ padded_decimal (suc k) (n / 10) ++ (48 + n % 10) ∷ []
+unfolding padded_decimal
 padded_more k n h = either (nat_lt n 10) refl
   where
     either : (b : Bool) → nat_lt n 10 ≡ b
@@ -32,8 +32,8 @@ padded_more k n h = either (nat_lt n 10) refl
         ∙ ap (λ (t : List ℕ). replicate (suc k - length (decimal (n / 10))) 48 ++ t) (decimal_step n m h)
         ∙ sym (append_assoc (replicate (suc k - length (decimal (n / 10))) 48) (decimal (n / 10)) ((48 + n % 10) ∷ []))
 
-pub padded_one : (n : ℕ) → n < 10 → padded 1 n ≡ (48 + n) ∷ []
-unfolding padded
+pub padded_one : (n : ℕ) → n < 10 → padded_decimal 1 n ≡ (48 + n) ∷ []
+unfolding padded_decimal
 padded_one n l = rw (decimal_digit n l) refl
 
 -- two digits, one by one
@@ -44,8 +44,8 @@ two_parts n h =
     rw (lt-ltb n 100 h, padded_more 0 n (omega (arith, h)), padded_one (n / 10) high, decimal_digit (n / 10) high, decimal_digit (n % 10) (omega arith)) refl
 
 -- at least two digits
-pub padded_two : (n : ℕ) → n < 2 ^ 64 → (if nat_lt n 10 then 48 ∷ [] else []) ++ decimal n ≡ padded 2 n
-unfolding padded
+pub padded_two : (n : ℕ) → n < 2 ^ 64 → (if nat_lt n 10 then 48 ∷ [] else []) ++ decimal n ≡ padded_decimal 2 n
+unfolding padded_decimal
 padded_two n h = either (nat_lt n 10) refl
   where
     either : (b : Bool) → nat_lt n 10 ≡ b → (if b then 48 ∷ [] else []) ++ decimal n ≡ replicate (2 - length (decimal n)) 48 ++ decimal n
@@ -55,7 +55,7 @@ padded_two n h = either (nat_lt n 10) refl
         let e : 2 - length (decimal n) ≡ 0 = omega (arith, longer n m h, decimal_nonempty (n / 10) (omega (arith, h))) in
         rw e refl
 
--- what each digit of the microseconds counts, the highest first
+-- the weight of each digit of the microseconds, the highest first
 abbrev pub powers : List ℕ
 powers = 100000 ∷ 10000 ∷ 1000 ∷ 100 ∷ 10 ∷ 1 ∷ []
 
@@ -63,7 +63,7 @@ each_digit : (n : ℕ) (l : List ℕ) → flat_map (λ power. decimal (n / power
 each_digit n [] = refl
 each_digit n (power ∷ l) = rw (decimal_digit (n / power % 10) (omega arith)) (ap (λ (t : List ℕ). (48 + n / power % 10) ∷ t) (each_digit n l))
 
-six_digits : (n : ℕ) → map (λ power. 48 + n / power % 10) powers ≡ padded 6 (n % 1000000)
+six_digits : (n : ℕ) → map (λ power. 48 + n / power % 10) powers ≡ padded_decimal 6 (n % 1000000)
 six_digits n =
     let m : ℕ = n % 1000000 in
     let h : m < 1000000 = omega arith in
@@ -75,7 +75,7 @@ six_digits n =
     let f : m % 10 ≡ n / 1 % 10 = omega arith in
     rw (padded_more 4 m (omega (arith, h)), padded_more 3 (m / 10) (omega (arith, h)), padded_more 2 (m / 10 / 10) (omega (arith, h)), padded_more 1 (m / 10 / 10 / 10) (omega (arith, h)), padded_more 0 (m / 10 / 10 / 10 / 10) (omega (arith, h)), padded_one (m / 10 / 10 / 10 / 10 / 10) (omega (arith, h)), a, b, c, d, e, f) refl
 
--- a point and all digits that were taken are the fraction's text
+-- a point and all digits that were written are the fraction's text
 pub fraction_whole : (o : Option ℕ) (p n k : ℕ) (shown : List ℕ) → o ≡ Some p → (p == 0) ≡ false → shown ≡ take (min p 6) powers → length shown ≤ k
     → 46 ∷ flat_map (λ power. decimal (n / power % 10)) (take k shown) ≡ micros_text o n
 unfolding micros_text

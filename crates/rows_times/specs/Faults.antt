@@ -1,10 +1,10 @@
--- What the faults of the wire are called where rows are read.
+-- The `RowsError` of each `WireFault`.
 use Rattle.wire_buf.specs.declared.fault.WireFault.{WireFault}
 use Rattle.wire_buf.specs.declared.fault.WireFault.TheVariants.{Eof, BadNumber, BadConst, Memory, Read, Write, Form}
 use Rattle.rows_times.specs.declared.fault.RowsError.{RowsError}
 use Rattle.rows_times.specs.declared.fault.RowsError.TheVariants as rows
 
--- the bytes end, they stand for nothing, memory is refused, or the device failed
+-- the bytes end, they encode nothing known, memory ran out, or the device failed
 abbrev pub rows_error : WireFault → RowsError
 rows_error Eof = rows.EndOfBody
 rows_error BadNumber = rows.UnknownNumber

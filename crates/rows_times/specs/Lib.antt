@@ -2,6 +2,6 @@ pub mod Faults
 pub mod PackedTimes
 pub mod ReadTimes
 pub mod TimeFields
-pub mod TimePlaces
+pub mod TimeBits
 pub mod TimeTexts
 pub mod Readings

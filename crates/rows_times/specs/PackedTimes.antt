@@ -1,9 +1,9 @@
--- Packed times: a date with a time, or a span of time, in 64 bits; and what the bytes of TIME2, DATETIME2 and TIMESTAMP2 cells are worth.
+-- Packed times: a date and time, or a time span, in 64 bits; and the values of TIME2, DATETIME2 and TIMESTAMP2 cells. MySQL's source: `mysys/my_time.cc`.
 use Rattle.std.specs.Prelude.{ℕ, suc, ◌+◌, ◌-◌, ◌*◌, ◌/◌, ◌%◌, ◌^◌, ℤ, pos, negsuc, ◌+ℤ◌, ◌-ℤ◌, ◌*ℤ◌, neg_ℤ, List, drop, nat_le, if◌then◌else◌}
 use Rattle.std.specs.Int.{w64, int_wrap}
 use Rattle.byteorder.specs.Endian.{big_number, twos_complement}
 
--- i above the 24 bits of a fraction, which is f microseconds; past 64 bits the value wraps
+-- i above the 24 bits of a fraction of f microseconds; a value of more than 64 bits wraps
 abbrev pub packed_time : ℤ → ℤ → ℤ
 packed_time i f = int_wrap w64 ((i *ℤ pos 16777216) +ℤ f)
 
@@ -11,7 +11,7 @@ packed_time i f = int_wrap w64 ((i *ℤ pos 16777216) +ℤ f)
 abbrev pub packed_time_int : ℤ → ℤ
 packed_time_int i = int_wrap w64 (i *ℤ pos 16777216)
 
--- what stands above the fraction, rounded down
+-- the bits above the fraction, rounded down
 abbrev pub int_part : ℤ → ℤ
 int_part (pos n) = pos (n / 16777216)
 int_part (negsuc n) = negsuc (n / 16777216)
@@ -21,31 +21,31 @@ abbrev pub frac_part : ℤ → ℤ
 frac_part (pos n) = pos (n % 16777216)
 frac_part (negsuc n) = neg_ℤ (pos ((n + 1) % 16777216))
 
--- the bytes of a fraction of so many decimals: one for each two of them, and none past six
+-- the number of bytes of a fraction with so many decimal digits: one for every two digits, none for more than six
 abbrev pub fraction_len : ℕ → ℕ
 fraction_len decimals = if nat_le decimals 6 then (decimals + 1) / 2 else 0
 
--- a signed fraction of n bytes, in microseconds: n bytes count hundredths, ten thousandths or microseconds
+-- a signed fraction of n bytes, in microseconds: 1, 2 or 3 bytes count units of 10,000, 100 or 1 microseconds
 abbrev pub fraction : ℕ → List ℕ → ℤ
 fraction n bytes = twos_complement n (big_number n bytes) *ℤ pos (100 ^ (3 - n))
 
--- so many parts of a second, of which there are `unit` in one and which are `worth` microseconds each
+-- a time of n parts of a second, with `unit` parts in a second and `unit_micros` microseconds in a part
 abbrev pub packed_parts : ℕ → ℕ → ℕ → ℕ
-packed_parts unit worth n = n / unit * 16777216 + n % unit * worth
+packed_parts unit unit_micros n = n / unit * 16777216 + n % unit * unit_micros
 
 -- the same with a sign: a negative time is the opposite of its magnitude
 abbrev pub packed_signed : ℕ → ℕ → ℤ → ℤ
-packed_signed unit worth (pos n) = pos (packed_parts unit worth n)
-packed_signed unit worth (negsuc n) = neg_ℤ (pos (packed_parts unit worth (suc n)))
+packed_signed unit unit_micros (pos n) = pos (packed_parts unit unit_micros n)
+packed_signed unit unit_micros (negsuc n) = neg_ℤ (pos (packed_parts unit unit_micros (suc n)))
 
--- A TIME2 with n bytes of fraction: one number of 3 + n bytes, which counts parts of a second from the middle of its range.
+-- A TIME2 with n bytes of fraction: one number of 3 + n bytes that counts parts of a second from the middle of its range.
 abbrev pub time2 : ℕ → List ℕ → ℤ
 time2 n bytes = packed_signed (256 ^ n) (100 ^ (3 - n)) (pos (big_number (3 + n) bytes) -ℤ pos (2 ^ (8 * (3 + n) - 1)))
 
--- A DATETIME2 with n bytes of fraction: five bytes above it, less 2 ^ 39.
+-- A DATETIME2 with n bytes of fraction: five bytes, less 2 ^ 39, before it.
 abbrev pub datetime2 : ℕ → List ℕ → ℤ
 datetime2 n bytes = packed_time (pos (big_number 5 bytes) -ℤ pos (2 ^ 39)) (fraction n (drop 5 bytes))
 
--- A TIMESTAMP2 with n bytes of fraction: seconds in four bytes, and microseconds.
+-- A TIMESTAMP2 with n bytes of fraction: seconds in four bytes, then the fraction.
 abbrev pub timestamp2 : ℕ → List ℕ → ℤ × ℤ
 timestamp2 n bytes = (twos_complement 4 (big_number 4 bytes), fraction n (drop 4 bytes))

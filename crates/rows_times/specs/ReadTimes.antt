@@ -1,4 +1,4 @@
--- Values of so many bytes, read from a reader whose bytes may be known.
+-- Values of n bytes, read from a reader whose bytes may be known.
 use Rattle.std.specs.Prelude.{◌≡◌, ◌≤◌, ◌<◌, ◌⊎◌, ℕ, List, length, Option}
 use Rattle.std.specs.Io.KnownBytes.{Consumes, IsAtEnd}
 use Rattle.rows_times.specs.declared.fault.RowsError.{RowsError}
@@ -11,8 +11,8 @@ pub record ReadsValue {A : Type 0} (n : ℕ) (value : List ℕ → A) (v : A) (o
   pub size : length bytes ≡ n
   pub value_is : v ≡ value bytes
 
--- at most n bytes were taken: the reader is at its end short of them, or it failed
-pub record IsCut (fault : RowsError) (n : ℕ) (old new : Option (List ℕ)) : Type 0 where
+-- at most n bytes were taken: the reader ended before n, or it failed
+pub record ReadFallsShort (fault : RowsError) (n : ℕ) (old new : Option (List ℕ)) : Type 0 where
   pub taken : List ℕ
   pub consumed : Consumes old new taken
   pub within : length taken ≤ n

@@ -1,4 +1,4 @@
--- What reading gives: a value, or why there is none.
+-- The result of reading: a value or an error.
 use Rattle.std.specs.declared.result.Result.{Result}
 use Rattle.std.specs.declared.result.Result.TheVariants.{Ok, Err}
 use Rattle.rows_times.specs.declared.fault.RowsError.{RowsError}
@@ -11,7 +11,7 @@ abbrev pub ◌>>=◌ : {A B : Type 0} → Reading A → (A → Reading B) → Re
 (Ok x) >>= f = f x
 (Err e) >>= f = Err e
 
--- a result seen by f
-abbrev pub shown : {A B : Type 0} → (A → B) → Result A RowsError → Reading B
-shown f (Ok x) = Ok (f x)
-shown f (Err e) = Err e
+-- a result with f applied to its value
+abbrev pub map_reading : {A B : Type 0} → (A → B) → Result A RowsError → Reading B
+map_reading f (Ok x) = Ok (f x)
+map_reading f (Err e) = Err e

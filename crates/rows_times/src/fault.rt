@@ -6,36 +6,36 @@ use std::alloc::{AllocError, AllocFailed};
 use thiserror::Error;
 use wire_buf::{FieldFault, WireFault};
 
-/// Why a table map, a row, a value or a document in one can't be read. In `mysql_common` these are
-/// `std::io::Error`s with a cause in a box.
+/// Why a table map, a row, a value or a JSON document can't be read. `mysql_common` uses `std::io::Error` for
+/// these.
 #[derive(Clone, Copy, Debug, PartialEq, Eq, Hash, Error)]
 pub enum RowsError {
     /// The bytes end before the value does.
     #[error("unexpected end of the bytes")]
     EndOfBody,
-    /// Bytes are left after the last value.
+    /// Bytes remain after the last value.
     #[error("bytes are left after the last value")]
     RemainingBytes,
-    /// A number stands there that no constant has, or bytes that spell no number.
-    #[error("the bytes spell no known number")]
+    /// A number that no known constant has, or bytes that encode no number.
+    #[error("the bytes encode no known number")]
     UnknownNumber,
     /// The metadata of a column is missing, or its optional metadata can't be read.
     #[error("the metadata of a column can't be read")]
     Metadata,
-    /// The type of a column has no cells that can be read.
+    /// Cells of the column's type can't be read.
     #[error("cells of this type can't be read")]
     Cell,
-    /// A JSON document in binary form, or a change of one, can't be read; with the fault of its
-    /// pointers and sizes where it is one of those.
+    /// A binary JSON document, or a change of one, can't be read; with the error if its pointers or sizes are
+    /// wrong.
     #[error("the JSON document can't be read")]
     Jsonb(Option<JsonbError>),
-    /// The digits of a decimal are out of range, or it has more digits after the point than in all.
+    /// The digits of a decimal are out of range, or its scale is greater than its precision.
     #[error("the decimal can't be read")]
     Decimal,
-    /// A pair of row images takes no bytes, so that the pairs would never end.
+    /// A pair of row images takes no bytes, so that there would be endlessly many.
     #[error("a row takes no bytes")]
     EmptyPair,
-    /// Memory was refused.
+    /// Out of memory.
     #[error("out of memory")]
     Memory,
     /// The reader failed.
@@ -43,16 +43,16 @@ pub enum RowsError {
     Read,
 }
 
-/// What is wrong with the pointers and sizes of a JSON document in binary form.
+/// What is wrong with the pointers and sizes of a binary JSON document.
 #[derive(Clone, Copy, Debug, PartialEq, Eq, Hash, Error)]
 pub enum JsonbError {
-    /// A key doesn't lie between the header of its object and the object's end.
+    /// A key isn't between the header of its object and the object's end.
     #[error("a key of a JSON object lies outside the object")]
     InvalidKeyOffsetPointer,
-    /// A value doesn't lie between its entry and the end of its container.
+    /// A value isn't between its entry and the end of its container.
     #[error("a value of a JSON container lies outside the container")]
     InvalidValueOffsetPointer,
-    /// The header of a container, or the container, is larger than what holds it.
+    /// The header of a container, or the container, is larger than its enclosing value.
     #[error("a JSON container is larger than what holds it")]
     SizeOverflow,
 }
@@ -60,7 +60,7 @@ pub enum JsonbError {
 impl From<AllocError> for RowsError {
     ghost from_gives = { λ e f. f ≡ Memory };
 
-    /// Want of memory is `Memory`.
+    /// Returns `Memory`.
     fn from(_error: AllocError) -> RowsError {
         RowsError::Memory
     }
@@ -69,7 +69,7 @@ impl From<AllocError> for RowsError {
 impl<T: Drop> From<AllocFailed<T>> for RowsError {
     ghost from_gives = { λ e f. f ≡ Memory };
 
-    /// Want of memory is `Memory`; the value that found no place is dropped.
+    /// Returns `Memory`; the value that couldn't be stored is dropped.
     fn from(_error: AllocFailed<T>) -> RowsError {
         RowsError::Memory
     }
@@ -78,7 +78,7 @@ impl<T: Drop> From<AllocFailed<T>> for RowsError {
 impl From<JsonbError> for RowsError {
     ghost from_gives = { λ e f. f ≡ Jsonb (Some e) };
 
-    /// The fault of a document's pointers and sizes is kept.
+    /// Returns `Jsonb` with this error.
     fn from(error: JsonbError) -> RowsError {
         RowsError::Jsonb(Some(error))
     }
@@ -87,8 +87,8 @@ impl From<JsonbError> for RowsError {
 impl From<WireFault> for RowsError {
     ghost from_gives = { λ e f. f ≡ rows_error e };
 
-    /// What a fault of the wire is among rows. Reading answers neither `Write` nor `Form`; they are
-    /// taken as a device that failed and as a number that is none.
+    /// Returns the corresponding error. Reading returns neither `Write` nor `Form`; `Write` becomes `Read`,
+    /// and `Form` becomes `UnknownNumber`.
     fn from(fault: WireFault) -> RowsError {
         match fault {
             WireFault::Eof => RowsError::EndOfBody,
@@ -104,5 +104,5 @@ impl From<WireFault> for RowsError {
 impl FieldFault for RowsError {
     ghost is_memory = { λ e. e ≡ Memory };
 
-    ghost tells_memory = { λ f h. h };
+    ghost from_memory = { λ f h. h };
 }

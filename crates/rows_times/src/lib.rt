@@ -1,7 +1,7 @@
-//! What the crates of rows are read with: the faults of reading rows, and the times and dates that are packed in cells.
+//! The errors of reading rows, and the packed times and dates in cells.
 //!
-//! `specs/PackedTimes.antt` says which number the bytes of a cell pack, `specs/TimeFields.antt` which fields such a
-//! number has, and `specs/TimeTexts.antt` how a time is shown.
+//! `specs/PackedTimes.antt` defines the number that the bytes of a cell pack, `specs/TimeFields.antt` the
+//! fields of such a number, and `specs/TimeTexts.antt` the text of a time.
 #![tactic(auto)]
 
 mod fault;

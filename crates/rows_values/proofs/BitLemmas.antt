@@ -13,7 +13,7 @@ use Rattle.rows_values.specs.declared.bits.Bits.{Bits}
 
 -- ---- tables of bytes, computed
 
--- in bytes below n the first k bits are those of a part of the byte
+-- in bytes below n, the first k bits are those of a part of the byte
 abbrev tells : ℕ → ℕ → Bool
 tells k byte = eqb (ones (byte * 2 ^ (8 - k) % 256)) (first_ones false byte k) && eqb (ones (byte / 2 ^ (8 - k))) (first_ones true byte k)
 
@@ -46,7 +46,7 @@ part_ones (suc (suc (suc (suc (suc (suc (suc zero))))))) byte few h = told 7 byt
 part_ones (suc (suc (suc (suc (suc (suc (suc (suc zero)))))))) byte few h = told 8 byte tt h
 part_ones (suc (suc (suc (suc (suc (suc (suc (suc (suc k))))))))) byte few h = absurd (omega (arith, few))
 
--- ---- a byte more
+-- ---- one more byte
 
 count_most : (f : ℕ → Bool) (k : ℕ) → count_below f k ≤ k
 count_most f zero = omega arith
@@ -72,23 +72,23 @@ count_same f g zero h = refl
 count_same f g (suc k) h =
     ap (λ n. n + (if f k then 1 else 0)) (count_same f g k (λ i below. h i (omega (arith, below)))) ∙ ap (λ (b : Bool). count_below g k + (if b then 1 else 0)) (h k (omega arith))
 
-place : (w i : ℕ) → i < 8 → ((8 * w + i) / 8 ≡ w) × ((8 * w + i) % 8 ≡ i)
-place w i h = (omega (arith, h), omega (arith, h))
+position : (w i : ℕ) → i < 8 → ((8 * w + i) / 8 ≡ w) × ((8 * w + i) % 8 ≡ i)
+position w i h = (omega (arith, h), omega (arith, h))
 
--- the first bits of the byte at w are counted behind those of the bytes in front of it
+-- the first bits of the byte at w are counted after those of the bytes before it
 pub byte_more : (b : Bits) (w k : ℕ) → k ≤ 8 → count_below (bit_of b) (8 * w + k) ≡ count_below (bit_of b) (8 * w) + first_ones b.from_highest (slice_index b.bytes.now w) k
 byte_more b w k few = count_more (bit_of b) (8 * w) k ∙ ap (λ n. count_below (bit_of b) (8 * w) + n) (either b.from_highest refl)
   where
     either : (from_highest : Bool) → b.from_highest ≡ from_highest → count_below (λ i. bit_of b (8 * w + i)) k ≡ first_ones from_highest (slice_index b.bytes.now w) k
-    either true is = count_same _ _ k (λ i h. let p = place w i (omega (arith, h, few)) in rw (is, p.0, p.1) refl)
-    either false is = count_same _ _ k (λ i h. let p = place w i (omega (arith, h, few)) in rw (is, p.0, p.1) refl)
+    either true is = count_same _ _ k (λ i h. let p = position w i (omega (arith, h, few)) in rw (is, p.0, p.1) refl)
+    either false is = count_same _ _ k (λ i h. let p = position w i (omega (arith, h, few)) in rw (is, p.0, p.1) refl)
 
 -- all bits of a byte
 pub byte_ones : (from_highest : Bool) (byte : ℕ) → byte < 256 → ones byte ≡ first_ones from_highest byte 8
 byte_ones true byte h = let e : byte / 2 ^ (8 - 8) ≡ byte = omega arith in ap ones (sym e) ∙ (part_ones 8 byte (omega arith) h).1
 byte_ones false byte h = let e : byte * 2 ^ (8 - 8) % 256 ≡ byte = omega (arith, h) in ap ones (sym e) ∙ (part_ones 8 byte (omega arith) h).0
 
--- a whole byte is counted behind the bytes in front of it
+-- a whole byte is counted after the bytes before it
 pub byte_counted : (b : Bits) (w n count byte : ℕ) → w < n → n ≤ length b.bytes.now → byte ≡ get_or (take n b.bytes.now) w 0 → byte < 256 → count ≡ count_below (bit_of b) (8 * w) → count ≤ 8 * w
     → (count + ones byte ≡ count_below (bit_of b) (8 * (w + 1))) × (count + ones byte ≤ 8 * (w + 1))
 byte_counted b w n count byte below room is small counted few =

@@ -1,4 +1,4 @@
--- Bits that are compared one after the other.
+-- Bits that are compared one by one.
 use Rattle.std.proofs.Common.{◌≡◌, ℕ, zero, suc, ◌+◌, ◌-◌, ◌<◌, ◌≤◌, Bool, true, false, [], ◌∷◌, length, refl, sym, ap, ◌∙◌, arith}
 use Rattle.std.specs.Prelude.{◌&&◌}
 use Rattle.std.specs.Bool.{beq}
@@ -6,7 +6,7 @@ use Rattle.std.specs.Option.{option_eq}
 use Rattle.std.specs.Cmp.Lexicographic.{pointwise, unequal}
 use Rattle.std.proofs.lemmas.Bool.{lt-ltb}
 use mathlib.Core.Bool.{not}
-use Rattle.rows_values.specs.BitLists.{list_from, bit_of, bit_at, len_of, list_of}
+use Rattle.rows_values.specs.BitLists.{list_from, bit_of, bit_at, len_of, bit_list}
 use Rattle.rows_values.specs.declared.bits.Bits.{Bits}
 
 length-list_from : (f : ℕ → Bool) (k n : ℕ) → length (list_from f k n) ≡ n
@@ -37,9 +37,9 @@ same_from-end f g k n h =
     let e : n - k ≡ 0 = omega (arith, h) in
     rw (list_from-none f k (n - k) e, list_from-none g k (n - k) e) refl
 
-pub other_length : (a b : Bits) → (len_of a ≡ len_of b → ⊥) → pointwise beq (list_of a) (list_of b) ≡ false
+pub other_length : (a b : Bits) → (len_of a ≡ len_of b → ⊥) → pointwise beq (bit_list a) (bit_list b) ≡ false
 other_length a b n =
-    unequal beq (list_of a) (list_of b) (λ e. n (sym (length-list_from (bit_of a) 0 (len_of a)) ∙ e ∙ length-list_from (bit_of b) 0 (len_of b)))
+    unequal beq (bit_list a) (bit_list b) (λ e. n (sym (length-list_from (bit_of a) 0 (len_of a)) ∙ e ∙ length-list_from (bit_of b) 0 (len_of b)))
 
 pub bits_at-eq : (a b : Bits) (k : ℕ) → k < len_of a → k < len_of b → option_eq beq (bit_at a k) (bit_at b k) ≡ beq (bit_of a k) (bit_of b k)
 bits_at-eq a b k h g = rw (lt-ltb k (len_of a) h, lt-ltb k (len_of b) g) refl
@@ -52,7 +52,7 @@ other_bit : (x : Bool) → not x ≡ true → x ≡ false
 other_bit true e = (cc)
 other_bit false e = refl
 
-pub of_all : (a b : Bits) → len_of a ≡ len_of b → pointwise beq (list_of a) (list_of b) ≡ same_from (bit_of a) (bit_of b) 0 (len_of a)
+pub of_all : (a b : Bits) → len_of a ≡ len_of b → pointwise beq (bit_list a) (bit_list b) ≡ same_from (bit_of a) (bit_of b) 0 (len_of a)
 of_all a b same =
     let e : len_of a ≡ len_of a - 0 = omega arith in
     let g : len_of b ≡ len_of a - 0 = omega (arith, same) in

@@ -1,4 +1,4 @@
--- What `==` tells of columns, times and rows.
+-- The result of `==` on columns, times and rows.
 use Rattle.std.proofs.Common.{◌≡◌, Bool, true≢false, List, [], ◌∷◌, Option, Some, None, map, refl, sym, ap, rules}
 use Rattle.std.proofs.lemmas.Bool.Decides.{Decides-like, Decides-and, Decides-eqb, Decides-int_eq}
 use Rattle.std.specs.Bool.{Decides}

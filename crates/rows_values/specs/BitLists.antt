@@ -1,13 +1,13 @@
--- Bits that stand in bytes: null bits, the bits of columns and of signs.
+-- Bits of bytes: null bitmaps, and the bits of columns and of signedness.
 use Rattle.std.specs.Prelude.{◌≡◌, ℕ, zero, suc, ◌+◌, ◌-◌, ◌/◌, ◌%◌, ◌^◌, Bool, List, [], ◌∷◌, slice_index, Option, Some, None, nat_lt, ◌==◌, if◌then◌else◌}
 use Rattle.rows_values.specs.declared.bits.Bits.{Bits}
 use Rattle.rows_values.specs.declared.bits.BitsIter.{BitsIter}
 
--- bit i, where each byte begins with its lowest bit
+-- bit i, if each byte begins with its lowest bit
 abbrev pub lowest_bit : List ℕ → ℕ → Bool
 lowest_bit bytes i = slice_index bytes (i / 8) / 2 ^ (i % 8) % 2 == 1
 
--- bit i, where each byte begins with its highest bit
+-- bit i, if each byte begins with its highest bit
 abbrev pub highest_bit : List ℕ → ℕ → Bool
 highest_bit bytes i = slice_index bytes (i / 8) / 2 ^ (7 - i % 8) % 2 == 1
 
@@ -17,7 +17,7 @@ bit_of b i = if b.from_highest then highest_bit b.bytes.now i else lowest_bit b.
 abbrev pub len_of : Bits → ℕ
 len_of b = b.len
 
--- bit i, where there is one
+-- bit i, if there is one
 abbrev pub bit_at : Bits → ℕ → Option Bool
 bit_at b i = if nat_lt i (len_of b) then Some (bit_of b i) else None
 
@@ -27,22 +27,22 @@ list_from bit k zero = []
 list_from bit k (suc n) = bit k ∷ list_from bit (k + 1) n
 
 -- the bits, in order
-abbrev pub list_of : Bits → List Bool
-list_of b = list_from (bit_of b) 0 (len_of b)
+abbrev pub bit_list : Bits → List Bool
+bit_list b = list_from (bit_of b) 0 (len_of b)
 
--- how many of the first n are set
+-- how many of the first n bits are set
 abbrev pub count_below : (ℕ → Bool) → ℕ → ℕ
 count_below is_set zero = 0
 count_below is_set (suc n) = count_below is_set n + (if is_set n then 1 else 0)
 
--- bits of which none was passed
+-- an iterator over all bits
 abbrev pub all_bits : Bits → BitsIter
 all_bits b = record { bits = b; next = 0 }
 
--- one step over bits: the next bit is given and passed, where there is one
+-- one step of the iterator: the next bit, if there is one
 abbrev pub TakesBit : BitsIter → Option Bool → BitsIter → Type 0
 TakesBit it bit after =
     (bit ≡ bit_at it.bits it.next) × (after.bits ≡ it.bits) × (after.next ≡ (if nat_lt it.next (len_of it.bits) then it.next + 1 else it.next))
 
-abbrev pub left_of : BitsIter → ℕ
-left_of it = len_of it.bits - it.next
+abbrev pub remaining_bits : BitsIter → ℕ
+remaining_bits it = len_of it.bits - it.next

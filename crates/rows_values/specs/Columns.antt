@@ -1,4 +1,4 @@
--- What the definition of a column says.
+-- The parts of a column's definition.
 use Rattle.std.specs.Prelude.{ℕ, List, []}
 use Rattle.wire_consts.specs.declared.column_type.ColumnType.{ColumnType}
 use Rattle.wire_consts.specs.declared.column_flags.ColumnFlags.{ColumnFlags}

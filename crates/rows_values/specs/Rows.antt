@@ -12,7 +12,7 @@ values_of row = row.values.items
 abbrev pub columns_of : Row → List Column
 columns_of row = rc_slice_items row.columns
 
--- the value at an index, if there is one
+-- the value of a cell, if there is one
 abbrev pub some_value : Option (Option Value) → Option Value
 some_value None = None
 some_value (Some v) = v

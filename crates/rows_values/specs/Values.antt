@@ -1,4 +1,4 @@
--- The values of cells: which are the same, and those that packed times stand for.
+-- The values of cells: which are the same, and the values of packed times.
 use Rattle.std.specs.Prelude.{◌≡◌, ◌/◌, ◌%◌, ℤ}
 use Rattle.rows_values.specs.declared.rows.value.Value.{Value}
 use Rattle.rows_values.specs.declared.rows.value.Value.TheVariants.{Bytes, Date, Time}
@@ -6,20 +6,20 @@ use Rattle.rows_times.specs.declared.times.mysql_time.MysqlTime.{MysqlTime}
 use Rattle.rows_times.specs.declared.times.mysql_time.MysqlTimestampType.TheVariants.{MYSQL_TIMESTAMP_DATETIME}
 use Rattle.rows_times.specs.TimeFields.{span_fields, date_fields}
 
--- the same value, wherever its bytes lie
+-- the same value, wherever its bytes are stored
 abbrev pub SameValue : Value → Value → Type 0
 SameValue (Bytes a) (Bytes b) = a.items ≡ b.items
 SameValue v w = v ≡ w
 
--- a span of time as a value, its hours split into days and hours
+-- a time span as a value, with its hours split into days and hours
 abbrev pub span_of : MysqlTime → Value
 span_of t = Time t.neg (t.hour / 24) (t.hour % 24) t.minute t.second t.second_part
 
--- a date with a time as a value, which has no sign
+-- a date and time as a value, without a sign
 abbrev pub date_of : MysqlTime → Value
 date_of t = Date t.year t.month t.day t.hour t.minute t.second t.second_part
 
--- the values that packed times stand for
+-- the values of packed times
 abbrev pub span_value : ℤ → Value
 span_value packed = span_of (span_fields packed)
 

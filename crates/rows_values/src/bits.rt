@@ -1,7 +1,7 @@
 ghost use Rattle.std.specs.Prelude.{◌≤◌, ◌*◌, length};
 
-/// Bits that stand in bytes, one after the other: from the lowest bit of each byte to its highest,
-/// or the other way round.
+/// Bits of bytes in sequence: from the lowest bit of each byte to its highest, or from the highest to the
+/// lowest.
 #[derive(Clone, Copy)]
 pub struct Bits<'a> {
     bytes: &'a [u8],
@@ -15,7 +15,7 @@ impl<'a> Bits<'a> {
     ghost use Rattle.rows_values.specs.BitCounts.{first_ones as first_ones_of};
     ghost use Rattle.rows_values.specs.BitLists.{lowest_bit, highest_bit, bit_of, len_of, bit_at, count_below, all_bits};
 
-    /// The first bits of these bytes, each byte from its lowest bit on, as null bits stand.
+    /// Returns the first `len` bits of these bytes, each byte from its lowest bit on, as in a null bitmap.
     pub fn lowest(bytes: &'a [u8], len: usize) -> Bits<'a>
         requires { len ≤ 8 * length bytes.now }
         ensures len { len_of result ≡ len }
@@ -28,8 +28,8 @@ impl<'a> Bits<'a> {
         }
     }
 
-    /// The first bits of these bytes, each byte from its highest bit on, as the signs of columns
-    /// stand.
+    /// Returns the first `len` bits of these bytes, each byte from its highest bit on, as in the signedness
+    /// of columns.
     pub fn highest(bytes: &'a [u8], len: usize) -> Bits<'a>
         requires { len ≤ 8 * length bytes.now }
         ensures len { len_of result ≡ len }
@@ -42,21 +42,21 @@ impl<'a> Bits<'a> {
         }
     }
 
-    /// How many bits there are.
+    /// Returns the number of bits.
     pub fn len(&self) -> usize
         ensures { result ≡ len_of self.now }
     {
         self.len
     }
 
-    /// Whether there are none.
+    /// Returns whether there are no bits.
     pub fn is_empty(&self) -> bool
         ensures { result ≡ (len_of self.now == 0) }
     {
         self.len == 0
     }
 
-    /// The bit at this index; None past the last.
+    /// Returns the bit at this index, or None if the index is out of range.
     pub fn get(&self, index: usize) -> Option<bool>
         ensures { result ≡ bit_at self.now index }
     {
@@ -64,12 +64,16 @@ impl<'a> Bits<'a> {
             return None;
         }
         let byte = self.bytes[index / 8];
-        let place = (index % 8) as u32;
-        let shift = if self.from_highest { 7 - place } else { place };
+        let position = (index % 8) as u32;
+        let shift = if self.from_highest {
+            7 - position
+        } else {
+            position
+        };
         Some((byte >> shift) % 2 == 1)
     }
 
-    /// How many bits are set.
+    /// Returns the number of bits that are set.
     pub fn count_ones(&self) -> usize
         ensures { result ≡ count_below (bit_of self.now) (len_of self.now) }
     {
@@ -85,7 +89,8 @@ impl<'a> Bits<'a> {
         count
     }
 
-    /// How many of the first bits of a byte are set, from its lowest or from its highest on.
+    /// Returns how many of the first `count` bits of a byte are set, from its lowest or from its highest bit
+    /// on.
     fn first_ones(byte: u8, count: u32, from_highest: bool) -> usize
         requires some { 0 < count }
         requires few { count < 8 }
@@ -101,7 +106,7 @@ impl<'a> Bits<'a> {
         first.count_ones() as usize
     }
 
-    /// The bits in order.
+    /// Returns an iterator over the bits in order.
     pub fn iter(&self) -> BitsIter<'a>
         ensures { result ≡ all_bits self.now }
     {
@@ -112,16 +117,16 @@ impl<'a> Bits<'a> {
     }
 }
 
-/// Two are equal where they have the same bits in the same order, however these stand in bytes.
+/// Two are equal if they have the same bits in the same order, however the bytes store them.
 impl PartialEq for Bits<'_> {
     ghost use Rattle.std.specs.Bool.{beq};
     ghost use Rattle.std.specs.Cmp.{bool_eq_equiv, on_per, partial_equiv_from_equiv};
     ghost use Rattle.std.specs.Cmp.Lexicographic.{lists_equiv, pointwise};
-    ghost use Rattle.rows_values.specs.BitLists.{list_of};
+    ghost use Rattle.rows_values.specs.BitLists.{bit_list};
 
-    ghost eq = { λ a b. pointwise beq (list_of a) (list_of b) };
+    ghost eq = { λ a b. pointwise beq (bit_list a) (bit_list b) };
 
-    ghost laws = { on_per list_of (partial_equiv_from_equiv (lists_equiv bool_eq_equiv)) };
+    ghost laws = { on_per bit_list (partial_equiv_from_equiv (lists_equiv bool_eq_equiv)) };
 
     fn eq(&self, other: &Bits<'_>) -> bool {
         if self.len != other.len {
@@ -139,9 +144,9 @@ impl PartialEq for Bits<'_> {
 impl Eq for Bits<'_> {
     ghost use Rattle.std.specs.Cmp.{bool_eq_equiv, on_equiv};
     ghost use Rattle.std.specs.Cmp.Lexicographic.{lists_equiv};
-    ghost use Rattle.rows_values.specs.BitLists.{list_of};
+    ghost use Rattle.rows_values.specs.BitLists.{bit_list};
 
-    ghost laws = { on_equiv list_of (lists_equiv bool_eq_equiv) };
+    ghost laws = { on_equiv bit_list (lists_equiv bool_eq_equiv) };
 }
 
 /// The bits of [`Bits`] in order.
@@ -153,13 +158,13 @@ pub struct BitsIter<'a> {
 
 impl<'a> Iterator for BitsIter<'a> {
     ghost use Rattle.std.specs.Iterator.{at_most};
-    ghost use Rattle.rows_values.specs.BitLists.{TakesBit, left_of};
+    ghost use Rattle.rows_values.specs.BitLists.{TakesBit, remaining_bits};
 
     type Item = bool;
 
     ghost next_gives = { TakesBit };
 
-    ghost remaining = { λ it. at_most (left_of it) };
+    ghost remaining = { λ it. at_most (remaining_bits it) };
 
     fn next(&mut self) -> Option<bool> {
         if self.next >= self.bits.len {

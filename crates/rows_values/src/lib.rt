@@ -1,7 +1,7 @@
-//! What the rows of a binary log are made of: values, columns, rows and bits.
+//! The parts of a binary log's rows: values, columns, rows and bits.
 //!
-//! `specs/Values.antt` says which values are the same and which value a packed time is, `specs/BitLists.antt` which
-//! bit of bytes is which.
+//! `specs/Values.antt` defines which values are the same and the value of a packed time,
+//! `specs/BitLists.antt` the order of the bits in bytes.
 #![tactic(auto)]
 
 mod bits;

@@ -1,4 +1,4 @@
-pub mod SpellingLemmas
+pub mod EncodingLemmas
 pub mod NumberLemmas
 pub mod LenencLemmas
 pub mod StringLemmas

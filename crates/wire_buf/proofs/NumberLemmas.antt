@@ -1,10 +1,10 @@
--- Reads of numbers of n bytes, as the calls of `ParseBuf` give them.
+-- Reads of numbers of n bytes, as `ParseBuf`'s calls return them.
 use Rattle.std.proofs.Common.{◌≡◌, ◌≤◌, ℕ, ℤ, List, length, drop, slice_index, add-zero, ap, sym, ◌∙◌}
 use Rattle.byteorder.specs.Endian.{little_number, big_number, twos_complement}
 use Rattle.byteorder.specs.Numbers.{little_from-append, big_from-append}
-use Rattle.wire_buf.specs.Spelling.{Reads, Alone}
+use Rattle.wire_buf.specs.Encoding.{Reads, Alone}
 use Rattle.wire_buf.specs.Numbers.{IsLittle, IsBig, IsSignedLittle, IsSignedBig, little_signed, big_signed}
-use Rattle.wire_buf.proofs.SpellingLemmas.{Reads-fixed}
+use Rattle.wire_buf.proofs.EncodingLemmas.{Reads-fixed}
 
 pub little_reads : (n v : ℕ) (x y : List ℕ) → n ≤ length x → v ≡ little_number n x → y ≡ drop n x → Reads (Alone (IsLittle n)) v x y
 little_reads n v x y = Reads-fixed (little_number n) n v x y (little_from-append n)

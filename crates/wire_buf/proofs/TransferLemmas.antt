@@ -1,15 +1,15 @@
--- Bytes that a reader gave and a writer took.
+-- The bytes that a reader returned and a writer took.
 use Rattle.std.proofs.Common.{◌-◌, slice_range, le_refl, drop_at, length-take-le, ◌≡◌, ◌≤◌, ◌+◌, ◌++◌, ℕ, List, [], length, take, drop, append_assoc, arith, refl, sym, ap, subst, ◌∙◌, Option, Some, None}
 use Rattle.std.proofs.lemmas.List.{append-nil, take-append-drop, take_rest}
 use Rattle.std.proofs.Math.Seq.{take-append_seam}
-use Rattle.wire_buf.specs.Transfers.{Fills, WritesSome}
+use Rattle.wire_buf.specs.Transfers.{Fills, WritesPrefix}
 use Rattle.std.proofs.lemmas.Slice.{take-put_mid_below}
 use Rattle.std.proofs.KnownBytes.{Consumes-trans, Consumes-kept, Appends-nil, Appends-trans, Appends-kept}
 use borrow.Rule.Slice.PartMut.{put_mid, post_of}
 use lib.Seq.{take-add, take-append-le}
 use Rattle.std.specs.Io.KnownBytes.{Consumes, Appends, Keeps}
 
--- bytes were taken so that `left` of the n are left to take
+-- of n bytes, all but `left` are taken
 pub record GathersSome (old new : Option (List ℕ)) (n left : ℕ) (before after : List ℕ) : Type 0 where
   pub taken : List ℕ
   pub consumed : Consumes old new taken
@@ -24,11 +24,11 @@ pub Keeps-same : (a : Option (List ℕ)) → Keeps a a
 Keeps-same None = tt
 Keeps-same (Some xs) = refl
 
--- a buffer whose first a bytes were taken, and then n more into its part from place a on
+-- the first a bytes of a buffer are unchanged, and the slice from a to b joins them
 take_split : (a b : ℕ) (old new : List ℕ) → a ≤ b → take a new ≡ take a old → take a old ++ slice_range new a b ≡ take b new
-take_split a b old new h front =
+take_split a b old new h prefix =
     let same : a + (b - a) ≡ b = omega arith in
-    ap (λ l. l ++ slice_range new a b) (sym front) ∙ sym (take-add a (b - a) new) ∙ ap (λ n. take n new) same
+    ap (λ l. l ++ slice_range new a b) (sym prefix) ∙ sym (take-add a (b - a) new) ∙ ap (λ n. take n new) same
 
 slice_range-put_mid : (a k n : ℕ) (xs ys : List ℕ) → a ≤ length xs → n ≤ length ys → slice_range (put_mid a k xs ys) a (a + n) ≡ take n ys
 slice_range-put_mid a k n xs ys within fits =
@@ -36,7 +36,7 @@ slice_range-put_mid a k n xs ys within fits =
     let after = post_of a k xs in
     ap (take ((a + n) - a)) (drop_at (take a xs) (ys ++ after) a (length-take-le a xs within)) ∙ ap (λ m. take m (ys ++ after)) same ∙ take-append-le n ys after fits
 
--- the place up to which a buffer is filled, once a part of it was written
+-- the prefix of a buffer that is filled after a part of it was written
 take-put_mid_part : (a k n : ℕ) (xs ys : List ℕ) → a ≤ length xs → n ≤ length ys → take (a + n) (put_mid a k xs ys) ≡ take a xs ++ take n ys
 take-put_mid_part a k n xs ys within fits =
     let part = slice_range-put_mid a k n xs ys within fits in
@@ -84,7 +84,7 @@ fills_ended at a k n zs xs ys old mid new f within zero none = record {
   joined = take-put_mid_below a k xs ys a (le_refl a) f.within ∙ f.joined;
 }
 
--- what is gone from the rest was written
+-- the bytes that are no longer in the rest were written
 pub record HasWritten (old new : Option (List ℕ)) (all rest : List ℕ) : Type 0 where
   pub gone : List ℕ
   pub split : all ≡ gone ++ rest
@@ -107,7 +107,7 @@ written_kept old mid new all rest h kept = record { gone = h.gone; split = h.spl
 pub written_all : (old new : Option (List ℕ)) (all rest : List ℕ) → HasWritten old new all rest → rest ≡ [] → Appends old new all
 written_all old new all rest h none = subst (Appends old new) (sym (h.split ∙ ap (λ l. h.gone ++ l) none ∙ append-nil h.gone)) h.appended
 
-pub written_some : (old new : Option (List ℕ)) (all rest : List ℕ) → HasWritten old new all rest → WritesSome all old new
+pub written_some : (old new : Option (List ℕ)) (all rest : List ℕ) → HasWritten old new all rest → WritesPrefix all old new
 written_some old new all rest h = record {
   count = length h.gone;
   appended = subst (Appends old new) (sym (ap (take (length h.gone)) h.split ∙ take-append_seam h.gone rest)) h.appended;

@@ -1,8 +1,8 @@
-pub mod Spelling
+pub mod Encoding
 pub mod Eating
 pub mod Numbers
 pub mod Writing
-pub mod Fronts
-pub mod Refusals
+pub mod LenencSplit
+pub mod ReadErrors
 pub mod Transfers
 pub mod Watched

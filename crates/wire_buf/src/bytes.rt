@@ -1,16 +1,15 @@
-//! Bytes as they stand, as fields: slices and buffers of a length that the context gives, and
-//! arrays.
+//! Raw bytes as fields: slices and buffers of a length that the context gives, and arrays.
 
 ghost use Rattle.std.specs.Prelude.{◌≡◌, List, ℕ, Some, length};
-ghost use Rattle.wire_buf.specs.Spelling.{Alone, IsBytes};
-ghost use Rattle.wire_buf.specs.Refusals.{EndsBefore};
+ghost use Rattle.wire_buf.specs.Encoding.{Alone, IsBytes};
+ghost use Rattle.wire_buf.specs.ReadErrors.{EndsBefore};
 
 use crate::fault::WireFault;
 use crate::parse_buf::ParseBuf;
 use crate::traits::{AnySize, FixedSize, Inner, MyDeserialize, MySerialize};
 use std::alloc::{Allocator, Global};
 
-/// The next bytes, as many as the context says. It is a part of the source.
+/// The next bytes, as many as the context says, as a part of the source.
 impl<'de> MyDeserialize<'de> for &'de [u8] {
     const SIZE: Option<usize> = None;
 
@@ -24,9 +23,9 @@ impl<'de> MyDeserialize<'de> for &'de [u8] {
 
     ghost view = { λ v. v.now };
 
-    ghost spells = { λ ctx. Alone (IsBytes ctx) };
+    ghost encodes = { λ ctx. Alone (IsBytes ctx) };
 
-    ghost refusal = { EndsBefore };
+    ghost fails_with = { EndsBefore };
 
     fn deserialize(
         _alloc: Global,
@@ -42,7 +41,7 @@ impl<'de> MyDeserialize<'de> for &'de [u8] {
     ghost sized = { λ ctx v bytes rest h. tt };
 }
 
-/// The next bytes, as many as the context says, as a buffer of their own.
+/// The next bytes, as many as the context says, as a buffer.
 impl<'de> MyDeserialize<'de> for ParseBuf<'de> {
     const SIZE: Option<usize> = None;
 
@@ -56,9 +55,9 @@ impl<'de> MyDeserialize<'de> for ParseBuf<'de> {
 
     ghost view = { λ v. v.0.now };
 
-    ghost spells = { λ ctx. Alone (IsBytes ctx) };
+    ghost encodes = { λ ctx. Alone (IsBytes ctx) };
 
-    ghost refusal = { EndsBefore };
+    ghost fails_with = { EndsBefore };
 
     fn deserialize(
         _alloc: Global,
@@ -88,9 +87,9 @@ impl<'de, const LEN: usize> MyDeserialize<'de> for [u8; LEN] {
 
     ghost view = { λ v. v };
 
-    ghost spells = { λ ctx. Alone (IsBytes LEN) };
+    ghost encodes = { λ ctx. Alone (IsBytes LEN) };
 
-    ghost refusal = { λ ctx. EndsBefore LEN };
+    ghost fails_with = { λ ctx. EndsBefore LEN };
 
     fn deserialize(
         _alloc: Global,
@@ -110,9 +109,9 @@ impl<const LEN: usize> MySerialize for [u8; LEN] {
 
     ghost view = { λ v. v };
 
-    ghost form = { Alone (IsBytes LEN) };
+    ghost encoding = { Alone (IsBytes LEN) };
 
-    ghost spelling = { λ v. Some v };
+    ghost encoded = { λ v. Some v };
 
     fn serialize<A: Allocator>(&self, buf: &mut Vec<u8, A>) -> Result<(), WireFault> {
         buf.extend_from_slice(&self[..])?;
@@ -124,15 +123,15 @@ impl<const LEN: usize> Inner for [u8; LEN] {
     ghost before_any = { λ rest. tt };
 }
 
-/// The bytes of the slice as they stand. `mysql_common` has this for `[u8]`.
+/// The slice's bytes, unchanged. `mysql_common` has this for `[u8]`.
 impl MySerialize for &[u8] {
     ghost View = { List ℕ };
 
     ghost view = { λ v. v.now };
 
-    ghost form = { λ v. Alone (IsBytes (length v)) v };
+    ghost encoding = { λ v. Alone (IsBytes (length v)) v };
 
-    ghost spelling = { λ v. Some v };
+    ghost encoded = { λ v. Some v };
 
     fn serialize<A: Allocator>(&self, buf: &mut Vec<u8, A>) -> Result<(), WireFault> {
         buf.extend_from_slice(self)?;

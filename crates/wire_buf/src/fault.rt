@@ -4,20 +4,20 @@ ghost use Rattle.wire_buf.specs.declared.fault.WireFault.TheVariants.{Memory};
 use std::alloc::{AllocError, AllocFailed};
 use thiserror::Error;
 
-/// Why a field can't be read or written. In `mysql_common` these are `std::io::Error`s.
+/// Why a field can't be read or written. `mysql_common` uses `std::io::Error` for these.
 #[derive(Clone, Copy, Debug, PartialEq, Eq, Hash, Error)]
 pub enum WireFault {
     /// The bytes end before the value does.
     #[error("unexpected end of the bytes")]
     Eof,
-    /// The bytes that stand there spell no number: a length-encoded integer that begins with 251 or
-    /// 255, or a `VarLen` past 32 bits or five bytes.
-    #[error("the bytes spell no number")]
+    /// The bytes encode no number: a length-encoded integer that begins with 251 or 255, or a `VarLen`
+    /// integer of more than 32 bits or more than five bytes.
+    #[error("the bytes encode no number")]
     BadNumber,
-    /// A number stands there that no constant has, or bytes that aren't the constant ones.
-    #[error("the bytes spell no known constant")]
+    /// A number that no known constant has, or bytes that differ from the constant ones.
+    #[error("the bytes encode no known constant")]
     BadConst,
-    /// Memory was refused.
+    /// Out of memory.
     #[error("out of memory")]
     Memory,
     /// The reader failed.
@@ -26,8 +26,8 @@ pub enum WireFault {
     /// The writer failed.
     #[error("the writer failed")]
     Write,
-    /// A value to be written doesn't fit its form, as a number past its field's width.
-    #[error("the value doesn't fit its form")]
+    /// The value doesn't fit its encoding, such as a number that exceeds its field's width.
+    #[error("the value doesn't fit its format")]
     Form,
 }
 

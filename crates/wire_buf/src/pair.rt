@@ -1,19 +1,19 @@
-//! A field after a field, and a field behind a reference.
+//! A field after a field, and a field by reference.
 
 ghost use Rattle.std.specs.Prelude.{None};
-ghost use Rattle.wire_buf.specs.Spelling.{Both, both};
-ghost use Rattle.wire_buf.specs.Writing.{both_spellings};
-ghost use Rattle.wire_buf.specs.Refusals.{PairRefusal, ParseRefusal};
+ghost use Rattle.wire_buf.specs.Encoding.{Both, both};
+ghost use Rattle.wire_buf.specs.Writing.{both_encoded};
+ghost use Rattle.wire_buf.specs.ReadErrors.{PairFails, ParseFails};
 ghost use Rattle.wire_buf.specs.declared.fault.WireFault.TheVariants.{Eof};
 
 use crate::fault::WireFault;
 use crate::parse_buf::ParseBuf;
 use crate::traits::{Inner, MyDeserialize, MySerialize, WireSize};
-use crate::undo::whole_or_none;
+use crate::undo::truncate_on_error;
 use std::alloc::{Allocator, Global};
 use std::marker::PhantomData;
 
-/// How many bytes a pair takes: it isn't said.
+/// The size of a pair: not given, even if both fields have one.
 pub struct PairSize<A, B>(PhantomData<A>, PhantomData<B>);
 
 impl<A, B> WireSize for PairSize<A, B> {
@@ -22,7 +22,7 @@ impl<A, B> WireSize for PairSize<A, B> {
     ghost SIZE = { None };
 }
 
-/// The one field, and then the other, each in its context.
+/// Reads the first field, then the second, each in its context.
 impl<'de, A: MyDeserialize<'de> + Drop, B: MyDeserialize<'de, Fault = A::Fault>> MyDeserialize<'de>
     for (A, B) {
     const SIZE: Option<usize> = None;
@@ -37,11 +37,11 @@ impl<'de, A: MyDeserialize<'de> + Drop, B: MyDeserialize<'de, Fault = A::Fault>>
 
     ghost view = { both A.view B.view };
 
-    ghost spells = { λ ctx. Both (A.spells ctx.0) (B.spells ctx.1) };
+    ghost encodes = { λ ctx. Both (A.encodes ctx.0) (B.encodes ctx.1) };
 
-    ghost refusal = { λ ctx. PairRefusal (A.spells ctx.0)
-        (ParseRefusal A.Size.SIZE (A.refusal ctx.0) (A.Fault.from_gives Eof))
-        (ParseRefusal B.Size.SIZE (B.refusal ctx.1) (A.Fault.from_gives Eof)) };
+    ghost fails_with = { λ ctx. PairFails (A.encodes ctx.0)
+        (ParseFails A.Size.SIZE (A.fails_with ctx.0) (A.Fault.from_gives Eof))
+        (ParseFails B.Size.SIZE (B.fails_with ctx.1) (A.Fault.from_gives Eof)) };
 
     fn deserialize(
         alloc: Global,
@@ -57,23 +57,23 @@ impl<'de, A: MyDeserialize<'de> + Drop, B: MyDeserialize<'de, Fault = A::Fault>>
     ghost sized = { λ ctx v bytes rest h. tt };
 }
 
-/// The bytes of the one field, and then those of the other; or nothing where one of them is refused.
+/// Writes the first field, then the second; nothing if one of them returns an error.
 impl<A: Inner, B: MySerialize> MySerialize for (A, B) {
     ghost View = { A.View × B.View };
 
     ghost view = { both A.view B.view };
 
-    ghost form = { Both A.form B.form };
+    ghost encoding = { Both A.encoding B.encoding };
 
-    ghost spelling = { both_spellings A.spelling B.spelling };
+    ghost encoded = { both_encoded A.encoded B.encoded };
 
-    ghost suits = { B.suits };
+    ghost allows_rest = { B.allows_rest };
 
     fn serialize<M: Allocator>(&self, buf: &mut Vec<u8, M>) -> Result<(), WireFault> {
         let start = buf.len();
         self.0.serialize(buf)?;
         let written = self.1.serialize(buf);
-        whole_or_none(written, start, buf)
+        truncate_on_error(written, start, buf)
     }
 }
 
@@ -86,11 +86,11 @@ impl<T: MySerialize> MySerialize for &T {
 
     ghost view = { λ v. T.view v.now };
 
-    ghost form = { T.form };
+    ghost encoding = { T.encoding };
 
-    ghost spelling = { T.spelling };
+    ghost encoded = { T.encoded };
 
-    ghost suits = { T.suits };
+    ghost allows_rest = { T.allows_rest };
 
     fn serialize<M: Allocator>(&self, buf: &mut Vec<u8, M>) -> Result<(), WireFault> {
         (**self).serialize(buf)

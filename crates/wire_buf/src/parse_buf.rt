@@ -1,4 +1,4 @@
-//! What is left of a source, and what is eaten from its front.
+//! The remaining bytes of a source, and the calls that read from their start.
 
 ghost use Rattle.std.specs.Prelude.{◌≡◌, ◌≤◌, ◌<◌, ◌↔◌, [], length, take, drop, IfSome, IfNone, IsTrue, slice_index};
 ghost use Rattle.wire_buf.specs.Numbers.{little_signed};
@@ -11,30 +11,29 @@ mod parsing;
 mod reading;
 mod strings;
 
-/// What is left of a source of bytes. Every slice and buffer that it hands out is a part of that
-/// source.
+/// The remaining bytes of a source. Every slice and buffer that it returns is a part of that source.
 ///
-/// A call `eat_..` asks that its bytes stand there; its `checked_eat_..` answers None where they
-/// don't, and then eats nothing.
+/// A call `eat_..` requires that its bytes are there and well-formed (`eat_all` and `eat_null_str` take any
+/// bytes). Its `checked_eat_..` returns None if they aren't, and then leaves the buffer unchanged.
 #[derive(Clone, Copy, Debug, PartialEq, Eq, Hash)]
 pub struct ParseBuf<'a>(pub &'a [u8]);
 
 impl<'a> ParseBuf<'a> {
-    /// Whether no byte is left.
+    /// Returns whether no byte remains.
     pub fn is_empty(&self) -> bool
         ensures { IsTrue result ↔ (self.now.0.now ≡ []) }
     {
         self.0.is_empty()
     }
 
-    /// How many bytes are left.
+    /// Returns the number of remaining bytes.
     pub fn len(&self) -> usize
         ensures { result ≡ length self.now.0.now }
     {
         self.0.len()
     }
 
-    /// Passes over the next `n` bytes.
+    /// Skips the next `n` bytes.
     pub fn skip(&mut self, n: usize)
         requires { n ≤ length self.old.0.now }
         ensures { self.new.0.now ≡ drop n self.old.0.now }
@@ -42,7 +41,7 @@ impl<'a> ParseBuf<'a> {
         self.0 = &self.0[n..];
     }
 
-    /// Passes over the next `n` bytes, or answers false where fewer are left.
+    /// Skips the next `n` bytes and returns true, or returns false if fewer remain.
     pub fn checked_skip(&mut self, n: usize) -> bool
         ensures room { IsTrue result ↔ (n ≤ length self.old.0.now) }
         ensures skipped { IsTrue result → self.new.0.now ≡ drop n self.old.0.now }
@@ -55,18 +54,18 @@ impl<'a> ParseBuf<'a> {
         true
     }
 
-    /// The next `n` bytes.
+    /// Returns the next `n` bytes.
     pub fn eat(&mut self, n: usize) -> &'a [u8]
         requires { n ≤ length self.old.0.now }
         ensures value { result.now ≡ take n self.old.0.now }
         ensures rest { self.new.0.now ≡ drop n self.old.0.now }
     {
-        let (front, rest) = self.0.split_at(n);
+        let (prefix, rest) = self.0.split_at(n);
         self.0 = rest;
-        front
+        prefix
     }
 
-    /// The next `n` bytes, or None where fewer are left.
+    /// Returns the next `n` bytes, or None if fewer remain.
     pub fn checked_eat(&mut self, n: usize) -> Option<&'a [u8]>
         ensures some { IfSome result (λ s. Eats (take n) n s.now self.old.0.now self.new.0.now) }
         ensures none { IfNone result (IsShort n self.old.0.now self.new.0.now) }
@@ -77,7 +76,7 @@ impl<'a> ParseBuf<'a> {
         Some(self.eat(n))
     }
 
-    /// The next `n` bytes, as a buffer.
+    /// Returns the next `n` bytes as a buffer.
     pub fn eat_buf(&mut self, n: usize) -> ParseBuf<'a>
         requires { n ≤ length self.old.0.now }
         ensures value { result.0.now ≡ take n self.old.0.now }
@@ -86,7 +85,7 @@ impl<'a> ParseBuf<'a> {
         ParseBuf(self.eat(n))
     }
 
-    /// The next `n` bytes, as a buffer, or None where fewer are left.
+    /// Returns the next `n` bytes as a buffer, or None if fewer remain.
     pub fn checked_eat_buf(&mut self, n: usize) -> Option<ParseBuf<'a>>
         ensures some { IfSome result (λ b. Eats (take n) n b.0.now self.old.0.now self.new.0.now) }
         ensures none { IfNone result (IsShort n self.old.0.now self.new.0.now) }
@@ -95,7 +94,7 @@ impl<'a> ParseBuf<'a> {
         Some(ParseBuf(bytes))
     }
 
-    /// All bytes that are left.
+    /// Returns all remaining bytes.
     pub fn eat_all(&mut self) -> &'a [u8]
         ensures value { result.now ≡ self.old.0.now }
         ensures rest { self.new.0.now ≡ [] }
@@ -105,7 +104,7 @@ impl<'a> ParseBuf<'a> {
         bytes
     }
 
-    /// An unsigned number of one byte.
+    /// Reads an unsigned 1-byte integer.
     pub fn eat_u8(&mut self) -> u8
         requires { 1 ≤ length self.old.0.now }
         ensures value { result ≡ slice_index self.old.0.now 0 }
@@ -116,7 +115,7 @@ impl<'a> ParseBuf<'a> {
         value
     }
 
-    /// An unsigned number of one byte, or None where no byte is left.
+    /// Reads an unsigned 1-byte integer, or returns None if no byte remains.
     pub fn checked_eat_u8(&mut self) -> Option<u8>
         ensures some { IfSome result
             (λ v. Eats (λ x. slice_index x 0) 1 v self.old.0.now self.new.0.now) }
@@ -128,7 +127,7 @@ impl<'a> ParseBuf<'a> {
         Some(self.eat_u8())
     }
 
-    /// A signed number of one byte.
+    /// Reads a signed 1-byte integer.
     pub fn eat_i8(&mut self) -> i8
         requires { 1 ≤ length self.old.0.now }
         ensures value { result ≡ little_signed 1 self.old.0.now }
@@ -137,7 +136,7 @@ impl<'a> ParseBuf<'a> {
         self.eat_u8().cast_signed()
     }
 
-    /// A signed number of one byte, or None where no byte is left.
+    /// Reads a signed 1-byte integer, or returns None if no byte remains.
     pub fn checked_eat_i8(&mut self) -> Option<i8>
         ensures some { IfSome result
             (λ v. Eats (little_signed 1) 1 v self.old.0.now self.new.0.now) }

@@ -1,24 +1,23 @@
-//! Bytes from a reader.
+//! Reads bytes from a reader.
 
 ghost use Rattle.std.specs.Prelude.{◌≡◌, ◌≤◌, OnOk, IfErr, length};
 ghost use Rattle.std.specs.Io.KnownBytes.{Consumes};
-ghost use Rattle.wire_buf.specs.Transfers.{Fills, IsEndOrFailure, Gathers, FallsShort, GathersFront};
+ghost use Rattle.wire_buf.specs.Transfers.{Fills, IsEndOrFailure, Gathers, FallsShort, GathersPrefix};
 
 use crate::fault::WireFault;
 use std::alloc::Allocator;
 use std::io::{ErrorKind, Read};
 
-/// How many bytes are asked of a reader at once by a buffer that has no room for more, where it isn't known that they
-/// come: 4 KiB.
-const PIECE: usize = 0x1000;
+/// The bytes that are asked of a reader at once by a buffer without spare capacity: 4 KiB.
+const READ_SIZE: usize = 0x1000;
 
-/// How many reads a call makes at most: a device that is interrupted 2^63 - 1 times has failed.
+/// The limit of reads in one call: a device that is interrupted 2^63 - 1 times has failed.
 pub const MAX_READS: u64 = 0x7fff_ffff_ffff_ffff;
 
-/// Fills the buffer with the reader's next bytes. A read that is interrupted is tried again.
+/// Fills the buffer with the reader's next bytes. An interrupted read is tried again.
 ///
-/// An end of the input before the buffer is full is `Eof`, and all bytes are then taken. A reader that fails, and one
-/// that is interrupted 2^63 - 1 times, is `Read`; some bytes may then be taken.
+/// - `Eof`: the input ended before the buffer was full; all of its bytes are taken.
+/// - `Read`: the reader failed, or was interrupted 2^63 - 1 times; some bytes may be taken.
 pub fn read_exact<R: Read>(reader: &mut R, buf: &mut [u8]) -> Result<(), WireFault>
     ensures ok { OnOk result (Consumes (R.remaining reader.old) (R.remaining reader.new) buf.new) }
     ensures err { IfErr result
@@ -27,11 +26,11 @@ pub fn read_exact<R: Read>(reader: &mut R, buf: &mut [u8]) -> Result<(), WireFau
     fill(reader, buf, 0).1
 }
 
-/// Appends the reader's next `n` bytes to `out`, which grows with the bytes that come and never by the count alone: the
-/// room that it has is filled before it grows, and then by 4 KiB or, as a `Vec` grows, to twice its capacity.
+/// Appends the reader's next `n` bytes to `out`. `out` grows with the bytes that arrive, never by `n` alone:
+/// its spare capacity is filled first, then it grows by 4 KiB or, as a `Vec` grows, to twice its capacity.
 ///
-/// The refusals are those of [`read_exact`], and `Memory` for want of memory. The bytes that were taken are appended,
-/// also where fewer than `n` came.
+/// The errors are those of [`read_exact`], and `Memory` if `out` can't grow. The bytes that were taken are
+/// appended, even if fewer than `n` arrived.
 pub fn read_more<R: Read, A: Allocator>(
     reader: &mut R,
     n: u64,
@@ -40,14 +39,14 @@ pub fn read_more<R: Read, A: Allocator>(
     ensures ok { OnOk result (Gathers n (R.remaining reader.old) (R.remaining reader.new)
         out.old.items out.new.items) }
     ensures err { IfErr result
-        (λ e. GathersFront e n (R.remaining reader.old) (R.remaining reader.new)
+        (λ e. GathersPrefix e n (R.remaining reader.old) (R.remaining reader.new)
         out.old.items out.new.items) }
 {
     let mut left = n;
     while left > 0 {
         let start = out.len();
         let spare = out.capacity() - start;
-        let room = left.min(spare.max(PIECE) as u64);
+        let room = left.min(spare.max(READ_SIZE) as u64);
         let end = start.checked_add(room as usize).ok_or(WireFault::Memory)?;
         out.resize(end, 0)?;
         let (filled, outcome) = fill(reader, out.as_mut_slice(), start);
@@ -60,7 +59,8 @@ pub fn read_more<R: Read, A: Allocator>(
     Ok(())
 }
 
-/// Fills the buffer from place `at` on with the reader's next bytes, and answers up to which place it is filled.
+/// Fills the buffer from offset `at` on with the reader's next bytes. Returns the offset up to which it is
+/// filled.
 fn fill<R: Read>(reader: &mut R, buf: &mut [u8], at: usize) -> (usize, Result<(), WireFault>)
     requires { at ≤ length buf.old }
     ensures bytes { Fills at result.0 (R.remaining reader.old) (R.remaining reader.new) buf.old buf.new }

@@ -1,12 +1,12 @@
-//! What a refused writer leaves.
+//! Truncates the output after an error.
 
 ghost use Rattle.std.specs.Prelude.{◌≡◌, take, OnOk, OnErr};
 
 use crate::fault::WireFault;
 use std::alloc::Allocator;
 
-/// The answer of a writer. Where it is a refusal, what was written past `start` is taken back.
-pub fn whole_or_none<A: Allocator>(
+/// Returns `written`. If it is an error, truncates `buf` to its first `start` bytes.
+pub fn truncate_on_error<A: Allocator>(
     written: Result<(), WireFault>,
     start: usize,
     buf: &mut Vec<u8, A>,

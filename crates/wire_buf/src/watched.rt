@@ -1,16 +1,16 @@
-//! Readers and writers of which it is known whether they failed.
+//! Readers and writers that remember whether they failed.
 
 ghost use Rattle.std.specs.Prelude.{◌≡◌, ◌≢◌, ◌<◌, ◌≤◌, OnOk, OnErr, IfErr, true, false};
 ghost use Rattle.std.specs.Io.KnownBytes.{ReadConsumes, WriteAppends};
 ghost use Rattle.std.specs.IoError.{error_kind};
 ghost use Rattle.std.specs.Io.{ReadsAtMost, WritesAtMost};
-ghost use Rattle.wire_buf.specs.Watched.{inner_of, reads_of, has_failed, IsTaken};
+ghost use Rattle.wire_buf.specs.Watched.{inner_of, reads_of, has_failed, TakesSome};
 
 use crate::reading::MAX_READS;
 use crate::writing::MAX_WRITES;
 use std::io::{self, ErrorKind, Read, Write};
 
-/// A reader or a writer that is watched: it counts its reads and keeps whether one of its calls failed.
+/// A reader or a writer that counts its reads and remembers whether one of its calls failed.
 #[derive(Drop)]
 pub struct Watched<T> {
     inner: T,
@@ -19,7 +19,7 @@ pub struct Watched<T> {
 }
 
 impl<T> Watched<T> {
-    /// Watches a reader or a writer, which hasn't failed yet.
+    /// Wraps a reader or a writer, which hasn't failed yet.
     pub fn new(inner: T) -> Watched<T>
         ensures inner { inner_of result ≡ inner }
         ensures reads { reads_of result ≡ 0 }
@@ -32,14 +32,14 @@ impl<T> Watched<T> {
         }
     }
 
-    /// Whether a `pull` or a `push` failed.
+    /// Returns whether a `pull` or a `push` failed.
     pub fn failed(&self) -> bool
         ensures { result ≡ has_failed self.now }
     {
         self.failed
     }
 
-    /// The reader or the writer.
+    /// Returns the reader or the writer.
     pub fn into_inner(self) -> T
         ensures { result ≡ inner_of self }
     {
@@ -53,8 +53,10 @@ impl<T> Watched<T> {
 }
 
 impl<R: Read> Watched<R> {
-    /// Reads once, and once more for each time that it is interrupted. Each read is counted, and after 2^63 - 1 of them
-    /// it reads nothing and fails. It fails where a read fails, with the read's error.
+    /// Reads once, and again each time that the read is interrupted. Returns the number of bytes read.
+    ///
+    /// Each read is counted; after 2^63 - 1 of them it reads nothing and fails. It fails if a read fails,
+    /// with the read's error.
     pub fn pull(&mut self, buf: &mut [u8]) -> io::Result<usize>
         ensures bound { ReadsAtMost result buf.new }
         ensures bytes { ReadConsumes (R.remaining (inner_of self.old)) (R.remaining (inner_of self.new)) result buf.new }
@@ -83,12 +85,13 @@ impl<R: Read> Watched<R> {
 }
 
 impl<W: Write> Watched<W> {
-    /// Writes once, and once more for each time that it is interrupted, up to 2^63 - 1 times. Taking nothing of bytes
-    /// that are there is a failure, as is a write that fails.
+    /// Writes once, and again each time that the write is interrupted, up to 2^63 - 1 times. Returns the
+    /// number of bytes written. A write that fails, or that takes no byte although there are some, is a
+    /// failure.
     pub fn push(&mut self, bytes: &[u8]) -> io::Result<usize>
         ensures bound { WritesAtMost result bytes.now }
         ensures bytes { WriteAppends (W.contents (inner_of self.old)) (W.contents (inner_of self.new)) result bytes.now }
-        ensures some { IsTaken result bytes.now }
+        ensures some { TakesSome result bytes.now }
         ensures reads { reads_of self.new ≡ reads_of self.old }
         ensures err { OnErr result (has_failed self.new ≡ true) }
         ensures ok { OnOk result (has_failed self.new ≡ has_failed self.old) }

@@ -1,23 +1,23 @@
-//! Bytes to a writer.
+//! Writes bytes to a writer.
 
 ghost use Rattle.std.specs.Prelude.{◌≡◌, OnOk, IfErr};
 ghost use Rattle.std.specs.Io.KnownBytes.{Appends};
 ghost use Rattle.wire_buf.specs.declared.fault.WireFault.TheVariants.{Write as WriteFault};
-ghost use Rattle.wire_buf.specs.Transfers.{WritesSome};
+ghost use Rattle.wire_buf.specs.Transfers.{WritesPrefix};
 
 use crate::fault::WireFault;
 use std::io::{ErrorKind, Write};
 
-/// How many writes a call makes at most: a device that is interrupted 2^63 - 1 times has failed.
+/// The limit of writes in one call: a device that is interrupted 2^63 - 1 times has failed.
 pub const MAX_WRITES: u64 = 0x7fff_ffff_ffff_ffff;
 
-/// Writes all of the bytes. A write that is interrupted is tried again.
+/// Writes all of the bytes. An interrupted write is tried again.
 ///
-/// A writer that fails, that takes nothing of bytes that are there, or that is interrupted 2^63 - 1 times, is `Write`;
-/// a front of the bytes is then written.
+/// Returns `Write` if the writer fails, if it takes no byte although there are some, or if it is interrupted
+/// 2^63 - 1 times; a prefix of the bytes is then written.
 pub fn write_all<W: Write>(writer: &mut W, bytes: &[u8]) -> Result<(), WireFault>
     ensures ok { OnOk result (Appends (W.contents writer.old) (W.contents writer.new) bytes.now) }
-    ensures err { IfErr result (λ e. (e ≡ WriteFault) × WritesSome bytes.now
+    ensures err { IfErr result (λ e. (e ≡ WriteFault) × WritesPrefix bytes.now
         (W.contents writer.old) (W.contents writer.new)) }
 {
     let mut rest = bytes;

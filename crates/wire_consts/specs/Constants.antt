@@ -1,4 +1,4 @@
--- The constants of MySQL's client and server protocol: their numbers and bits.
+-- The numbers of a `GEOMETRY` column's types and of `Item_result`.
 use Rattle.std.specs.Prelude.{ℕ, ℤ, pos, negsuc}
 use Rattle.wire_consts.specs.declared.item_result.ItemResult.{ItemResult}
 use Rattle.wire_consts.specs.declared.item_result.ItemResult.TheVariants.{INVALID_RESULT, STRING_RESULT, REAL_RESULT, INT_RESULT, ROW_RESULT, DECIMAL_RESULT}
@@ -15,7 +15,7 @@ geometry_type_number GEOM_MULTILINESTRING = 5
 geometry_type_number GEOM_MULTIPOLYGON = 6
 geometry_type_number GEOM_GEOMETRYCOLLECTION = 7
 
--- -1 is `negsuc 0`
+-- `negsuc 0` is -1
 abbrev pub item_result_number : ItemResult → ℤ
 item_result_number INVALID_RESULT = negsuc 0
 item_result_number STRING_RESULT = pos 0

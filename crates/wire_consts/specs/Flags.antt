@@ -1,4 +1,4 @@
--- The flags of MySQL's columns and queries: a row for each flag, its name and its bits.
+-- The flags of MySQL's columns (`mysql_com.h`) and of a query event's `Q_FLAGS2_CODE`: one entry per flag, its name and its bits.
 use Rattle.std.specs.Prelude.{List, [], ◌∷◌, codes}
 use Rattle.bitflags.specs.Sets.{Row}
 
@@ -30,6 +30,6 @@ flags2 =
     (codes "OPTION_RELAXED_UNIQUE_CHECKS", 134217728) ∷
     []
 
--- No bit of an SQL mode is named, and none is unknown.
+-- no bit of an SQL mode has a name, and no bit is unknown
 abbrev pub sql_mode : List Row
 sql_mode = (codes "", 18446744073709551615) ∷ []

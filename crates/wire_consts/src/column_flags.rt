@@ -5,7 +5,8 @@ ghost use Rattle.wire_consts.specs.Flags.{column_flags};
 use bitflags::{Flag, Flags, bitflag_items};
 use thiserror::Error;
 
-/// What is true of a column, as its definition says it.
+/// The flags of a column, as its column definition gives them. MySQL's source: the `_FLAG` constants of
+/// `include/mysql_com.h`.
 #[derive(Clone, Copy, Debug, Default, PartialEq, Eq, Hash)]
 pub struct ColumnFlags(u16);
 
@@ -19,17 +20,17 @@ bitflag_items! {
         const UNIQUE_KEY_FLAG = 4;
         /// The column is part of a key that isn't unique.
         const MULTIPLE_KEY_FLAG = 8;
-        /// The column holds a blob or a text.
+        /// The column is a blob or a text.
         const BLOB_FLAG = 16;
-        /// The column holds numbers without a sign.
+        /// The column is unsigned.
         const UNSIGNED_FLAG = 32;
         /// The column's numbers are shown with leading zeros.
         const ZEROFILL_FLAG = 64;
-        /// The column's text compares by its bytes.
+        /// The column's text is compared by its bytes.
         const BINARY_FLAG = 128;
         /// The column is an enumeration.
         const ENUM_FLAG = 256;
-        /// The column numbers its rows by itself.
+        /// The column is AUTO_INCREMENT.
         const AUTO_INCREMENT_FLAG = 512;
         /// The column is a timestamp.
         const TIMESTAMP_FLAG = 1024;
@@ -68,7 +69,7 @@ impl Flags for ColumnFlags {
     }
 }
 
-/// Bits of which some are no column flag.
+/// A number with a bit that no column flag has.
 #[derive(Clone, Copy, Debug, PartialEq, Eq, Hash, Error)]
 #[error("Unknown flags in the raw value of ColumnFlags (raw={0:b})")]
 pub struct UnknownColumnFlags(pub u16);
@@ -78,7 +79,7 @@ impl TryFrom<u16> for ColumnFlags {
 
     ghost try_from_gives = { IsFlagsOf column_flags (λ flags. flags.0) (λ unknown. unknown.0) };
 
-    /// The set of the bits of a number; refused where a bit is no flag.
+    /// Returns the set of flags that the bits make up. Returns an error if a bit is no flag.
     fn try_from(bits: u16) -> Result<ColumnFlags, UnknownColumnFlags> {
         ColumnFlags::from_bits(bits).ok_or(UnknownColumnFlags(bits))
     }

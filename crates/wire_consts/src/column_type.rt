@@ -6,10 +6,11 @@ ghost use Rattle.wire_consts.specs.ColumnTypes.{column_type_number, is_numeric, 
 use crate::constant::Constant;
 use thiserror::Error;
 
-/// The type of a column, as column definitions and table maps number it.
+/// The type of a column, as numbered in column definitions and table maps. MySQL's source:
+/// `enum_field_types`.
 #[derive(Clone, Copy, Debug, PartialEq, Eq, Hash)]
 pub enum ColumnType {
-    /// A decimal in the text form of servers before 5.0.
+    /// A decimal in the text format of servers before 5.0.
     MYSQL_TYPE_DECIMAL = 0,
     /// An integer of 1 byte.
     MYSQL_TYPE_TINY = 1,
@@ -21,19 +22,19 @@ pub enum ColumnType {
     MYSQL_TYPE_FLOAT = 4,
     /// A float of 8 bytes.
     MYSQL_TYPE_DOUBLE = 5,
-    /// No value but NULL.
+    /// Only NULL.
     MYSQL_TYPE_NULL = 6,
-    /// Seconds since 1970, without a fraction.
+    /// Seconds since 1970 without a fraction, in the format of servers before 5.6.
     MYSQL_TYPE_TIMESTAMP = 7,
     /// An integer of 8 bytes.
     MYSQL_TYPE_LONGLONG = 8,
     /// An integer of 3 bytes.
     MYSQL_TYPE_INT24 = 9,
-    /// A date; its cells have the form of `MYSQL_TYPE_NEWDATE`.
+    /// A date; its cells have the format of `MYSQL_TYPE_NEWDATE`.
     MYSQL_TYPE_DATE = 10,
-    /// A time of day or a span of time, in the form of servers before 5.6.
+    /// A time of day or a time span, in the format of servers before 5.6.
     MYSQL_TYPE_TIME = 11,
-    /// A date and a time, in the form of servers before 5.6.
+    /// A date and a time, in the format of servers before 5.6.
     MYSQL_TYPE_DATETIME = 12,
     /// A year from 1900 to 2155.
     MYSQL_TYPE_YEAR = 13,
@@ -43,21 +44,21 @@ pub enum ColumnType {
     MYSQL_TYPE_VARCHAR = 15,
     /// Up to 64 bits.
     MYSQL_TYPE_BIT = 16,
-    /// Seconds since 1970 with up to six decimals.
+    /// Seconds since 1970 with up to six fractional digits.
     MYSQL_TYPE_TIMESTAMP2 = 17,
-    /// A date and a time with up to six decimals.
+    /// A date and a time with up to six fractional digits.
     MYSQL_TYPE_DATETIME2 = 18,
-    /// A time of day or a span of time with up to six decimals.
+    /// A time of day or a time span with up to six fractional digits.
     MYSQL_TYPE_TIME2 = 19,
-    /// An array of values of one type, of a multi-valued index; in table maps alone.
+    /// An array of values of one type, of a multi-valued index; only in table maps.
     MYSQL_TYPE_TYPED_ARRAY = 20,
     /// A vector of floats.
     MYSQL_TYPE_VECTOR = 242,
-    /// The server's own mark for a type that is not known yet.
+    /// A type that isn't known yet; the server's own.
     MYSQL_TYPE_UNKNOWN = 243,
-    /// A JSON document in binary form.
+    /// A JSON document in binary format.
     MYSQL_TYPE_JSON = 245,
-    /// A decimal in binary form.
+    /// A decimal in binary format.
     MYSQL_TYPE_NEWDECIMAL = 246,
     /// One of the strings of an enumeration.
     MYSQL_TYPE_ENUM = 247,
@@ -71,7 +72,7 @@ pub enum ColumnType {
     MYSQL_TYPE_LONG_BLOB = 251,
     /// Bytes, fewer than 2^16.
     MYSQL_TYPE_BLOB = 252,
-    /// Text or bytes of varying length, as result sets say it.
+    /// Text or bytes of varying length, as result sets number it.
     MYSQL_TYPE_VAR_STRING = 253,
     /// Text or bytes of fixed length; in a table map also an enumeration or a set.
     MYSQL_TYPE_STRING = 254,
@@ -80,7 +81,7 @@ pub enum ColumnType {
 }
 
 impl ColumnType {
-    /// Whether this is a numeric type, one for which a table map's optional metadata has a sign.
+    /// Returns whether this is a numeric type: one with a signedness in a table map's optional metadata.
     pub fn is_numeric_type(&self) -> bool
         ensures { result ≡ is_numeric self.now }
     {
@@ -97,7 +98,7 @@ impl ColumnType {
         )
     }
 
-    /// Whether this is a character type, one for which a table map's optional metadata has a character set.
+    /// Returns whether this is a character type: one with a character set in a table map's optional metadata.
     pub fn is_character_type(&self) -> bool
         ensures { result ≡ is_character self.now }
     {
@@ -110,7 +111,7 @@ impl ColumnType {
         )
     }
 
-    /// Whether this is an enumeration or a set.
+    /// Returns whether this is an enumeration or a set.
     pub fn is_enum_or_set_type(&self) -> bool
         ensures { result ≡ is_enum_or_set self.now }
     {
@@ -120,28 +121,28 @@ impl ColumnType {
         )
     }
 
-    /// Whether this is an enumeration.
+    /// Returns whether this is an enumeration.
     pub fn is_enum_type(&self) -> bool
         ensures { result ≡ is_enum self.now }
     {
         matches!(self, ColumnType::MYSQL_TYPE_ENUM)
     }
 
-    /// Whether this is a set.
+    /// Returns whether this is a set.
     pub fn is_set_type(&self) -> bool
         ensures { result ≡ is_set self.now }
     {
         matches!(self, ColumnType::MYSQL_TYPE_SET)
     }
 
-    /// Whether this is a geometry.
+    /// Returns whether this is a geometry.
     pub fn is_geometry_type(&self) -> bool
         ensures { result ≡ is_geometry self.now }
     {
         matches!(self, ColumnType::MYSQL_TYPE_GEOMETRY)
     }
 
-    /// Whether this is a vector.
+    /// Returns whether this is a vector.
     pub fn is_vector_type(&self) -> bool
         ensures { result ≡ is_vector self.now }
     {
@@ -149,7 +150,7 @@ impl ColumnType {
     }
 }
 
-/// A number that stands for no column type.
+/// A number that no column type has.
 #[derive(Clone, Copy, Debug, PartialEq, Eq, Hash, Error)]
 #[error("Unknown column type {0}")]
 pub struct UnknownColumnType(pub u8);
@@ -159,7 +160,7 @@ impl TryFrom<u8> for ColumnType {
 
     ghost try_from_gives = { IsConstantOf column_type_number (λ unknown. unknown.0) };
 
-    /// The column type of a number; 21 to 241 and 244 are refused.
+    /// Returns the column type with this number. Returns an error for 21 to 241 and for 244.
     fn try_from(number: u8) -> Result<ColumnType, UnknownColumnType> {
         match number {
             0 => Ok(ColumnType::MYSQL_TYPE_DECIMAL),
@@ -226,7 +227,7 @@ impl Constant<u8> for ColumnType {
 
     ghost takes = { λ n v h. h };
 
-    ghost refuses = { λ n e h. h.1 };
+    ghost fails = { λ n e h. h.1 };
 
     ghost its_own = { Prim.search rules };
 }

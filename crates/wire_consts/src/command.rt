@@ -1,9 +1,10 @@
-/// The commands of MySQL's client, numbered as the first byte of a request's payload.
+/// The commands of MySQL's client: the first byte of a request's payload. MySQL's source:
+/// `enum_server_command`.
 ///
-/// A command has no conversion: `command as u8` is its number.
+/// There is no conversion from a number; `command as u8` is a command's number.
 #[derive(Clone, Copy, Debug, PartialEq, Eq, Hash)]
 pub enum Command {
-    /// The server's own, for a connection at rest.
+    /// Internal to the server, for an idle connection.
     COM_SLEEP = 0,
     /// Ends the connection.
     COM_QUIT = 1,
@@ -13,19 +14,19 @@ pub enum Command {
     COM_QUERY = 3,
     /// Asks for the columns of a table.
     COM_FIELD_LIST = 4,
-    /// Makes a schema.
+    /// Creates a schema.
     COM_CREATE_DB = 5,
     /// Drops a schema.
     COM_DROP_DB = 6,
     /// Flushes caches and logs.
     COM_REFRESH = 7,
-    /// No longer used; it was `COM_SHUTDOWN`.
+    /// Not used any more; it was `COM_SHUTDOWN`.
     COM_DEPRECATED_1 = 8,
     /// Asks for the server's statistics as text.
     COM_STATISTICS = 9,
     /// Asks for the list of connections.
     COM_PROCESS_INFO = 10,
-    /// The server's own, for a connection that is being made.
+    /// Internal to the server, for a connection that is being established.
     COM_CONNECT = 11,
     /// Ends another connection.
     COM_PROCESS_KILL = 12,
@@ -33,17 +34,17 @@ pub enum Command {
     COM_DEBUG = 13,
     /// Asks whether the server is alive.
     COM_PING = 14,
-    /// The server's own.
+    /// Internal to the server.
     COM_TIME = 15,
-    /// The server's own.
+    /// Internal to the server.
     COM_DELAYED_INSERT = 16,
     /// Changes the user of the connection.
     COM_CHANGE_USER = 17,
-    /// Asks for a binary log from a place on.
+    /// Asks for a binary log from a position on.
     COM_BINLOG_DUMP = 18,
     /// Asks for a table.
     COM_TABLE_DUMP = 19,
-    /// The server's own, for a replica's connection.
+    /// Internal to the server, for a replica's connection.
     COM_CONNECT_OUT = 20,
     /// Registers a replica.
     COM_REGISTER_SLAVE = 21,
@@ -51,7 +52,7 @@ pub enum Command {
     COM_STMT_PREPARE = 22,
     /// Runs a prepared statement.
     COM_STMT_EXECUTE = 23,
-    /// Sends data of a parameter in pieces.
+    /// Sends a part of a parameter's data.
     COM_STMT_SEND_LONG_DATA = 24,
     /// Closes a prepared statement.
     COM_STMT_CLOSE = 25,
@@ -61,9 +62,9 @@ pub enum Command {
     COM_SET_OPTION = 27,
     /// Fetches rows of a cursor.
     COM_STMT_FETCH = 28,
-    /// The server's own, for a background thread.
+    /// Internal to the server, for a background thread.
     COM_DAEMON = 29,
-    /// Asks for a binary log by GTIDs.
+    /// Asks for a binary log by its GTIDs.
     COM_BINLOG_DUMP_GTID = 30,
     /// Resets the session of a connection.
     COM_RESET_CONNECTION = 31,

@@ -6,28 +6,28 @@ ghost use Rattle.wire_consts.specs.Constants.{geometry_type_number};
 use crate::constant::Constant;
 use thiserror::Error;
 
-/// The real type of a `GEOMETRY` column, as the optional metadata of a table map numbers it.
+/// The type of a `GEOMETRY` column, as numbered in the optional metadata of a table map.
 #[derive(Clone, Copy, Debug, PartialEq, Eq, Hash)]
 pub enum GeometryType {
     /// Any geometry.
     GEOM_GEOMETRY = 0,
     /// One point.
     GEOM_POINT = 1,
-    /// A line through points.
+    /// A line string.
     GEOM_LINESTRING = 2,
-    /// An area between rings.
+    /// A polygon.
     GEOM_POLYGON = 3,
     /// Several points.
     GEOM_MULTIPOINT = 4,
-    /// Several lines.
+    /// Several line strings.
     GEOM_MULTILINESTRING = 5,
-    /// Several areas.
+    /// Several polygons.
     GEOM_MULTIPOLYGON = 6,
     /// Several geometries of any kind.
     GEOM_GEOMETRYCOLLECTION = 7,
 }
 
-/// A number that stands for no geometry type.
+/// A number that no geometry type has.
 #[derive(Clone, Copy, Debug, PartialEq, Eq, Hash, Error)]
 #[error("Unknown geometry type {0}")]
 pub struct UnknownGeometryType(pub u8);
@@ -37,7 +37,7 @@ impl TryFrom<u8> for GeometryType {
 
     ghost try_from_gives = { IsConstantOf geometry_type_number (λ unknown. unknown.0) };
 
-    /// The geometry type of a number; refused from 8 on.
+    /// Returns the geometry type with this number. Returns an error from 8 on.
     fn try_from(number: u8) -> Result<GeometryType, UnknownGeometryType> {
         match number {
             0 => Ok(GeometryType::GEOM_GEOMETRY),
@@ -70,7 +70,7 @@ impl Constant<u8> for GeometryType {
 
     ghost takes = { λ n v h. h };
 
-    ghost refuses = { λ n e h. h.1 };
+    ghost fails = { λ n e h. h.1 };
 
     ghost its_own = { Prim.search rules };
 }

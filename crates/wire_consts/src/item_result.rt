@@ -6,7 +6,8 @@ ghost use Rattle.wire_consts.specs.Numbering.{IsConstantOf};
 use crate::constant::Constant;
 use thiserror::Error;
 
-/// The type of an expression's result, as the value of a user variable numbers it.
+/// The type of an expression's result, as numbered in the value of a user variable. MySQL's source:
+/// `Item_result`.
 #[derive(Clone, Copy, Debug, PartialEq, Eq, Hash)]
 pub enum ItemResult {
     /// No result.
@@ -23,7 +24,7 @@ pub enum ItemResult {
     DECIMAL_RESULT = 4,
 }
 
-/// A number that stands for no result type.
+/// A number that no result type has.
 #[derive(Clone, Copy, Debug, PartialEq, Eq, Hash, Error)]
 #[error("Unknown item result type {0}")]
 pub struct UnknownItemResultType(pub i8);
@@ -33,7 +34,7 @@ impl TryFrom<i8> for ItemResult {
 
     ghost try_from_gives = { IsConstantOf item_result_number (λ unknown. unknown.0) };
 
-    /// The result type of a number; refused below -1 and from 5 on.
+    /// Returns the result type with this number. Returns an error below -1 and from 5 on.
     fn try_from(number: i8) -> Result<ItemResult, UnknownItemResultType> {
         match number {
             -1 => Ok(ItemResult::INVALID_RESULT),
@@ -64,7 +65,7 @@ impl Constant<i8> for ItemResult {
 
     ghost takes = { λ n v h. h };
 
-    ghost refuses = { λ n e h. h.1 };
+    ghost fails = { λ n e h. h.1 };
 
     ghost its_own = { Prim.search rules };
 }

@@ -1,7 +1,8 @@
 //! The constants of MySQL's client and server protocol, and their conversions from and to numbers.
 //!
-//! The tables stand in `specs/`: `ColumnTypes` and `Constants` have the number of each constant, `Flags` the bits of
-//! each flag, and `Numbering` says how numbers are taken as constants and sets of flags, and when they are refused.
+//! The tables are in `specs/`: `ColumnTypes` and `Constants` give the number of each constant, `Flags` the
+//! bits of each flag. `Numbering` says how a number is converted to a constant or a set of flags, and when
+//! that is an error.
 #![tactic(auto)]
 
 mod column_flags;

@@ -5,7 +5,7 @@ ghost use Rattle.wire_consts.specs.Flags.{flags2, sql_mode};
 use bitflags::{Flag, Flags, bitflag_items};
 use thiserror::Error;
 
-/// Options of the session that ran a query, as the query event's status variables keep them.
+/// Options of the session that ran a query, from the query event's status variables (`Q_FLAGS2_CODE`).
 #[derive(Clone, Copy, Debug, Default, PartialEq, Eq, Hash)]
 pub struct Flags2(u32);
 
@@ -44,7 +44,7 @@ impl Flags for Flags2 {
     }
 }
 
-/// Bits of which some are no such option.
+/// A number with a bit that no such option has.
 #[derive(Clone, Copy, Debug, PartialEq, Eq, Hash, Error)]
 #[error("Unknown flags in the raw value of Flags2 (raw={0:b})")]
 pub struct UnknownFlags2(pub u32);
@@ -54,7 +54,7 @@ impl TryFrom<u32> for Flags2 {
 
     ghost try_from_gives = { IsFlagsOf flags2 (λ flags. flags.0) (λ unknown. unknown.0) };
 
-    /// The set of the bits of a number; refused where a bit is no flag.
+    /// Returns the set of options that the bits make up. Returns an error if a bit is no option.
     fn try_from(bits: u32) -> Result<Flags2, UnknownFlags2> {
         Flags2::from_bits(bits).ok_or(UnknownFlags2(bits))
     }
@@ -76,7 +76,7 @@ impl From<UnknownFlags2> for u32 {
     }
 }
 
-/// The SQL mode of the session that ran a query, kept whole: none of its 64 bits is named here, and none is
+/// The SQL mode of the session that ran a query, as all of its 64 bits: no bit has a name here, and no bit is
 /// unknown.
 #[derive(Clone, Copy, Debug, Default, PartialEq, Eq, Hash)]
 pub struct SqlMode(u64);
@@ -111,7 +111,7 @@ impl Flags for SqlMode {
     }
 }
 
-/// Bits of which some are no SQL mode. As no bit is unknown, no call gives it.
+/// A number with a bit that no SQL mode has. No call returns it, as no bit is unknown.
 #[derive(Clone, Copy, Debug, PartialEq, Eq, Hash, Error)]
 #[error("Unknown flags in the raw value of SqlMode (raw={0:b})")]
 pub struct UnknownSqlMode(pub u64);
@@ -121,7 +121,7 @@ impl TryFrom<u64> for SqlMode {
 
     ghost try_from_gives = { λ bits result. IsOkAnd result (λ mode. mode.0 ≡ bits) };
 
-    /// The SQL mode of these bits; never refused.
+    /// Returns the SQL mode with these bits; never an error.
     fn try_from(bits: u64) -> Result<SqlMode, UnknownSqlMode> {
         Ok(SqlMode(bits))
     }

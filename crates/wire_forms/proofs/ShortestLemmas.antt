@@ -1,9 +1,9 @@
--- What is written for a field whose bytes are always the same is a shortest spelling of it.
+-- The bytes that are written for a constant field are a shortest encoding of it.
 use Rattle.std.proofs.Common.{◌≡◌, ◌<◌, ◌^◌, ◌++◌, ℕ, List, length, replicate, Some, arith, refl}
 use Rattle.std.specs.Bool.{⊤}
 use Rattle.std.proofs.lemmas.List.{length-replicate}
 use Rattle.byteorder.specs.Endian.{little_bytes}
-use Rattle.wire_buf.specs.Spelling.{Alone, IsBytes}
+use Rattle.wire_buf.specs.Encoding.{Alone, IsBytes}
 use Rattle.wire_buf.specs.Numbers.{IsLittle}
 use Rattle.wire_buf.specs.Writing.{WritesField}
 use Rattle.wire_buf.proofs.LenencLemmas.{little_bytes-sound}
@@ -16,22 +16,22 @@ number_written n k old new fits appended = let is = little_bytes-sound n k fits 
   bytes = little_bytes n k;
   is = refl;
   appended = appended;
-  spells = λ rest s. is;
+  encodes = λ rest s. is;
   least = λ other rest h are. let size = is.size in let e = h.size in omega (arith, size, e);
 }
 
--- n bytes as they stand
+-- n raw bytes
 pub constant_written : (n : ℕ) (v old new : List ℕ) → length v ≡ n → new ≡ old ++ v
     → WritesField {A = Unit {0}} (λ w. Some v) (λ w. Alone (IsBytes n) v) (λ rest. ⊤) tt old new
 constant_written n v old new size appended = record {
   bytes = v;
   is = refl;
   appended = appended;
-  spells = λ rest s. record { size = size; bytes_are = refl };
+  encodes = λ rest s. record { size = size; bytes_are = refl };
   least = λ other rest h are. let e = h.size in omega (arith, size, e);
 }
 
--- n zeros for bytes that mean nothing
+-- n zeros for bytes without meaning
 pub zeros_written : (n : ℕ) (old new : List ℕ) → new ≡ old ++ replicate n 0
     → WritesField {A = Unit {0}} (λ w. Some (replicate n 0)) (λ w. IsSkipped n) (λ rest. ⊤) tt old new
 zeros_written n old new appended =
@@ -40,6 +40,6 @@ zeros_written n old new appended =
       bytes = replicate n 0;
       is = refl;
       appended = appended;
-      spells = λ rest s. size;
+      encodes = λ rest s. size;
       least = λ other rest h are. omega (arith, size, h);
     }

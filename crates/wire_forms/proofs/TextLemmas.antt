@@ -1,4 +1,4 @@
--- Byte strings that end in a zero, and strings behind a VarLen.
+-- Null-terminated byte strings, and strings after a `VarLen` length.
 use Rattle.std.proofs.Common.{◌≡◌, ◌≢◌, ◌≤◌, ◌<◌, ◌++◌, ℕ, List, [], ◌∷◌, length, take, drop, slice_index, get_or, zero, suc, drop-cons, arith, refl, sym, ap, ◌∙◌, ◌^◌, inl, inr, Some, None, Result, Bool, true, false, nat_lt, if◌then◌else◌, IsErr, IsErrAnd, IfErr}
 use Rattle.std.specs.Bool.{⊤}
 use Rattle.std.proofs.lemmas.List.{take-append-drop, length-take-le, append_assoc}
@@ -9,22 +9,22 @@ use Rattle.std.proofs.lemmas.List.Sums.{take_while-cons}
 use Rattle.std.proofs.lemmas.Bool.{cases_order}
 use Rattle.std.proofs.lemmas.Bool.Decides.{Decides-eqb, eqb_tells}
 use Rattle.memchr.specs.Find.{NoneBefore, Passes, is_byte}
-use Rattle.wire_buf.specs.Spelling.{Reads, Lacks, Alone}
+use Rattle.wire_buf.specs.Encoding.{Reads, Lacks, Alone}
 use Rattle.wire_buf.specs.Numbers.{IsCounted, IsLittle}
 use Rattle.wire_buf.specs.Writing.{Writes, WritesField}
 use Rattle.wire_buf.specs.declared.fault.WireFault.{WireFault}
 use Rattle.wire_buf.specs.declared.fault.WireFault.TheVariants.{Eof}
-use Rattle.wire_buf.proofs.SpellingLemmas.{split_front}
+use Rattle.wire_buf.proofs.EncodingLemmas.{split_prefix}
 use Rattle.wire_buf.proofs.StringLemmas.{Lacks-count, Lacks-counted}
-use Rattle.wire_ints.specs.Sevens.{IsVarLen, varlen_spelling}
-use Rattle.wire_ints.specs.Strings.{counted_bytes, counted_spelling}
+use Rattle.wire_ints.specs.Sevens.{IsVarLen, varlen_encoded}
+use Rattle.wire_ints.specs.Strings.{counted_bytes, counted_encoded}
 use Rattle.wire_ints.proofs.WritingLemmas.{counted_least}
 use Rattle.wire_ints.proofs.SevenLemmas.{varlen_least}
-use Rattle.wire_forms.specs.Texts.{IsNullEnded, before_zero, varlen_string_spelling, CountedRefusal}
+use Rattle.wire_forms.specs.Texts.{IsNullTerminated, before_zero, varlen_string_encoded, CountedFails}
 
 -- the bytes before the first zero
 pub null_reads : (x : List ℕ) (k : ℕ) (v m r : List ℕ) → NoneBefore (Passes (is_byte 0) x) 0 (length x) k × Passes (is_byte 0) x k
-    → v ≡ take k x → m ≡ drop k x → r ≡ drop 1 m → Reads (Alone IsNullEnded) v x r
+    → v ≡ take k x → m ≡ drop k x → r ≡ drop 1 m → Reads (Alone IsNullTerminated) v x r
 null_reads x k v m r first is middle rest =
     let inside : k < length x = first.0.high in
     let zero_at : slice_index x k ≡ 0 = (Decides-eqb (slice_index x k) 0).0 first.1 in
@@ -53,13 +53,13 @@ null_reads x k v m r first is middle rest =
               | inr late ↦ absurd (t.is.no_zero k late (sym (ap (λ l. get_or l k 0) joined ∙ get_or-append w (0 ∷ s) 0 k late) ∙ zero_at))
             ]
           ] in
-          let p = split_front k x w (0 ∷ s) long joined in
+          let p = split_prefix k x w (0 ∷ s) long joined in
           let tails : 0 ∷ s ≡ 0 ∷ drop (suc k) x = sym p.1 ∙ cut in
           let tail : s ≡ drop (suc k) x = cc in
           ((tail ∙ sym after), (is ∙ p.0));
     }
 
--- the bytes before the first zero, by its place
+-- the bytes before the first zero, by its index
 pub before_zero-at : (x : List ℕ) (k : ℕ) → k ≤ length x → ((j : ℕ) → j < k → get_or x j 0 ≢ 0) → (k < length x → get_or x k 0 ≡ 0) → before_zero x ≡ take k x
 before_zero-at [] k room before at = let e : k ≡ 0 = omega (arith, room) in rw e refl
 before_zero-at (b ∷ x) zero room before at = let e : b ≡ 0 = at (omega arith) in rw e refl
@@ -86,25 +86,25 @@ before_zero-clear (b ∷ x) = elim (eqb_tells b 0) [
 ]
 
 pub null_writes : (text b old mid new : List ℕ) → b ≡ before_zero text → mid ≡ old ++ b → new ≡ mid ++ (0 ∷ [])
-    → WritesField (λ v. Some (v ++ (0 ∷ []))) (Alone IsNullEnded) (λ rest. ⊤) (before_zero text) old new
+    → WritesField (λ v. Some (v ++ (0 ∷ []))) (Alone IsNullTerminated) (λ rest. ⊤) (before_zero text) old new
 null_writes text b old mid new e first last = record {
   bytes = before_zero text ++ (0 ∷ []);
   is = refl;
   appended = last ∙ ap (λ (l : List ℕ). l ++ (0 ∷ [])) (first ∙ ap (λ (l : List ℕ). old ++ l) e) ∙ append_assoc old (before_zero text) (0 ∷ []);
-  spells = λ rest s. record { joined = refl; no_zero = before_zero-clear text };
+  encodes = λ rest s. record { joined = refl; no_zero = before_zero-clear text };
   least = λ other rest h are. let size = ap length h.joined in omega (arith, size);
 }
 
--- a string behind a VarLen is written
-pub varlen_writes : (s t count old new : List ℕ) → s ≡ t → length s < 2 ^ 32 → count ≡ varlen_spelling (length s) → new ≡ (old ++ count) ++ s
-    → WritesField (λ v. Some (varlen_string_spelling v)) (Alone (IsCounted IsVarLen)) (λ rest. ⊤) t old new
-varlen_writes s t count old new e fits spelled last =
-    let shortest = counted_least IsVarLen s (varlen_spelling (length s)) (varlen_least (length s) fits) in
+-- a string after a `VarLen` length is written
+pub varlen_writes : (s t count old new : List ℕ) → s ≡ t → length s < 2 ^ 32 → count ≡ varlen_encoded (length s) → new ≡ (old ++ count) ++ s
+    → WritesField (λ v. Some (varlen_string_encoded v)) (Alone (IsCounted IsVarLen)) (λ rest. ⊤) t old new
+varlen_writes s t count old new e fits encoding_is last =
+    let shortest = counted_least IsVarLen s (varlen_encoded (length s)) (varlen_least (length s) fits) in
     rw (← e) (record {
-      bytes = varlen_string_spelling s;
+      bytes = varlen_string_encoded s;
       is = refl;
-      appended = last ∙ append_assoc old count s ∙ ap (λ (l : List ℕ). old ++ (l ++ s)) spelled;
-      spells = λ rest h. shortest.is;
+      appended = last ∙ append_assoc old count s ∙ ap (λ (l : List ℕ). old ++ (l ++ s)) encoding_is;
+      encodes = λ rest h. shortest.is;
       least = λ other rest h are. shortest.least other h are;
     })
 
@@ -112,8 +112,8 @@ some_if : {A : Type 0} (b : Bool) (x y : A) → (if b then Some x else None) ≡
 some_if true x y e = cc e
 some_if false x y e = absurd (cc e)
 
--- a string behind a count that it fits is written
-pub counted_writes : (n : ℕ) (t old new : List ℕ) → Writes (counted_spelling n) (IsCounted (IsLittle n)) t old new
+-- a string that fits its length prefix is written
+pub counted_writes : (n : ℕ) (t old new : List ℕ) → Writes (counted_encoded n) (IsCounted (IsLittle n)) t old new
     → WritesField (λ v. Some (counted_bytes n v)) (Alone (IsCounted (IsLittle n))) (λ rest. ⊤) t old new
 counted_writes n t old new w =
     let e = some_if (nat_lt (length t) (256 ^ n)) (counted_bytes n t) w.bytes w.is in
@@ -121,19 +121,19 @@ counted_writes n t old new w =
       bytes = w.bytes;
       is = ap Some e;
       appended = w.appended;
-      spells = λ rest h. w.least.is;
+      encodes = λ rest h. w.least.is;
       least = λ other rest h are. w.least.least other h are;
     }
 
 module _ (counts : ℕ → List ℕ → Type 0) (fault_at : List ℕ → WireFault) where
-  -- the fault of a length that isn't there
-  pub count_refused : {T : Type 0} (x : List ℕ) (r : Result T WireFault) (e : WireFault) → IsErr r × IsErrAnd r (λ y. y ≡ e)
-      → Lacks (Alone counts) x × (e ≡ fault_at x) → IfErr r (λ y. Lacks (Alone (IsCounted counts)) x × CountedRefusal counts fault_at x y)
-  count_refused x r e h l =
+  -- the error of a length that isn't there
+  pub count_failed : {T : Type 0} (x : List ℕ) (r : Result T WireFault) (e : WireFault) → IsErr r × IsErrAnd r (λ y. y ≡ e)
+      → Lacks (Alone counts) x × (e ≡ fault_at x) → IfErr r (λ y. Lacks (Alone (IsCounted counts)) x × CountedFails counts fault_at x y)
+  count_failed x r e h l =
       let p = err_from_is_err_and r h.1 in
       rw (p.1, p.2) (Lacks-count counts x l.0, inl l)
 
-  -- a length stands there, and fewer bytes behind it
+  -- the bytes begin with a length, and fewer bytes follow it
   pub count_short : (n : ℕ) (x m : List ℕ) → Reads (Alone counts) n x m → length m < n
-      → Lacks (Alone (IsCounted counts)) x × CountedRefusal counts fault_at x Eof
+      → Lacks (Alone (IsCounted counts)) x × CountedFails counts fault_at x Eof
   count_short n x m p short = (Lacks-counted counts n x m p short, inr (record { value = n; after = m; begins = p.begins }, refl))

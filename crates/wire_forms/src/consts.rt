@@ -1,12 +1,12 @@
-//! Constants as their numbers: kept raw, or taken as the constant.
+//! Constants as their numbers: as the raw number, or converted to the constant.
 
 ghost use Rattle.std.specs.Prelude.{◌≡◌, MatchOption};
 ghost use Rattle.std.specs.Borrow.{Lends, sem};
 ghost use Rattle.wire_forms.specs.contracts.consts.Const.{the_row as const_row};
 ghost use Rattle.wire_forms.specs.contracts.consts.RawConst.{the_row as raw_const_row};
-ghost use Rattle.wire_forms.specs.Overwritten.{with_value, with_raw_number};
-ghost use Rattle.wire_buf.specs.Spelling.{Alone, Lacks};
-ghost use Rattle.wire_forms.specs.Consts.{ConstRefusal, IsConstant};
+ghost use Rattle.wire_forms.specs.Overwritten.{replace_value, replace_raw_number};
+ghost use Rattle.wire_buf.specs.Encoding.{Alone, Lacks};
+ghost use Rattle.wire_forms.specs.Consts.{ConstFails, IsConstant};
 
 use std::alloc::{Allocator, Global};
 use std::marker::PhantomData;
@@ -15,21 +15,20 @@ use wire_buf::{Inner, MyDeserialize, MySerialize, ParseBuf, WireFault};
 use wire_consts::Constant;
 use wire_ints::IntRepr;
 
-/// A number in the representation `T`, for a constant of the type `U`. It is kept also where no
-/// constant has it.
+/// A number in the representation `T`, for a constant of type `U`. It may be one that no constant has.
 #[derive(Drop)]
 #[derive_where(PartialEq, Eq, Hash, Debug; T::Primitive)]
 pub struct RawConst<T: IntRepr, U>(pub T::Primitive, PhantomData<U>);
 
 impl<T: IntRepr, U> RawConst<T, U> {
-    /// The number, to be written in the representation.
+    /// Returns a field that holds `number`.
     pub fn new(number: T::Primitive) -> RawConst<T, U>
         ensures { result.0 ≡ number }
     {
         RawConst(number, PhantomData)
     }
 
-    /// The constant that has the number, or the refusal of `U`.
+    /// Returns the constant that has the number, or the error of `U`.
     pub fn get(&self) -> Result<U, U::Error>
     where
         U: TryFrom<T::Primitive>,
@@ -52,9 +51,9 @@ impl<T: IntRepr, U> Deref for RawConst<T, U> {
 impl<T: IntRepr, U> DerefMut for RawConst<T, U> {
     ghost deref_mut_gives = { λ raw number. number ≡ raw.0 };
 
-    /// What is written through the reference is the number from then on.
+    /// Returns the number; writing through the reference replaces it.
     fn deref_mut(&mut self) -> &mut T::Primitive
-        ensures* writes_back { sem 𝓛 (Lends (raw_const_row T.row U.row T.Size.row T.Primitive.row) T.Primitive.row self.entry result (with_raw_number self.old)) }
+        ensures* writes_back { sem 𝓛 (Lends (raw_const_row T.row U.row T.Size.row T.Primitive.row) T.Primitive.row self.entry result (replace_raw_number self.old)) }
         ensures value { result.now ≡ self.old.0 }
     {
         &mut self.0
@@ -74,9 +73,9 @@ impl<'de, T: IntRepr, U> MyDeserialize<'de> for RawConst<T, U> {
 
     ghost view = { λ v. v.0 };
 
-    ghost spells = { λ ctx. Alone T.spells };
+    ghost encodes = { λ ctx. Alone T.encodes };
 
-    ghost refusal = { λ ctx x e. Lacks (Alone T.spells) x × (e ≡ T.fault_at x) };
+    ghost fails_with = { λ ctx x e. Lacks (Alone T.encodes) x × (e ≡ T.fault_at x) };
 
     fn deserialize(
         _alloc: Global,
@@ -95,9 +94,9 @@ impl<T: IntRepr, U> MySerialize for RawConst<T, U> {
 
     ghost view = { λ v. T.kept v.0 };
 
-    ghost form = { Alone T.spells };
+    ghost encoding = { Alone T.encodes };
 
-    ghost spelling = { T.spelling };
+    ghost encoded = { T.encoded };
 
     #[tactic(auto, using(wire_buf::proofs::WritingLemmas::writes_field))]
     fn serialize<A: Allocator>(&self, buf: &mut Vec<u8, A>) -> Result<(), WireFault> {
@@ -109,14 +108,14 @@ impl<T: IntRepr, U> Inner for RawConst<T, U> {
     ghost before_any = { λ rest. tt };
 }
 
-/// A constant, as its number in the representation `U`. A number that no constant has is refused
-/// as `BadConst`.
+/// A constant, encoded as its number in the representation `U`. Reading a number that no constant has returns
+/// `BadConst`.
 #[derive(Drop)]
 #[derive_where(PartialEq, Eq, Hash, Debug; T)]
 pub struct Const<T, U>(pub T, PhantomData<U>);
 
 impl<T, U> Const<T, U> {
-    /// The constant, to be written in the representation.
+    /// Returns a field that holds `value`.
     pub fn new(value: T) -> Const<T, U>
         ensures { result.0 ≡ value }
     {
@@ -137,9 +136,9 @@ impl<T, U> Deref for Const<T, U> {
 impl<T, U> DerefMut for Const<T, U> {
     ghost deref_mut_gives = { λ c value. value ≡ c.0 };
 
-    /// What is written through the reference is the constant from then on.
+    /// Returns the constant; writing through the reference replaces it.
     fn deref_mut(&mut self) -> &mut T
-        ensures* writes_back { sem 𝓛 (Lends (const_row T.row U.row) T.row self.entry result (with_value self.old)) }
+        ensures* writes_back { sem 𝓛 (Lends (const_row T.row U.row) T.row self.entry result (replace_value self.old)) }
         ensures value { result.now ≡ self.old.0 }
     {
         &mut self.0
@@ -162,9 +161,9 @@ where
 
     ghost view = { λ v. T.number v.0 };
 
-    ghost spells = { λ ctx. IsConstant T.number (Alone U.spells) };
+    ghost encodes = { λ ctx. IsConstant T.number (Alone U.encodes) };
 
-    ghost refusal = { λ ctx. ConstRefusal (λ n. (v : _) → T.number v ≡ n → ⊥) U.spells U.fault_at };
+    ghost fails_with = { λ ctx. ConstFails (λ n. (v : _) → T.number v ≡ n → ⊥) U.encodes U.fault_at };
 
     fn deserialize(
         _alloc: Global,
@@ -178,7 +177,7 @@ where
         Ok(Const::new(value))
     }
 
-    ghost sized = { λ ctx v bytes rest h. U.sized v bytes h.spelled };
+    ghost sized = { λ ctx v bytes rest h. U.sized v bytes h.encoding_is };
 }
 
 impl<U: IntRepr, T: Constant<U::Primitive>> MySerialize for Const<T, U> {
@@ -186,9 +185,9 @@ impl<U: IntRepr, T: Constant<U::Primitive>> MySerialize for Const<T, U> {
 
     ghost view = { λ v. U.kept (T.number v.0) };
 
-    ghost form = { Alone U.spells };
+    ghost encoding = { Alone U.encodes };
 
-    ghost spelling = { U.spelling };
+    ghost encoded = { U.encoded };
 
     #[tactic(auto, using(wire_buf::proofs::WritingLemmas::writes_field))]
     fn serialize<A: Allocator>(&self, buf: &mut Vec<u8, A>) -> Result<(), WireFault> {
@@ -200,7 +199,7 @@ impl<U: IntRepr, T: Constant<U::Primitive>> Inner for Const<T, U> {
     ghost before_any = { λ rest. tt };
 }
 
-/// The constant that has the number, if there is one.
+/// Returns the constant that has the number, if there is one.
 fn constant_of<P, T: Constant<P>>(number: P) -> Option<T>
 where
     <T as TryFrom<P>>::Error: Drop,

@@ -1,13 +1,13 @@
-//! Strings behind a count of their bytes.
+//! Strings with a length prefix.
 
 ghost use Rattle.std.specs.Prelude.{◌≡◌, take};
 ghost use Rattle.std.proofs.Common.{refl};
-ghost use Rattle.wire_buf.specs.Spelling.{Alone};
+ghost use Rattle.wire_buf.specs.Encoding.{Alone};
 ghost use Rattle.wire_buf.specs.Numbers.{IsCounted, IsLenenc, IsLenencString, IsShortString, IsLongString};
-ghost use Rattle.wire_ints.specs.Strings.{lenenc_string_spelling, counted_bytes};
+ghost use Rattle.wire_ints.specs.Strings.{lenenc_string_encoded, counted_bytes};
 ghost use Rattle.wire_ints.specs.Sevens.{IsVarLen};
 ghost use Rattle.wire_ints.specs.Faults.{lenenc_fault, varlen_fault};
-ghost use Rattle.wire_forms.specs.Texts.{varlen_string_spelling, CountedRefusal};
+ghost use Rattle.wire_forms.specs.Texts.{varlen_string_encoded, CountedFails};
 
 use crate::bytes_repr::{BytesRepr, InnerBytes};
 use std::alloc::Allocator;
@@ -15,11 +15,11 @@ use std::borrow::CowSlice;
 use wire_buf::{AnySize, ParseBuf, WireFault};
 use wire_ints::{BufMutExt, IntRepr, LenEnc, VarLen, varlen_bytes};
 
-/// A string behind its length in one byte. Of a longer one the first 255 bytes are written.
+/// A string after its length in one byte. Only the first 255 bytes of a longer string are written.
 pub struct U8Bytes;
 
-/// A string behind its length in four bytes, the lowest first. Of a longer one the first
-/// 4,294,967,295 bytes are written.
+/// A string after its length in four little-endian bytes. Only the first 4,294,967,295 bytes of a longer
+/// string are written.
 pub struct U32Bytes;
 
 impl BytesRepr for U8Bytes {
@@ -29,13 +29,13 @@ impl BytesRepr for U8Bytes {
 
     type Ctx = ();
 
-    ghost spells = { λ ctx. Alone IsShortString };
+    ghost encodes = { λ ctx. Alone IsShortString };
 
     ghost context = { λ v. tt };
 
     ghost kept = { take 255 };
 
-    ghost spelling = { counted_bytes 1 };
+    ghost encoded = { counted_bytes 1 };
 
     fn deserialize<'de>(_ctx: (), buf: &mut ParseBuf<'de>) -> Result<CowSlice<'de, u8>, WireFault> {
         let bytes = buf.checked_eat_u8_str().ok_or(WireFault::Eof)?;
@@ -62,13 +62,13 @@ impl BytesRepr for U32Bytes {
 
     type Ctx = ();
 
-    ghost spells = { λ ctx. Alone IsLongString };
+    ghost encodes = { λ ctx. Alone IsLongString };
 
     ghost context = { λ v. tt };
 
     ghost kept = { take 4294967295 };
 
-    ghost spelling = { counted_bytes 4 };
+    ghost encoded = { counted_bytes 4 };
 
     fn deserialize<'de>(_ctx: (), buf: &mut ParseBuf<'de>) -> Result<CowSlice<'de, u8>, WireFault> {
         let bytes = buf.checked_eat_u32_str().ok_or(WireFault::Eof)?;
@@ -88,7 +88,7 @@ impl InnerBytes for U32Bytes {
     ghost before_any = { λ rest. tt };
 }
 
-/// A string behind its length as a length-encoded integer.
+/// A string after its length as a length-encoded integer. MySQL's manual: Protocol::LengthEncodedString.
 impl BytesRepr for LenEnc {
     const SIZE: Option<usize> = None;
 
@@ -96,13 +96,13 @@ impl BytesRepr for LenEnc {
 
     type Ctx = ();
 
-    ghost spells = { λ ctx. Alone IsLenencString };
+    ghost encodes = { λ ctx. Alone IsLenencString };
 
     ghost context = { λ v. tt };
 
-    ghost spelling = { lenenc_string_spelling };
+    ghost encoded = { lenenc_string_encoded };
 
-    ghost is_fault = { CountedRefusal IsLenenc lenenc_fault };
+    ghost is_fault = { CountedFails IsLenenc lenenc_fault };
 
     fn deserialize<'de>(_ctx: (), buf: &mut ParseBuf<'de>) -> Result<CowSlice<'de, u8>, WireFault> {
         let length = <LenEnc as IntRepr>::deserialize(buf)?;
@@ -125,7 +125,7 @@ impl InnerBytes for LenEnc {
     ghost before_any = { λ rest. tt };
 }
 
-/// A string behind its length as a `VarLen`. Of a longer one the first 4,294,967,295 bytes are
+/// A string after its length as a `VarLen` integer. Only the first 4,294,967,295 bytes of a longer string are
 /// written.
 impl BytesRepr for VarLen {
     const SIZE: Option<usize> = None;
@@ -134,15 +134,15 @@ impl BytesRepr for VarLen {
 
     type Ctx = ();
 
-    ghost spells = { λ ctx. Alone (IsCounted IsVarLen) };
+    ghost encodes = { λ ctx. Alone (IsCounted IsVarLen) };
 
     ghost context = { λ v. tt };
 
     ghost kept = { take 4294967295 };
 
-    ghost spelling = { varlen_string_spelling };
+    ghost encoded = { varlen_string_encoded };
 
-    ghost is_fault = { CountedRefusal IsVarLen varlen_fault };
+    ghost is_fault = { CountedFails IsVarLen varlen_fault };
 
     fn deserialize<'de>(_ctx: (), buf: &mut ParseBuf<'de>) -> Result<CowSlice<'de, u8>, WireFault> {
         let length = <VarLen as IntRepr>::deserialize(buf)?;

@@ -1,7 +1,7 @@
 ghost use Rattle.std.specs.Prelude.{◌≡◌, ◌⊎◌, IfOk, IfErr};
-ghost use Rattle.wire_buf.specs.Spelling.{Reads, Lacks};
-ghost use Rattle.wire_forms.specs.Eithers.{IsEither, IsSide, either_view, either_spelling, IsLeft, IsRight, EitherRefusal};
-ghost use Rattle.wire_buf.specs.Refusals.{ParseRefusal};
+ghost use Rattle.wire_buf.specs.Encoding.{Reads, Lacks};
+ghost use Rattle.wire_forms.specs.Eithers.{IsEither, IsSide, either_view, either_encoded, IsLeft, IsRight, EitherFails};
+ghost use Rattle.wire_buf.specs.ReadErrors.{ParseFails};
 ghost use Rattle.wire_buf.specs.declared.fault.WireFault.TheVariants.{Eof};
 ghost use Rattle.wire_forms.specs.declared.either.Either.{Either as Sides};
 ghost use Rattle.wire_forms.specs.declared.either.Either.TheVariants as side;
@@ -9,17 +9,17 @@ ghost use Rattle.wire_forms.specs.declared.either.Either.TheVariants as side;
 use std::alloc::{Allocator, Global};
 use wire_buf::{Inner, MyDeserialize, MySerialize, ParseBuf, WireFault};
 
-/// A field that has one of two forms.
+/// A field that has one of two formats.
 #[derive(Clone, Copy, Debug, PartialEq, Eq, Hash, Drop)]
 pub enum Either<L, R> {
-    /// In the one form.
+    /// In the first format.
     Left(L),
-    /// In the other.
+    /// In the second format.
     Right(R),
 }
 
 impl<L: Drop, R: Drop> Either<L, R> {
-    /// The value on the left, which is known to be there.
+    /// Returns the left value. The value must be on the left.
     pub fn unwrap_left(self) -> L
         requires { IsLeft self }
         ensures { self ≡ side.Left result }
@@ -30,7 +30,7 @@ impl<L: Drop, R: Drop> Either<L, R> {
         }
     }
 
-    /// The value on the right, which is known to be there.
+    /// Returns the right value. The value must be on the right.
     pub fn unwrap_right(self) -> R
         requires { IsRight self }
         ensures { self ≡ side.Right result }
@@ -52,13 +52,13 @@ impl<L, R> Either<L, R> {
     where
         L: MyDeserialize<'de>,
         R: MyDeserialize<'de, Fault = L::Fault>,
-        ensures ok { IfOk result (λ v. Reads (IsEither L.spells R.spells ctx)
+        ensures ok { IfOk result (λ v. Reads (IsEither L.encodes R.encodes ctx)
             (either_view L.view R.view v) buf.old.0.now buf.new.0.now) }
         ensures err { IfErr result
-            (λ e. L.Fault.is_memory e ⊎ Lacks (IsEither L.spells R.spells ctx) buf.old.0.now) }
-        ensures why { IfErr result (EitherRefusal
-            (λ c. ParseRefusal L.Size.SIZE (L.refusal c) (L.Fault.from_gives Eof))
-            (λ d. ParseRefusal R.Size.SIZE (R.refusal d) (L.Fault.from_gives Eof)) ctx buf.old.0.now) }
+            (λ e. L.Fault.is_memory e ⊎ Lacks (IsEither L.encodes R.encodes ctx) buf.old.0.now) }
+        ensures why { IfErr result (EitherFails
+            (λ c. ParseFails L.Size.SIZE (L.fails_with c) (L.Fault.from_gives Eof))
+            (λ d. ParseFails R.Size.SIZE (R.fails_with d) (L.Fault.from_gives Eof)) ctx buf.old.0.now) }
     {
         match ctx {
             Either::Left(ctx) => {
@@ -78,11 +78,11 @@ impl<L: MySerialize, R: MySerialize> MySerialize for Either<L, R> {
 
     ghost view = { either_view L.view R.view };
 
-    ghost form = { IsSide L.form R.form };
+    ghost encoding = { IsSide L.encoding R.encoding };
 
-    ghost spelling = { either_spelling L.spelling R.spelling };
+    ghost encoded = { either_encoded L.encoded R.encoded };
 
-    ghost suits = { λ rest. L.suits rest × R.suits rest };
+    ghost allows_rest = { λ rest. L.allows_rest rest × R.allows_rest rest };
 
     fn serialize<A: Allocator>(&self, buf: &mut Vec<u8, A>) -> Result<(), WireFault> {
         match self {

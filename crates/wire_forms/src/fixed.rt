@@ -1,10 +1,10 @@
-//! Fields whose bytes are always the same, or mean nothing.
+//! Fields whose bytes are constant, and bytes without meaning.
 
 ghost use Rattle.std.specs.Prelude.{◌≡◌, ◌≢◌, ◌↔◌, ℕ, List, length, replicate, IsTrue, Some};
 ghost use Rattle.byteorder.specs.Endian.{little_bytes};
-ghost use Rattle.wire_buf.specs.Spelling.{Alone, IsBytes};
-ghost use Rattle.wire_buf.specs.Refusals.{EndsBefore};
-ghost use Rattle.wire_forms.specs.Consts.{ConstRefusal};
+ghost use Rattle.wire_buf.specs.Encoding.{Alone, IsBytes};
+ghost use Rattle.wire_buf.specs.ReadErrors.{EndsBefore};
+ghost use Rattle.wire_forms.specs.Consts.{ConstFails};
 ghost use Rattle.wire_forms.specs.Texts.{IsSkipped};
 ghost use Rattle.wire_buf.specs.Numbers.{IsLittle};
 ghost use Rattle.wire_buf.specs.declared.fault.WireFault.TheVariants.{Eof};
@@ -14,7 +14,7 @@ use std::alloc::{Allocator, Global};
 use std::marker::PhantomData;
 use wire_buf::{FixedSize, Inner, MyDeserialize, MySerialize, ParseBuf, WireFault};
 
-/// The one byte `VALUE`. Another is refused as `BadConst`. `T` tells such fields apart.
+/// The byte `VALUE`. Reading another byte returns `BadConst`. `T` distinguishes such fields.
 #[derive(Drop)]
 #[derive_where(PartialEq, Eq, Debug)]
 pub struct ConstU8<T, const VALUE: u8>(PhantomData<T>);
@@ -25,7 +25,7 @@ impl<T, const VALUE: u8> ConstU8<T, VALUE> {
         ConstU8(PhantomData)
     }
 
-    /// The byte.
+    /// Returns the byte.
     pub const fn value(&self) -> u8
         ensures { result ≡ VALUE }
     {
@@ -46,9 +46,9 @@ impl<'de, T, const VALUE: u8> MyDeserialize<'de> for ConstU8<T, VALUE> {
 
     ghost view = { λ v. tt };
 
-    ghost spells = { λ ctx v. Alone (IsLittle 1) VALUE };
+    ghost encodes = { λ ctx v. Alone (IsLittle 1) VALUE };
 
-    ghost refusal = { λ ctx. ConstRefusal (λ n. n ≢ VALUE) (IsLittle 1) (λ x. Eof) };
+    ghost fails_with = { λ ctx. ConstFails (λ n. n ≢ VALUE) (IsLittle 1) (λ x. Eof) };
 
     fn deserialize(
         _alloc: Global,
@@ -69,9 +69,9 @@ impl<T, const VALUE: u8> MySerialize for ConstU8<T, VALUE> {
 
     ghost view = { λ v. tt };
 
-    ghost form = { λ v. Alone (IsLittle 1) VALUE };
+    ghost encoding = { λ v. Alone (IsLittle 1) VALUE };
 
-    ghost spelling = { λ v. Some (little_bytes 1 VALUE) };
+    ghost encoded = { λ v. Some (little_bytes 1 VALUE) };
 
     #[tactic(auto, using(crate::proofs::ShortestLemmas::number_written))]
     fn serialize<A: Allocator>(&self, buf: &mut Vec<u8, A>) -> Result<(), WireFault> {
@@ -84,8 +84,8 @@ impl<T, const VALUE: u8> Inner for ConstU8<T, VALUE> {
     ghost before_any = { λ rest. tt };
 }
 
-/// The four bytes of the number `VALUE`, the lowest first. Others are refused as `BadConst`. `T`
-/// tells such fields apart.
+/// The four little-endian bytes of `VALUE`. Reading other bytes returns `BadConst`. `T` distinguishes such
+/// fields.
 #[derive(Drop)]
 #[derive_where(PartialEq, Eq, Debug)]
 pub struct ConstU32<T, const VALUE: u32>(PhantomData<T>);
@@ -110,9 +110,9 @@ impl<'de, T, const VALUE: u32> MyDeserialize<'de> for ConstU32<T, VALUE> {
 
     ghost view = { λ v. tt };
 
-    ghost spells = { λ ctx v. Alone (IsLittle 4) VALUE };
+    ghost encodes = { λ ctx v. Alone (IsLittle 4) VALUE };
 
-    ghost refusal = { λ ctx. ConstRefusal (λ n. n ≢ VALUE) (IsLittle 4) (λ x. Eof) };
+    ghost fails_with = { λ ctx. ConstFails (λ n. n ≢ VALUE) (IsLittle 4) (λ x. Eof) };
 
     fn deserialize(
         _alloc: Global,
@@ -133,9 +133,9 @@ impl<T, const VALUE: u32> MySerialize for ConstU32<T, VALUE> {
 
     ghost view = { λ v. tt };
 
-    ghost form = { λ v. Alone (IsLittle 4) VALUE };
+    ghost encoding = { λ v. Alone (IsLittle 4) VALUE };
 
-    ghost spelling = { λ v. Some (little_bytes 4 VALUE) };
+    ghost encoded = { λ v. Some (little_bytes 4 VALUE) };
 
     #[tactic(auto, using(crate::proofs::ShortestLemmas::number_written))]
     fn serialize<A: Allocator>(&self, buf: &mut Vec<u8, A>) -> Result<(), WireFault> {
@@ -148,18 +148,18 @@ impl<T, const VALUE: u32> Inner for ConstU32<T, VALUE> {
     ghost before_any = { λ rest. tt };
 }
 
-/// The bytes of a field that always has the same ones.
+/// The bytes of a constant field.
 pub trait ConstBytesValue<const LEN: usize> {
     /// The bytes.
     ghost bytes: { List ℕ };
 
-    /// The bytes of the field.
+    /// Returns the bytes of the field.
     fn value<'a>() -> &'a [u8]
         ensures value { result.now ≡ bytes }
         ensures size { length result.now ≡ LEN };
 }
 
-/// Exactly the bytes of `T`. Others are refused as `BadConst`.
+/// Exactly the bytes of `T`. Reading other bytes returns `BadConst`.
 #[derive(Drop)]
 #[derive_where(PartialEq, Eq, Debug)]
 pub struct ConstBytes<T, const LEN: usize>(PhantomData<T>);
@@ -184,9 +184,9 @@ impl<'de, T: ConstBytesValue<LEN>, const LEN: usize> MyDeserialize<'de> for Cons
 
     ghost view = { λ v. tt };
 
-    ghost spells = { λ ctx v. Alone (IsBytes LEN) T.bytes };
+    ghost encodes = { λ ctx v. Alone (IsBytes LEN) T.bytes };
 
-    ghost refusal = { λ ctx. ConstRefusal (λ bytes. bytes ≢ T.bytes) (IsBytes LEN) (λ x. Eof) };
+    ghost fails_with = { λ ctx. ConstFails (λ bytes. bytes ≢ T.bytes) (IsBytes LEN) (λ x. Eof) };
 
     fn deserialize(
         _alloc: Global,
@@ -207,9 +207,9 @@ impl<T: ConstBytesValue<LEN>, const LEN: usize> MySerialize for ConstBytes<T, LE
 
     ghost view = { λ v. tt };
 
-    ghost form = { λ v. Alone (IsBytes LEN) T.bytes };
+    ghost encoding = { λ v. Alone (IsBytes LEN) T.bytes };
 
-    ghost spelling = { λ v. Some T.bytes };
+    ghost encoded = { λ v. Some T.bytes };
 
     #[tactic(auto, using(crate::proofs::ShortestLemmas::constant_written))]
     fn serialize<A: Allocator>(&self, buf: &mut Vec<u8, A>) -> Result<(), WireFault> {
@@ -222,14 +222,14 @@ impl<T: ConstBytesValue<LEN>, const LEN: usize> Inner for ConstBytes<T, LEN> {
     ghost before_any = { λ rest. tt };
 }
 
-/// Whether the bytes are the same.
+/// Returns whether the bytes are equal.
 fn are_equal(left: &[u8], right: &[u8]) -> bool
     ensures { IsTrue result ↔ (left.now ≡ right.now) }
 {
     left == right
 }
 
-/// `LEN` bytes that mean nothing. They are passed over, and written as zeros.
+/// `LEN` bytes without meaning. They are skipped when read, and written as zeros.
 #[derive(Clone, Copy, Debug, Default, PartialEq, Eq, Hash)]
 pub struct Skip<const LEN: usize>;
 
@@ -246,9 +246,9 @@ impl<'de, const LEN: usize> MyDeserialize<'de> for Skip<LEN> {
 
     ghost view = { λ v. tt };
 
-    ghost spells = { λ ctx v. IsSkipped LEN };
+    ghost encodes = { λ ctx v. IsSkipped LEN };
 
-    ghost refusal = { λ ctx. EndsBefore LEN };
+    ghost fails_with = { λ ctx. EndsBefore LEN };
 
     fn deserialize(
         _alloc: Global,
@@ -267,9 +267,9 @@ impl<const LEN: usize> MySerialize for Skip<LEN> {
 
     ghost view = { λ v. tt };
 
-    ghost form = { λ v. IsSkipped LEN };
+    ghost encoding = { λ v. IsSkipped LEN };
 
-    ghost spelling = { λ v. Some (replicate LEN 0) };
+    ghost encoded = { λ v. Some (replicate LEN 0) };
 
     #[tactic(auto, using(crate::proofs::ShortestLemmas::zeros_written))]
     fn serialize<A: Allocator>(&self, buf: &mut Vec<u8, A>) -> Result<(), WireFault> {

@@ -1,7 +1,7 @@
 ghost use Rattle.std.specs.Prelude.{◌≡◌};
 ghost use Rattle.std.specs.Int.RustNames.{bit_and};
 ghost use Rattle.bitflags.specs.Sets.{known_bits};
-ghost use Rattle.wire_buf.specs.Spelling.{Alone, Lacks};
+ghost use Rattle.wire_buf.specs.Encoding.{Alone, Lacks};
 
 use bitflags::Flags;
 use std::alloc::{Allocator, Global};
@@ -9,13 +9,13 @@ use std::marker::PhantomData;
 use wire_buf::{Inner, MyDeserialize, MySerialize, ParseBuf, WireFault};
 use wire_ints::IntRepr;
 
-/// A set of flags as its number, in the representation `U`. Bits that no flag of `T` has are kept.
+/// A set of flags as a number in the representation `U`. Bits that no flag of `T` has are kept.
 #[derive(Drop)]
 #[derive_where(PartialEq, Eq, Hash, Debug; U::Primitive)]
 pub struct RawFlags<T: Flags, U: IntRepr>(pub U::Primitive, PhantomData<T>);
 
 impl<T: Flags, U: IntRepr> RawFlags<T, U> {
-    /// The bits, to be written in the representation.
+    /// Returns a field that holds `bits`.
     pub fn new(bits: U::Primitive) -> RawFlags<T, U>
         ensures { result.0 ≡ bits }
     {
@@ -24,7 +24,7 @@ impl<T: Flags, U: IntRepr> RawFlags<T, U> {
 }
 
 impl<T: Flags<Bits = U::Primitive>, U: IntRepr> RawFlags<T, U> {
-    /// The set of the flags that are known; other bits are dropped.
+    /// Returns the set of the known flags; other bits are dropped.
     pub fn get(&self) -> T
         ensures { T.exact → T.set_of result ≡ bit_and (U.Primitive.pattern self.now.0) (known_bits T.table) }
     {
@@ -45,9 +45,9 @@ impl<'de, T: Flags, U: IntRepr> MyDeserialize<'de> for RawFlags<T, U> {
 
     ghost view = { λ v. v.0 };
 
-    ghost spells = { λ ctx. Alone U.spells };
+    ghost encodes = { λ ctx. Alone U.encodes };
 
-    ghost refusal = { λ ctx x e. Lacks (Alone U.spells) x × (e ≡ U.fault_at x) };
+    ghost fails_with = { λ ctx x e. Lacks (Alone U.encodes) x × (e ≡ U.fault_at x) };
 
     fn deserialize(
         _alloc: Global,
@@ -66,9 +66,9 @@ impl<T: Flags, U: IntRepr> MySerialize for RawFlags<T, U> {
 
     ghost view = { λ v. U.kept v.0 };
 
-    ghost form = { Alone U.spells };
+    ghost encoding = { Alone U.encodes };
 
-    ghost spelling = { U.spelling };
+    ghost encoded = { U.encoded };
 
     #[tactic(auto, using(wire_buf::proofs::WritingLemmas::writes_field))]
     fn serialize<A: Allocator>(&self, buf: &mut Vec<u8, A>) -> Result<(), WireFault> {

@@ -1,4 +1,4 @@
-//! Laws over all representations of byte strings.
+//! Laws of all representations of byte strings.
 
 ghost use Rattle.std.specs.Prelude.{◌≡◌, [], IfOk, IfErr};
 ghost use Rattle.wire_buf.specs.declared.fault.WireFault.TheVariants.{Memory};
@@ -7,16 +7,15 @@ use crate::bytes_repr::BytesRepr;
 use std::alloc::Global;
 use wire_buf::{ParseBuf, WireFault};
 
-/// What was written of a string is read back, in every representation: as much of it as the
-/// representation keeps, where the context suits it and nothing follows. Want of memory is the one
-/// refusal.
+/// Writes a string and reads it back: the result is what `kept` gives. The context must be that of the kept
+/// string, and the representation must allow that nothing follows. The only error is `Memory`.
 pub fn read_back_bytes<T: BytesRepr>(
     alloc: Global,
     ctx: T::Ctx,
     text: &[u8],
 ) -> Result<Vec<u8>, WireFault>
     requires context { ctx ≡ T.context (T.kept text.now) }
-    requires alone { T.suits [] }
+    requires alone { T.allows_rest [] }
     ensures ok { IfOk result (λ v. v.items ≡ T.kept text.now) }
     ensures err { IfErr result (λ e. e ≡ Memory) }
 {

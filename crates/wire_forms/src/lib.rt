@@ -1,10 +1,9 @@
-//! Raw forms of the fields of MySQL's packets and events: byte strings in each of their spellings,
-//! constants as their numbers, sets of flags, bytes that are always the same, and fields of one of two
-//! forms.
+//! Fields of MySQL's packets and events: byte strings in each of their encodings, constants as their numbers,
+//! sets of flags, constant bytes, and fields of one of two formats.
 //!
-//! A form is a type with `MyDeserialize` and `MySerialize`. A spelling of byte strings is a type with the
-//! trait [`BytesRepr`], whose contract has its laws; [`RawBytes`] is a field in it. `specs/Texts.antt` says
-//! which bytes spell a string, and what of a text is written.
+//! A field is a type with `MyDeserialize` and `MySerialize`. An encoding of byte strings is a type with the
+//! trait [`BytesRepr`], whose contract has its laws; [`RawBytes`] is a field in such an encoding.
+//! `specs/Texts.antt` says which bytes encode a string, and how much of a string is written.
 #![tactic(auto)]
 
 mod bytes_repr;

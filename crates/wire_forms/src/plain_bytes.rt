@@ -1,10 +1,10 @@
-//! Strings without a count: up to a zero, to the end, or of a length that is known.
+//! Strings without a length prefix: up to a zero byte, to the end, or of a known length.
 
 ghost use Rattle.std.specs.Prelude.{◌≡◌, ◌++◌, ◌∷◌, [], ◌≤◌, length, take, replicate, OnOk, IfErr};
 ghost use Rattle.std.proofs.Common.{refl, sym, ap, ◌∙◌};
-ghost use Rattle.wire_buf.specs.Spelling.{Alone, IsBytes};
+ghost use Rattle.wire_buf.specs.Encoding.{Alone, IsBytes};
 ghost use Rattle.wire_buf.specs.declared.fault.WireFault.TheVariants.{Memory};
-ghost use Rattle.wire_forms.specs.Texts.{IsAll, IsNullEnded, before_zero, padded};
+ghost use Rattle.wire_forms.specs.Texts.{IsAll, IsNullTerminated, before_zero, padded_bytes};
 
 use crate::bytes_repr::{BytesRepr, InnerBytes};
 use memchr::memchr;
@@ -12,25 +12,24 @@ use std::alloc::Allocator;
 use std::borrow::CowSlice;
 use wire_buf::{AnySize, FixedSize, ParseBuf, WireFault};
 
-/// The bytes before the first zero, which is eaten too; without a zero they are refused. What
-/// stands before the first zero of a string is written, and a zero.
+/// A string that a zero byte ends. Reading skips the zero, and returns `Eof` if there is none. Writing stops
+/// before the string's first zero, and appends a zero. MySQL's manual: Protocol::NullTerminatedString.
 pub struct NullBytes;
 
-/// All that is left.
+/// All remaining bytes. MySQL's manual: Protocol::RestOfPacketString.
 pub struct EofBytes;
 
-/// As many bytes as the context says. Of a string longer than `MAX` the first `MAX` bytes are
-/// written.
+/// As many bytes as the context says. Only the first `MAX` bytes of a longer string are written.
 pub struct BareBytes<const MAX: usize>;
 
-/// Bytes whose count fits in one byte.
+/// At most 255 bytes, as many as the context says.
 pub type BareU8Bytes = BareBytes<255>;
 
-/// Bytes whose count fits in two bytes.
+/// At most 65,535 bytes, as many as the context says.
 pub type BareU16Bytes = BareBytes<65535>;
 
-/// Exactly `LEN` bytes. A longer string is cut when it is written, and a shorter one padded with
-/// zeros, which are read as a part of it.
+/// Exactly `LEN` bytes. A longer string is truncated when written; a shorter one is padded with zeros, which
+/// are part of the string when read. MySQL's manual: Protocol::FixedLengthString.
 pub struct FixedLengthText<const LEN: usize>;
 
 impl BytesRepr for NullBytes {
@@ -40,13 +39,13 @@ impl BytesRepr for NullBytes {
 
     type Ctx = ();
 
-    ghost spells = { λ ctx. Alone IsNullEnded };
+    ghost encodes = { λ ctx. Alone IsNullTerminated };
 
     ghost context = { λ v. tt };
 
     ghost kept = { before_zero };
 
-    ghost spelling = { λ v. v ++ (0 ∷ []) };
+    ghost encoded = { λ v. v ++ (0 ∷ []) };
 
     fn deserialize<'de>(_ctx: (), buf: &mut ParseBuf<'de>) -> Result<CowSlice<'de, u8>, WireFault> {
         let Some(at) = memchr(0, buf.0) else {
@@ -81,11 +80,11 @@ impl BytesRepr for EofBytes {
 
     type Ctx = ();
 
-    ghost spells = { λ ctx. IsAll };
+    ghost encodes = { λ ctx. IsAll };
 
     ghost context = { λ v. tt };
 
-    ghost suits = { λ rest. rest ≡ [] };
+    ghost allows_rest = { λ rest. rest ≡ [] };
 
     fn deserialize<'de>(_ctx: (), buf: &mut ParseBuf<'de>) -> Result<CowSlice<'de, u8>, WireFault> {
         Ok(CowSlice::Borrowed(buf.eat_all()))
@@ -108,7 +107,7 @@ impl<const MAX: usize> BytesRepr for BareBytes<MAX> {
 
     type Ctx = usize;
 
-    ghost spells = { λ ctx. Alone (IsBytes ctx) };
+    ghost encodes = { λ ctx. Alone (IsBytes ctx) };
 
     ghost context = { length };
 
@@ -145,11 +144,11 @@ impl<const LEN: usize> BytesRepr for FixedLengthText<LEN> {
 
     type Ctx = ();
 
-    ghost spells = { λ ctx. Alone (IsBytes LEN) };
+    ghost encodes = { λ ctx. Alone (IsBytes LEN) };
 
     ghost context = { λ v. tt };
 
-    ghost kept = { padded LEN };
+    ghost kept = { padded_bytes LEN };
 
     fn deserialize<'de>(_ctx: (), buf: &mut ParseBuf<'de>) -> Result<CowSlice<'de, u8>, WireFault> {
         Ok(CowSlice::Borrowed(buf.eat(LEN)))
@@ -172,7 +171,7 @@ impl<const LEN: usize> InnerBytes for FixedLengthText<LEN> {
     ghost before_any = { λ rest. tt };
 }
 
-/// The bytes before the first zero, or all where there is none.
+/// Returns the bytes before the first zero, or all bytes if there is none.
 fn before_first_zero(text: &[u8]) -> &[u8]
     ensures { result.now ≡ before_zero text.now }
 {
@@ -182,7 +181,7 @@ fn before_first_zero(text: &[u8]) -> &[u8]
     }
 }
 
-/// Appends `n` zeros, or none.
+/// Appends `n` zeros, or nothing if out of memory.
 pub(crate) fn append_zeros<A: Allocator>(n: usize, buf: &mut Vec<u8, A>) -> Result<(), WireFault>
     ensures ok { OnOk result (buf.new.items ≡ buf.old.items ++ replicate n 0) }
     ensures err { IfErr result (λ e. (e ≡ Memory) × (buf.new.items ≡ buf.old.items)) }

@@ -2,9 +2,9 @@ ghost use Rattle.std.specs.Prelude.{◌≡◌, ◌⊎◌, ◌↔◌, List, ℕ, 
 ghost use Rattle.std.specs.Cow.{cow_slice_items, cow_str_bytes, IsOwnedSlice, IsBorrowedSlice, IsBorrowedStr};
 ghost use Rattle.std.specs.Str.{IsUtf8};
 ghost use Rattle.std.specs.Str.Lossy.{utf8_lossy};
-ghost use Rattle.wire_buf.specs.Spelling.{Reads, Lacks, HasRoom};
+ghost use Rattle.wire_buf.specs.Encoding.{Reads, Lacks, HasRoom};
 ghost use Rattle.wire_buf.specs.declared.fault.WireFault.TheVariants.{Memory};
-ghost use Rattle.wire_forms.specs.RawTexts.{text_of};
+ghost use Rattle.wire_forms.specs.RawTexts.{raw_string};
 
 use crate::bytes_repr::{BytesRepr, InnerBytes};
 use std::alloc::{AllocError, Allocator, Global};
@@ -19,42 +19,41 @@ use wire_buf::{Inner, MyDeserialize, MySerialize, ParseBuf, WireFault};
 pub struct RawBytes<'a, T: BytesRepr>(pub CowSlice<'a, u8>, PhantomData<T>);
 
 impl<'a, T: BytesRepr> RawBytes<'a, T> {
-    /// The string, to be written in the representation.
+    /// Returns a field that holds `text`.
     pub fn new(text: CowSlice<'a, u8>) -> RawBytes<'a, T>
         ensures { result.0 ≡ text.entry }
     {
         RawBytes(text, PhantomData)
     }
 
-    /// How many bytes the string has.
+    /// Returns the number of bytes of the string.
     pub fn len(&self) -> usize
-        ensures { result ≡ length (text_of self.now) }
+        ensures { result ≡ length (raw_string self.now) }
     {
         self.0.len()
     }
 
-    /// Whether the string has no byte.
+    /// Returns whether the string is empty.
     pub fn is_empty(&self) -> bool
-        ensures { IsTrue result ↔ (text_of self.now ≡ []) }
+        ensures { IsTrue result ↔ (raw_string self.now ≡ []) }
     {
         self.0.is_empty()
     }
 
-    /// The string's bytes.
+    /// Returns the string's bytes.
     pub fn as_bytes(&self) -> &[u8]
-        ensures { result.now ≡ text_of self.now }
+        ensures { result.now ≡ raw_string self.now }
     {
         &self.0
     }
 
-    /// The string as text: as it stands where it is UTF-8, which takes no memory, else with
-    /// replacement characters.
+    /// Returns the string as text: borrowed and unchanged if it is UTF-8, else with replacement characters.
     pub fn as_str(&self, alloc: Global) -> Result<CowStr<'_>, AllocError>
         ensures text { IfOk result
-            (λ t. IsUtf8 (text_of self.now) → cow_str_bytes t ≡ text_of self.now) }
+            (λ t. IsUtf8 (raw_string self.now) → cow_str_bytes t ≡ raw_string self.now) }
         ensures lossy { IfOk result
-            (λ t. cow_str_bytes t ≡ utf8_lossy (text_of self.now)) }
-        ensures borrowed { IsUtf8 (text_of self.now)
+            (λ t. cow_str_bytes t ≡ utf8_lossy (raw_string self.now)) }
+        ensures borrowed { IsUtf8 (raw_string self.now)
             → IsOkAnd result (λ t. IsBorrowedStr t) }
     {
         match str::from_utf8(self.as_bytes()) {
@@ -63,25 +62,25 @@ impl<'a, T: BytesRepr> RawBytes<'a, T> {
         }
     }
 
-    /// Whether the string has exactly these bytes.
+    /// Returns whether the string has exactly these bytes.
     pub fn eq_bytes(&self, bytes: &[u8]) -> bool
-        ensures { IsTrue result ↔ (text_of self.now ≡ bytes.now) }
+        ensures { IsTrue result ↔ (raw_string self.now ≡ bytes.now) }
     {
         self.as_bytes() == bytes
     }
 
-    /// The same string, in memory of its own.
+    /// Returns an owned copy of the string.
     pub fn clone(&self, alloc: Global) -> Result<RawBytes<'static, T>, AllocError>
-        ensures text { IfOk result (λ t. text_of t ≡ text_of self.now) }
+        ensures text { IfOk result (λ t. raw_string t ≡ raw_string self.now) }
         ensures owned { IfOk result (λ t. IsOwnedSlice t.0) }
     {
         let text = CowSlice::Borrowed(self.as_bytes()).into_owned(alloc)?;
         Ok(RawBytes(CowSlice::Owned(text), PhantomData))
     }
 
-    /// The same string, borrowed from nothing.
+    /// Returns the string, owned.
     pub fn into_owned(self, alloc: Global) -> Result<RawBytes<'static, T>, AllocError>
-        ensures text { IfOk result (λ t. text_of t ≡ text_of self.entry) }
+        ensures text { IfOk result (λ t. raw_string t ≡ raw_string self.entry) }
         ensures owned { IfOk result (λ t. IsOwnedSlice t.0) }
     {
         Ok(RawBytes(CowSlice::Owned(self.0.into_owned(alloc)?), PhantomData))
@@ -89,7 +88,7 @@ impl<'a, T: BytesRepr> RawBytes<'a, T> {
 }
 
 impl<'a, T: BytesRepr> From<CowSlice<'a, u8>> for RawBytes<'a, T> {
-    ghost from_gives = { λ text raw. text_of raw ≡ cow_slice_items text };
+    ghost from_gives = { λ text raw. raw_string raw ≡ cow_slice_items text };
 
     fn from(text: CowSlice<'a, u8>) -> RawBytes<'a, T> {
         RawBytes::new(text)
@@ -97,7 +96,7 @@ impl<'a, T: BytesRepr> From<CowSlice<'a, u8>> for RawBytes<'a, T> {
 }
 
 impl<'a, T: BytesRepr> From<&'a [u8]> for RawBytes<'a, T> {
-    ghost from_gives = { λ text raw. text_of raw ≡ text.now };
+    ghost from_gives = { λ text raw. raw_string raw ≡ text.now };
 
     fn from(text: &'a [u8]) -> RawBytes<'a, T> {
         RawBytes::new(CowSlice::Borrowed(text))
@@ -105,7 +104,7 @@ impl<'a, T: BytesRepr> From<&'a [u8]> for RawBytes<'a, T> {
 }
 
 impl<'a, T: BytesRepr> From<Vec<u8>> for RawBytes<'a, T> {
-    ghost from_gives = { λ text raw. text_of raw ≡ text.items };
+    ghost from_gives = { λ text raw. raw_string raw ≡ text.items };
 
     fn from(text: Vec<u8>) -> RawBytes<'a, T> {
         RawBytes::new(CowSlice::Owned(text))
@@ -123,13 +122,13 @@ impl<'de, T: BytesRepr> MyDeserialize<'de> for RawBytes<'de, T> {
 
     ghost View = { List ℕ };
 
-    ghost view = { text_of };
+    ghost view = { raw_string };
 
-    ghost spells = { T.spells };
+    ghost encodes = { T.encodes };
 
-    ghost refusal = { λ ctx x e. Lacks (T.spells ctx) x × T.is_fault x e };
+    ghost fails_with = { λ ctx x e. Lacks (T.encodes ctx) x × T.is_fault x e };
 
-    /// What is read is a part of the source.
+    /// Reads the string as a part of the source.
     fn deserialize(
         _alloc: Global,
         ctx: T::Ctx,
@@ -137,12 +136,12 @@ impl<'de, T: BytesRepr> MyDeserialize<'de> for RawBytes<'de, T> {
     ) -> Result<RawBytes<'de, T>, WireFault>
         requires { HasRoom T.Size.SIZE (length buf.old.0.now) }
         ensures ok { IfOk result
-            (λ v. Reads (T.spells ctx) (text_of v) buf.old.0.now buf.new.0.now) }
+            (λ v. Reads (T.encodes ctx) (raw_string v) buf.old.0.now buf.new.0.now) }
         ensures borrowed { IfOk result (λ v. IsBorrowedSlice v.0) }
         ensures err { IfErr result
-            (λ e. e ≡ Memory ⊎ Lacks (T.spells ctx) buf.old.0.now) }
+            (λ e. e ≡ Memory ⊎ Lacks (T.encodes ctx) buf.old.0.now) }
         ensures why { IfErr result
-            (λ e. Lacks (T.spells ctx) buf.old.0.now × T.is_fault buf.old.0.now e) }
+            (λ e. Lacks (T.encodes ctx) buf.old.0.now × T.is_fault buf.old.0.now e) }
     {
         let text = T::deserialize(ctx, buf)?;
         Ok(RawBytes::new(text))
@@ -154,13 +153,13 @@ impl<'de, T: BytesRepr> MyDeserialize<'de> for RawBytes<'de, T> {
 impl<'a, T: BytesRepr> MySerialize for RawBytes<'a, T> {
     ghost View = { List ℕ };
 
-    ghost view = { λ v. T.kept (text_of v) };
+    ghost view = { λ v. T.kept (raw_string v) };
 
-    ghost form = { λ v. T.spells (T.context v) v };
+    ghost encoding = { λ v. T.encodes (T.context v) v };
 
-    ghost spelling = { λ v. Some (T.spelling v) };
+    ghost encoded = { λ v. Some (T.encoded v) };
 
-    ghost suits = { T.suits };
+    ghost allows_rest = { T.allows_rest };
 
     fn serialize<A: Allocator>(&self, buf: &mut Vec<u8, A>) -> Result<(), WireFault> {
         T::serialize(self.as_bytes(), buf)

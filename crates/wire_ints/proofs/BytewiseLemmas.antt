@@ -3,16 +3,16 @@ use Rattle.std.proofs.Common.{◌≡◌, ◌<◌, ◌%◌, ◌^◌, inl, inr, �
 use Rattle.std.proofs.lemmas.Bool.Decides.{leb_tells}
 use Rattle.wire_buf.specs.Numbers.{IsLittle}
 use Rattle.wire_buf.proofs.NumberLemmas.{byte_reads}
-use Rattle.wire_buf.proofs.SpellingLemmas.{IsShortest-fixed}
+use Rattle.wire_buf.proofs.EncodingLemmas.{IsShortest-fixed}
 use Rattle.byteorder.specs.Endian.{little_number}
-use Rattle.wire_ints.specs.Ints.{little_spelling}
+use Rattle.wire_ints.specs.Ints.{little_encoded}
 use Rattle.wire_ints.specs.Bytewise.{AreBytewise, AreWrittenBytewise}
 
 pub bytes_are_read : (bs : List ℕ) → AreBytewise (IsLittle 1) bs bs
 bytes_are_read [] = tt
 bytes_are_read (b ∷ bs) = ((λ rest. byte_reads b (b ∷ rest) rest (omega arith) refl refl), bytes_are_read bs)
 
-pub bytes_are_written : (bs : List ℕ) → ((k : ℕ) → k < length bs → slice_index bs k < 256) → AreWrittenBytewise (little_spelling 1) (IsLittle 1) (λ v. v) bs bs
+pub bytes_are_written : (bs : List ℕ) → ((k : ℕ) → k < length bs → slice_index bs k < 256) → AreWrittenBytewise (little_encoded 1) (IsLittle 1) (λ v. v) bs bs
 bytes_are_written [] h = tt
 bytes_are_written (b ∷ bs) h =
     let small : b < 256 = h 0 (omega arith) in

@@ -1,10 +1,10 @@
--- Numbers of n bytes in an order that is given by its two functions.
+-- Numbers of n bytes in a byte order that is given by its two functions.
 use Rattle.std.proofs.Common.{◌≡◌, ◌++◌, ℕ, List, [], length, refl, sym, ap, ◌∙◌, Option, Some}
 use Rattle.std.specs.Prelude.{option_map}
 use Rattle.std.proofs.lemmas.List.{append-nil}
-use Rattle.wire_buf.specs.Spelling.{IsFixed}
+use Rattle.wire_buf.specs.Encoding.{IsFixed}
 use Rattle.wire_buf.specs.Writing.{Writes}
-use Rattle.wire_buf.proofs.SpellingLemmas.{IsShortest-fixed}
+use Rattle.wire_buf.proofs.EncodingLemmas.{IsShortest-fixed}
 
 pub fixed_writes : {A : Type 0} (value_of : ℕ → A) (number_of : List ℕ → ℕ) (bytes_of : ℕ → List ℕ) (bits_of : A → Option ℕ) (n b : ℕ) (v : A) (old new : List ℕ)
     → bits_of v ≡ Some b → v ≡ value_of b → number_of (bytes_of b ++ []) ≡ b → length (bytes_of b) ≡ n → new ≡ old ++ bytes_of b

@@ -8,13 +8,13 @@ use Rattle.std.proofs.KnownBytes.{Consumes-trans}
 use Rattle.std.specs.Io.KnownBytes.{Consumes}
 use Rattle.wire_buf.specs.declared.fault.WireFault.{WireFault}
 use Rattle.wire_buf.specs.declared.fault.WireFault.TheVariants.{Eof, BadNumber, BadConst, Memory, Read, Write, Form}
-use Rattle.wire_buf.specs.Spelling.{Lacks, Alone}
+use Rattle.wire_buf.specs.Encoding.{Lacks, Alone}
 use Rattle.wire_buf.specs.Numbers.{IsLenenc, one, IsLenencString}
-use Rattle.wire_buf.specs.Fronts.{lenenc_front, number_front}
-use Rattle.wire_buf.proofs.LenencLemmas.{lenenc_front-complete, lenenc_lacks}
+use Rattle.wire_buf.specs.LenencSplit.{split_lenenc, split_number}
+use Rattle.wire_buf.proofs.LenencLemmas.{split_lenenc-complete, lenenc_lacks}
 use Rattle.wire_buf.proofs.StringLemmas.{Lacks-count, Lacks-counted, Reads-counted}
-use Rattle.wire_ints.specs.Streams.{ReadsFrom, LacksIn, FailsFrom, IsCause, LacksMemory}
-use Rattle.wire_buf.specs.Transfers.{FallsShort, GathersFront, Gathers}
+use Rattle.wire_ints.specs.Streams.{ReadsFrom, LacksIn, FailsFrom, IsCause, RunsOutOfMemory}
+use Rattle.wire_buf.specs.Transfers.{FallsShort, GathersPrefix, Gathers}
 use Rattle.wire_ints.proofs.StreamLemmas.{ReadsFrom-taken, lacks_taken, lacks_ended}
 
 -- a buffer of one byte
@@ -25,37 +25,37 @@ single (x ∷ y ∷ xs) b size is = absurd (omega (arith, size))
 
 -- the number is the first byte
 pub reads_one : (v : ℕ) (first : List ℕ) (old new : Option (List ℕ)) → first ≡ v ∷ [] → v ≤ 250 → Consumes old new first → ReadsFrom (Alone IsLenenc) v old new
-reads_one v first old new e small h = ReadsFrom-taken IsLenenc lenenc_front lenenc_front-complete v (v ∷ []) old new (one small) (subst (Consumes old new) e h)
+reads_one v first old new e small h = ReadsFrom-taken IsLenenc split_lenenc split_lenenc-complete v (v ∷ []) old new (one small) (subst (Consumes old new) e h)
 
--- the number stands behind the first byte
+-- the number is in the bytes after the first
 pub reads_tail : (tag v : ℕ) (first buf : List ℕ) (old mid new : Option (List ℕ)) → first ≡ tag ∷ [] → Consumes old mid first → Consumes mid new buf → IsLenenc v (tag ∷ buf)
     → ReadsFrom (Alone IsLenenc) v old new
 reads_tail tag v first buf old mid new e h k is =
-    ReadsFrom-taken IsLenenc lenenc_front lenenc_front-complete v (tag ∷ buf) old new is
+    ReadsFrom-taken IsLenenc split_lenenc split_lenenc-complete v (tag ∷ buf) old new is
     (Consumes-trans old mid new (tag ∷ []) buf (subst (Consumes old mid) e h) k)
 
-number_front-short : (n : ℕ) (x : List ℕ) → length x < n → number_front n x ≡ None
-unfolding number_front
-number_front-short n x few = elim (leb_tells n (length x)) [
+split_number-short : (n : ℕ) (x : List ℕ) → length x < n → split_number n x ≡ None
+unfolding split_number
+split_number-short n x few = elim (leb_tells n (length x)) [
   | inl t ↦ absurd (omega (arith, t.1, few))
   | inr t ↦ rw t.0 refl
 ]
 
 pub two_short : (t : List ℕ) → length t < 2 → Lacks (Alone IsLenenc) (252 ∷ t)
-unfolding lenenc_front
-two_short t few = lenenc_lacks (252 ∷ t) (number_front-short 2 t few)
+unfolding split_lenenc
+two_short t few = lenenc_lacks (252 ∷ t) (split_number-short 2 t few)
 
 pub three_short : (t : List ℕ) → length t < 3 → Lacks (Alone IsLenenc) (253 ∷ t)
-unfolding lenenc_front
-three_short t few = lenenc_lacks (253 ∷ t) (number_front-short 3 t few)
+unfolding split_lenenc
+three_short t few = lenenc_lacks (253 ∷ t) (split_number-short 3 t few)
 
 pub eight_short : (t : List ℕ) → length t < 8 → Lacks (Alone IsLenenc) (254 ∷ t)
-unfolding lenenc_front
-eight_short t few = lenenc_lacks (254 ∷ t) (number_front-short 8 t few)
+unfolding split_lenenc
+eight_short t few = lenenc_lacks (254 ∷ t) (split_number-short 8 t few)
 
--- no number begins so
+-- no number begins with this byte
 pub no_number : (b : ℕ) → 250 < b → (b ≡ 252 → ⊥) → (b ≡ 253 → ⊥) → (b ≡ 254 → ⊥) → (r : List ℕ) → Lacks (Alone IsLenenc) (b ∷ r)
-unfolding lenenc_front
+unfolding split_lenenc
 no_number b far two' three' eight' r =
     lenenc_lacks (b ∷ r) (elim (leb_tells b 250) [
       | inl t ↦ absurd (omega (arith, t.1, far))
@@ -80,41 +80,41 @@ fails_bad b first old new e far two' three' eight' h =
 -- fewer bytes than the first byte announces
 pub fails_tail : (tag n : ℕ) (fault : WireFault) (first : List ℕ) (old mid new : Option (List ℕ)) → first ≡ tag ∷ [] → Consumes old mid first
     → ((t : List ℕ) → length t < n → Lacks (Alone IsLenenc) (tag ∷ t)) → FallsShort fault n mid new → FailsFrom (Alone IsLenenc) fault old new
-fails_tail tag n fault first old mid new e h none cut =
-    let taken = Consumes-trans old mid new (tag ∷ []) cut.taken (subst (Consumes old mid) e h) cut.consumed in
+fails_tail tag n fault first old mid new e h none truncated =
+    let taken = Consumes-trans old mid new (tag ∷ []) truncated.taken (subst (Consumes old mid) e h) truncated.consumed in
     record {
-      taken = tag ∷ cut.taken;
+      taken = tag ∷ truncated.taken;
       consumed = taken;
-      cause = elim cut.cause [
-        | inl p ↦ subst (λ (f : WireFault). IsCause (Alone IsLenenc) f (tag ∷ cut.taken) old new) (sym p.0) (lacks_ended (Alone IsLenenc) (tag ∷ cut.taken) old new taken p.1 (none cut.taken p.2), p.1)
-        | inr p ↦ subst (λ (f : WireFault). IsCause (Alone IsLenenc) f (tag ∷ cut.taken) old new) (sym p) tt
+      cause = elim truncated.cause [
+        | inl p ↦ subst (λ (f : WireFault). IsCause (Alone IsLenenc) f (tag ∷ truncated.taken) old new) (sym p.0) (lacks_ended (Alone IsLenenc) (tag ∷ truncated.taken) old new taken p.1 (none truncated.taken p.2), p.1)
+        | inr p ↦ subst (λ (f : WireFault). IsCause (Alone IsLenenc) f (tag ∷ truncated.taken) old new) (sym p) tt
       ];
     }
 
-none_front : lenenc_front [] ≡ None
-unfolding lenenc_front
-none_front = refl
+none_prefix : split_lenenc [] ≡ None
+unfolding split_lenenc
+none_prefix = refl
 
 -- no first byte
 pub fails_first : (fault : WireFault) (old new : Option (List ℕ)) → FallsShort fault 1 old new → FailsFrom (Alone IsLenenc) fault old new
-fails_first fault old new cut = record {
-  taken = cut.taken;
-  consumed = cut.consumed;
-  cause = elim cut.cause [
-    | inl p ↦ subst (λ (f : WireFault). IsCause (Alone IsLenenc) f cut.taken old new) (sym p.0) (lacks_ended (Alone IsLenenc) cut.taken old new cut.consumed p.1 (nothing cut.taken p.2), p.1)
-    | inr p ↦ subst (λ (f : WireFault). IsCause (Alone IsLenenc) f cut.taken old new) (sym p) tt
+fails_first fault old new truncated = record {
+  taken = truncated.taken;
+  consumed = truncated.consumed;
+  cause = elim truncated.cause [
+    | inl p ↦ subst (λ (f : WireFault). IsCause (Alone IsLenenc) f truncated.taken old new) (sym p.0) (lacks_ended (Alone IsLenenc) truncated.taken old new truncated.consumed p.1 (nothing truncated.taken p.2), p.1)
+    | inr p ↦ subst (λ (f : WireFault). IsCause (Alone IsLenenc) f truncated.taken old new) (sym p) tt
   ];
 }
   where
     nothing : (t : List ℕ) → length t < 1 → Lacks (Alone IsLenenc) t
-    nothing [] few = lenenc_lacks [] none_front
+    nothing [] few = lenenc_lacks [] none_prefix
     nothing (b ∷ t) few = absurd (omega (arith, few))
 
--- the exit of a `?` whose fault is passed on
+-- a `?` whose error is passed on
 pub IfErr-same : {T : Type 0} (r : Result T WireFault) (e : WireFault) (P : WireFault → Type 0) → IsErr r × IsErrAnd r (λ y. y ≡ e) → P e → IfErr r P
 IfErr-same r e P h p = let f = err_from_is_err_and r h.1 in rw f.1 (subst P (sym f.2) p)
 
--- a string has no spelling where its count has none
+-- a string has no encoding if its length has none
 lacks_string : (old : Option (List ℕ)) → LacksIn (Alone IsLenenc) old → LacksIn (Alone IsLenencString) old
 lacks_string None h = tt
 lacks_string (Some x) h = Lacks-count IsLenenc x h
@@ -128,10 +128,10 @@ cause_string BadConst taken old new h = absurd h
 cause_string Write taken old new h = absurd h
 cause_string Form taken old new h = absurd h
 
-pub fails_string : (fault : WireFault) (old new : Option (List ℕ)) → FailsFrom (Alone IsLenenc) fault old new → FailsFrom (Alone IsLenencString) fault old new ⊎ LacksMemory fault old new
+pub fails_string : (fault : WireFault) (old new : Option (List ℕ)) → FailsFrom (Alone IsLenenc) fault old new → FailsFrom (Alone IsLenencString) fault old new ⊎ RunsOutOfMemory fault old new
 fails_string fault old new h = inl (record { taken = h.taken; consumed = h.consumed; cause = cause_string fault h.taken old new h.cause })
 
--- a string behind its length
+-- a string after its length
 pub reads_string : (n : ℕ) (text : List ℕ) (old mid new : Option (List ℕ)) → ReadsFrom (Alone IsLenenc) n old mid → Gathers n mid new [] text → ReadsFrom (Alone IsLenencString) text old new
 reads_string n text None mid new r g = tt
 reads_string n text (Some x) None new r g = absurd r
@@ -141,30 +141,30 @@ reads_string n text (Some x) (Some y) (Some z) r g =
     let whole : y ≡ text ++ z = g.consumed ∙ ap (λ l. l ++ z) (sym g.appended) in
     let long : length text ≡ n = ap length g.appended ∙ size in
     let enough : n ≤ length y = omega (arith, ap length whole, length-append text z, long) in
-    let front : text ≡ take n y = sym (ap (λ k. take k y) (sym long) ∙ ap (take (length text)) whole ∙ take-append_seam text z) in
+    let prefix : text ≡ take n y = sym (ap (λ k. take k y) (sym long) ∙ ap (take (length text)) whole ∙ take-append_seam text z) in
     let back : z ≡ drop n y = sym (ap (λ k. drop k y) (sym long) ∙ ap (drop (length text)) whole ∙ drop-append_seam text z) in
-    Reads-counted IsLenenc n x y text z r enough front back
+    Reads-counted IsLenenc n x y text z r enough prefix back
 
--- a string that is cut off behind its length
-pub fails_cut : (n : ℕ) (fault : WireFault) (old mid new : Option (List ℕ)) (before after : List ℕ) → ReadsFrom (Alone IsLenenc) n old mid → GathersFront fault n mid new before after
-    → FailsFrom (Alone IsLenencString) fault old new ⊎ LacksMemory fault old new
-fails_cut n fault None mid new before after r cut = elim cut.cause [
+-- a string that is truncated after its length
+pub fails_cut : (n : ℕ) (fault : WireFault) (old mid new : Option (List ℕ)) (before after : List ℕ) → ReadsFrom (Alone IsLenenc) n old mid → GathersPrefix fault n mid new before after
+    → FailsFrom (Alone IsLenencString) fault old new ⊎ RunsOutOfMemory fault old new
+fails_cut n fault None mid new before after r truncated = elim truncated.cause [
   | inl q ↦ elim q [
     | inl p ↦ inl (record { taken = []; consumed = tt; cause = subst (λ (f : WireFault). IsCause (Alone IsLenencString) f [] None new) (sym p.0) (tt, p.1) })
     | inr p ↦ inl (record { taken = []; consumed = tt; cause = subst (λ (f : WireFault). IsCause (Alone IsLenencString) f [] None new) (sym p) tt })
   ]
   | inr p ↦ inr (record { is = p; taken = []; consumed = tt })
 ]
-fails_cut n fault (Some x) None new before after r cut = absurd r
-fails_cut n fault (Some x) (Some y) None before after r cut = absurd cut.consumed
-fails_cut n fault (Some x) (Some y) (Some z) before after r cut =
-    let gone : List ℕ = r.begins.bytes ++ cut.taken in
-    let lost : Consumes (Some x) (Some z) gone = r.begins.joined ∙ ap (λ l. r.begins.bytes ++ l) cut.consumed ∙ sym (append_assoc r.begins.bytes cut.taken z) in
-    elim cut.cause [
+fails_cut n fault (Some x) None new before after r truncated = absurd r
+fails_cut n fault (Some x) (Some y) None before after r truncated = absurd truncated.consumed
+fails_cut n fault (Some x) (Some y) (Some z) before after r truncated =
+    let gone : List ℕ = r.begins.bytes ++ truncated.taken in
+    let lost : Consumes (Some x) (Some z) gone = r.begins.joined ∙ ap (λ l. r.begins.bytes ++ l) truncated.consumed ∙ sym (append_assoc r.begins.bytes truncated.taken z) in
+    elim truncated.cause [
       | inl q ↦ elim q [
         | inl p ↦
             let few = p.2 in
-            let short : length y < n = omega (arith, ap length cut.consumed, length-append cut.taken z, ap length p.1, few) in
+            let short : length y < n = omega (arith, ap length truncated.consumed, length-append truncated.taken z, ap length p.1, few) in
             inl (record { taken = gone; consumed = lost; cause = subst (λ (f : WireFault). IsCause (Alone IsLenencString) f gone (Some x) (Some z)) (sym p.0) (Lacks-counted IsLenenc n x y r short, p.1) })
         | inr p ↦ inl (record { taken = gone; consumed = lost; cause = subst (λ (f : WireFault). IsCause (Alone IsLenencString) f gone (Some x) (Some z)) (sym p) tt })
       ]

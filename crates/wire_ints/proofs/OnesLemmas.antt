@@ -1,4 +1,4 @@
--- Numbers whose first byte says by its trailing ones how many bytes follow it.
+-- Numbers whose first byte gives the number of bytes after it by its trailing ones.
 use Rattle.std.proofs.Common.{◌≡◌, ◌≤◌, ◌<◌, ◌+◌, ◌*◌, ◌-◌, ◌/◌, ◌%◌, ◌^◌, ◌++◌, ◌⊎◌, inl, inr, ℕ, zero, suc, List, [], ◌∷◌, length, take, drop, slice_index, arith, refl, sym, ap, subst, ◌∙◌, Some}
 use Rattle.std.specs.Prelude.{if◌then◌else◌, ◌==◌}
 use Rattle.std.specs.Int.{w8, trailing_ones}
@@ -11,15 +11,15 @@ use Rattle.std.proofs.lemmas.List.{length-append, append-nil}
 use Rattle.std.proofs.Math.ListN.{get_or-append}
 use Rattle.byteorder.specs.Endian.{little_number, little_bytes}
 use Rattle.byteorder.specs.Numbers.{little_from-append, little_number-reads_back, length-bytes_low_first, little_from-lt}
-use Rattle.wire_buf.specs.Spelling.{Begins, Reads, Lacks, Alone, IsFixed, AreBytes, IsShortest}
+use Rattle.wire_buf.specs.Encoding.{Begins, Reads, Lacks, Alone, IsFixed, AreBytes, IsShortest}
 use Rattle.wire_buf.specs.Numbers.{IsLittle}
 use Rattle.wire_buf.specs.Writing.{Writes}
-use Rattle.wire_buf.proofs.SpellingLemmas.{Reads-fixed}
+use Rattle.wire_buf.proofs.EncodingLemmas.{Reads-fixed}
 use Rattle.wire_buf.proofs.LenencLemmas.{little_bytes-sound}
 use Rattle.wire_buf.proofs.NumberLemmas.{little_reads}
-use Rattle.wire_ints.specs.TrailingOnes.{HasTrailingOnes, IsVarlenUint, short, long, varlen_uint_len, varlen_uint_spelling, marked}
+use Rattle.wire_ints.specs.TrailingOnes.{HasTrailingOnes, IsVarlenUint, short, long, varlen_uint_len, varlen_uint_encoded, trailing_ones_number}
 
--- the trailing ones of a byte, by its remainders
+-- the number of trailing ones of a byte, by its remainders
 ones_of : ℕ → ℕ
 ones_of b =
     if (b % 2) == 0 then 0
@@ -78,7 +78,7 @@ ones_of-complete (suc (suc (suc (suc (suc (suc (suc zero))))))) b room h = fails
     ∙ holds (b % 256) 127 _ _ h
 ones_of-complete (suc (suc (suc (suc (suc (suc (suc (suc n)))))))) b room h = absurd (omega (arith, room))
 
--- a byte has its trailing ones once
+-- the number of trailing ones of a byte is unique
 ones_unique : (n m b : ℕ) → n ≤ 7 → m ≤ 7 → HasTrailingOnes n b → HasTrailingOnes m b → n ≡ m
 ones_unique n m b p q h k = sym (ones_of-complete n b p h.ones) ∙ ones_of-complete m b q k.ones
 
@@ -102,20 +102,20 @@ ones_from_bits (suc (suc (suc (suc (suc (suc zero)))))) b room byte one zeros = 
 ones_from_bits (suc (suc (suc (suc (suc (suc (suc zero))))))) b room byte one zeros = let z0 = zeros 0 (omega arith) in let z1 = zeros 1 (omega arith) in let z2 = zeros 2 (omega arith) in let z3 = zeros 3 (omega arith) in let z4 = zeros 4 (omega arith) in let z5 = zeros 5 (omega arith) in let z6 = zeros 6 (omega arith) in omega (arith, byte, one, z0, z1, z2, z3, z4, z5, z6)
 ones_from_bits (suc (suc (suc (suc (suc (suc (suc (suc n)))))))) b room byte one zeros = absurd (omega (arith, room))
 
--- the number with its trailing ones, of a value that n + 1 bytes hold
-pub marked_facts : (n v : ℕ) → n ≤ 7 → v < 128 ^ suc n
-    → (marked (suc n) v < 256 ^ suc n) × (marked (suc n) v % 256 % 2 ^ suc n ≡ 2 ^ n - 1) × (marked (suc n) v / 2 ^ suc n ≡ v)
-marked_facts zero v room fits = (omega (arith, fits), omega (arith, fits), omega (arith, fits))
-marked_facts (suc zero) v room fits = (omega (arith, fits), omega (arith, fits), omega (arith, fits))
-marked_facts (suc (suc zero)) v room fits = (omega (arith, fits), omega (arith, fits), omega (arith, fits))
-marked_facts (suc (suc (suc zero))) v room fits = (omega (arith, fits), omega (arith, fits), omega (arith, fits))
-marked_facts (suc (suc (suc (suc zero)))) v room fits = (omega (arith, fits), omega (arith, fits), omega (arith, fits))
-marked_facts (suc (suc (suc (suc (suc zero))))) v room fits = (omega (arith, fits), omega (arith, fits), omega (arith, fits))
-marked_facts (suc (suc (suc (suc (suc (suc zero)))))) v room fits = (omega (arith, fits), omega (arith, fits), omega (arith, fits))
-marked_facts (suc (suc (suc (suc (suc (suc (suc zero))))))) v room fits = (omega (arith, fits), omega (arith, fits), omega (arith, fits))
-marked_facts (suc (suc (suc (suc (suc (suc (suc (suc n)))))))) v room fits = absurd (omega (arith, room))
+-- a value that fits in n + 1 bytes, with its trailing ones
+pub with_magic_facts : (n v : ℕ) → n ≤ 7 → v < 128 ^ suc n
+    → (trailing_ones_number (suc n) v < 256 ^ suc n) × (trailing_ones_number (suc n) v % 256 % 2 ^ suc n ≡ 2 ^ n - 1) × (trailing_ones_number (suc n) v / 2 ^ suc n ≡ v)
+with_magic_facts zero v room fits = (omega (arith, fits), omega (arith, fits), omega (arith, fits))
+with_magic_facts (suc zero) v room fits = (omega (arith, fits), omega (arith, fits), omega (arith, fits))
+with_magic_facts (suc (suc zero)) v room fits = (omega (arith, fits), omega (arith, fits), omega (arith, fits))
+with_magic_facts (suc (suc (suc zero))) v room fits = (omega (arith, fits), omega (arith, fits), omega (arith, fits))
+with_magic_facts (suc (suc (suc (suc zero)))) v room fits = (omega (arith, fits), omega (arith, fits), omega (arith, fits))
+with_magic_facts (suc (suc (suc (suc (suc zero))))) v room fits = (omega (arith, fits), omega (arith, fits), omega (arith, fits))
+with_magic_facts (suc (suc (suc (suc (suc (suc zero)))))) v room fits = (omega (arith, fits), omega (arith, fits), omega (arith, fits))
+with_magic_facts (suc (suc (suc (suc (suc (suc (suc zero))))))) v room fits = (omega (arith, fits), omega (arith, fits), omega (arith, fits))
+with_magic_facts (suc (suc (suc (suc (suc (suc (suc (suc n)))))))) v room fits = absurd (omega (arith, room))
 
--- the value of n + 1 bytes is below so much
+-- the value of n + 1 bytes is below 128 ^ (n + 1)
 pub shifted_fits : (n x : ℕ) → n ≤ 7 → x < 256 ^ suc n → x / 2 ^ suc n < 128 ^ suc n
 shifted_fits zero x room fits = omega (arith, fits)
 shifted_fits (suc zero) x room fits = omega (arith, fits)
@@ -146,7 +146,7 @@ first_byte : (x bytes s : List ℕ) → x ≡ bytes ++ s → 0 < length bytes �
 first_byte x bytes s joined some = ap (λ l. slice_index l 0) joined ∙ get_or-append bytes s 0 0 some
 
 module _ (n : ℕ) (room : n ≤ 7) (x : List ℕ) (ones : HasTrailingOnes n (slice_index x 0)) where
-  -- any spelling at the front has n + 1 bytes
+  -- any encoding at the start has n + 1 bytes
   short_only : (w : ℕ) (s bytes : List ℕ) → x ≡ bytes ++ s → IsVarlenUint w bytes → Begins (Alone (IsFixed (λ b. little_number (suc n) b / 2 ^ suc n) (suc n)) w) x s
   short_only w s bytes joined (short {n = m} small h f) =
       let size = f.size in
@@ -180,7 +180,7 @@ module _ (n : ℕ) (room : n ≤ 7) (x : List ℕ) (ones : HasTrailingOnes n (sl
       let size = b.is.size in
       omega (arith, size, few, ap length b.joined, length-append b.bytes s)
 
--- a spelling has a first byte
+-- an encoding has a first byte
 has_first : (w : ℕ) (bytes : List ℕ) → IsVarlenUint w bytes → 1 ≤ length bytes
 has_first w bytes (short small h f) = let size = f.size in omega (arith, size)
 has_first w bytes (long h) = omega arith
@@ -188,7 +188,7 @@ has_first w bytes (long h) = omega arith
 pub none_lacks : (x : List ℕ) → length x < 1 → Lacks (Alone IsVarlenUint) x
 none_lacks x none w s t = let some = has_first w t.bytes t.is in omega (arith, none, some, ap length t.joined, length-append t.bytes s)
 
--- behind 255 stand eight bytes
+-- eight bytes follow 255
 long_only : (b : ℕ) (x : List ℕ) → b ≡ 255 → (w : ℕ) (s bytes : List ℕ) → b ∷ x ≡ bytes ++ s → IsVarlenUint w bytes → Begins (Alone (IsLittle 8) w) x s
 long_only b x all w s bytes joined (short {n = m} small h f) =
     let size = f.size in
@@ -219,14 +219,14 @@ long_lacks (b ∷ x) r all tail few = λ w s t.
     let size = o.is.size in
     omega (arith, few, ap length tail, size, ap length o.joined, length-append o.bytes s)
 
--- what the length of the shortest spelling says
+-- the facts that the length of the shortest encoding gives
 pub record LenFacts (v n : ℕ) : Type 0 where
   pub low : 1 ≤ n
   pub high : n ≤ 9
   pub fits : n ≤ 8 → v < 128 ^ n
   pub least : (m : ℕ) → 1 ≤ m → m ≤ 8 → v < 128 ^ m → n ≤ m
 
--- so much is too little for a number from 128 ^ k on
+-- m bytes are too few for a number from 128 ^ k on, if m ≤ k
 not_below : (v k m : ℕ) → 128 ^ k ≤ v → v < 128 ^ m → suc k ≤ m
 not_below v k m low fits = elim (leb_tells (suc k) m) [
   | inl t ↦ t.1
@@ -265,38 +265,38 @@ len_facts v = elim (leb_tells (suc v) (2 ^ 7)) [
 ]
 
 -- the shift and the sum that the writer computes
-pub marked_code : (n v : ℕ) → n ≤ 8 → 1 ≤ n → v < 128 ^ n
-    → (v * 2 ^ n % 2 ^ 64 + (1 * 2 ^ (n - 1) % 2 ^ 64 - 1) ≡ marked n v) × (marked n v < 256 ^ n) × (marked n v < 2 ^ 64) × (1 ≤ 1 * 2 ^ (n - 1) % 2 ^ 64)
-marked_code zero v room some fits = absurd (omega (arith, some))
-marked_code (suc zero) v room some fits = (omega (arith, fits), omega (arith, fits), omega (arith, fits), omega arith)
-marked_code (suc (suc zero)) v room some fits = (omega (arith, fits), omega (arith, fits), omega (arith, fits), omega arith)
-marked_code (suc (suc (suc zero))) v room some fits = (omega (arith, fits), omega (arith, fits), omega (arith, fits), omega arith)
-marked_code (suc (suc (suc (suc zero)))) v room some fits = (omega (arith, fits), omega (arith, fits), omega (arith, fits), omega arith)
-marked_code (suc (suc (suc (suc (suc zero))))) v room some fits = (omega (arith, fits), omega (arith, fits), omega (arith, fits), omega arith)
-marked_code (suc (suc (suc (suc (suc (suc zero)))))) v room some fits = (omega (arith, fits), omega (arith, fits), omega (arith, fits), omega arith)
-marked_code (suc (suc (suc (suc (suc (suc (suc zero))))))) v room some fits = (omega (arith, fits), omega (arith, fits), omega (arith, fits), omega arith)
-marked_code (suc (suc (suc (suc (suc (suc (suc (suc zero)))))))) v room some fits = (omega (arith, fits), omega (arith, fits), omega (arith, fits), omega arith)
-marked_code (suc (suc (suc (suc (suc (suc (suc (suc (suc n))))))))) v room some fits = absurd (omega (arith, room))
+pub with_magic_code : (n v : ℕ) → n ≤ 8 → 1 ≤ n → v < 128 ^ n
+    → (v * 2 ^ n % 2 ^ 64 + (1 * 2 ^ (n - 1) % 2 ^ 64 - 1) ≡ trailing_ones_number n v) × (trailing_ones_number n v < 256 ^ n) × (trailing_ones_number n v < 2 ^ 64) × (1 ≤ 1 * 2 ^ (n - 1) % 2 ^ 64)
+with_magic_code zero v room some fits = absurd (omega (arith, some))
+with_magic_code (suc zero) v room some fits = (omega (arith, fits), omega (arith, fits), omega (arith, fits), omega arith)
+with_magic_code (suc (suc zero)) v room some fits = (omega (arith, fits), omega (arith, fits), omega (arith, fits), omega arith)
+with_magic_code (suc (suc (suc zero))) v room some fits = (omega (arith, fits), omega (arith, fits), omega (arith, fits), omega arith)
+with_magic_code (suc (suc (suc (suc zero)))) v room some fits = (omega (arith, fits), omega (arith, fits), omega (arith, fits), omega arith)
+with_magic_code (suc (suc (suc (suc (suc zero))))) v room some fits = (omega (arith, fits), omega (arith, fits), omega (arith, fits), omega arith)
+with_magic_code (suc (suc (suc (suc (suc (suc zero)))))) v room some fits = (omega (arith, fits), omega (arith, fits), omega (arith, fits), omega arith)
+with_magic_code (suc (suc (suc (suc (suc (suc (suc zero))))))) v room some fits = (omega (arith, fits), omega (arith, fits), omega (arith, fits), omega arith)
+with_magic_code (suc (suc (suc (suc (suc (suc (suc (suc zero)))))))) v room some fits = (omega (arith, fits), omega (arith, fits), omega (arith, fits), omega arith)
+with_magic_code (suc (suc (suc (suc (suc (suc (suc (suc (suc n))))))))) v room some fits = absurd (omega (arith, room))
 
--- a spelling is as long as its value asks
-spelled_fits : (w : ℕ) (bytes : List ℕ) → IsVarlenUint w bytes → AreBytes bytes → (length bytes ≤ 8 → w < 128 ^ length bytes) × (length bytes ≤ 9) × (1 ≤ length bytes)
-spelled_fits w bytes (short {n = m} small h f) are =
+-- an encoding is as long as its value requires
+encoding_is_fits : (w : ℕ) (bytes : List ℕ) → IsVarlenUint w bytes → AreBytes bytes → (length bytes ≤ 8 → w < 128 ^ length bytes) × (length bytes ≤ 9) × (1 ≤ length bytes)
+encoding_is_fits w bytes (short {n = m} small h f) are =
     let size = f.size in
     let below : little_number (suc m) bytes < 256 ^ suc m = little_from-lt 0 (suc m) bytes are in
     let fits = shifted_fits m (little_number (suc m) bytes) small below in
     let is = f.value_is in
     ((λ _. rw size (rw is fits)), omega (arith, size, small), omega (arith, size))
-spelled_fits w bytes (long h) are = let size = h.size in ((λ few. absurd (omega (arith, few, size))), omega (arith, size), omega arith)
+encoding_is_fits w bytes (long h) are = let size = h.size in ((λ few. absurd (omega (arith, few, size))), omega (arith, size), omega arith)
 
-short_spelling-sound : (n v : ℕ) → n ≤ 7 → v < 128 ^ suc n → IsVarlenUint v (little_bytes (suc n) (marked (suc n) v))
-short_spelling-sound n v room fits =
-    let m = marked_facts n v room fits in
-    let back = little_number-reads_back (suc n) (marked (suc n) v) [] m.0 in
-    let whole : little_number (suc n) (little_bytes (suc n) (marked (suc n) v)) ≡ marked (suc n) v = ap (little_number (suc n)) (sym (append-nil (little_bytes (suc n) (marked (suc n) v)))) ∙ back in
-    short room (record { ones = m.1 }) (record { size = length-bytes_low_first 0 (suc n) (marked (suc n) v); value_is = sym m.2 ∙ ap (λ k. k / 2 ^ suc n) (sym whole) })
+short_encoded-sound : (n v : ℕ) → n ≤ 7 → v < 128 ^ suc n → IsVarlenUint v (little_bytes (suc n) (trailing_ones_number (suc n) v))
+short_encoded-sound n v room fits =
+    let m = with_magic_facts n v room fits in
+    let back = little_number-reads_back (suc n) (trailing_ones_number (suc n) v) [] m.0 in
+    let whole : little_number (suc n) (little_bytes (suc n) (trailing_ones_number (suc n) v)) ≡ trailing_ones_number (suc n) v = ap (little_number (suc n)) (sym (append-nil (little_bytes (suc n) (trailing_ones_number (suc n) v)))) ∙ back in
+    short room (record { ones = m.1 }) (record { size = length-bytes_low_first 0 (suc n) (trailing_ones_number (suc n) v); value_is = sym m.2 ∙ ap (λ k. k / 2 ^ suc n) (sym whole) })
 
-pub varlen_uint_least : (v : ℕ) → v < 2 ^ 64 → IsShortest IsVarlenUint v (varlen_uint_spelling v)
-unfolding varlen_uint_spelling
+pub varlen_uint_least : (v : ℕ) → v < 2 ^ 64 → IsShortest IsVarlenUint v (varlen_uint_encoded v)
+unfolding varlen_uint_encoded
 varlen_uint_least v fits =
     let n = varlen_uint_len v in
     let f = len_facts v in
@@ -306,7 +306,7 @@ varlen_uint_least v fits =
       | inl t ↦ rw t.0 (record {
         is = long (little_bytes-sound 8 v (omega (arith, fits)));
         least = λ other h are.
-            let s = spelled_fits v other h are in
+            let s = encoding_is_fits v other h are in
             elim (leb_tells (length other) 8) [
               | inl few ↦ let l = f.least (length other) s.2 few.1 (s.0 few.1) in omega (arith, l, few.1, t.1)
               | inr more ↦ omega (arith, more.1, length-bytes_low_first 0 8 v)
@@ -316,10 +316,10 @@ varlen_uint_least v fits =
           let room : n ≤ 8 = omega (arith, high, t.1) in
           let m : n ≡ suc (n - 1) = omega (arith, low) in
           rw t.0 (record {
-            is = rw m (short_spelling-sound (n - 1) v (omega (arith, room, low)) (rw (← m) (f.fits room)));
+            is = rw m (short_encoded-sound (n - 1) v (omega (arith, room, low)) (rw (← m) (f.fits room)));
             least = λ other h are.
-                let s = spelled_fits v other h are in
-                let size = length-bytes_low_first 0 n (marked n v) in
+                let s = encoding_is_fits v other h are in
+                let size = length-bytes_low_first 0 n (trailing_ones_number n v) in
                 elim (leb_tells (length other) 8) [
                   | inl few ↦ let l = f.least (length other) s.2 few.1 (s.0 few.1) in omega (arith, l, size)
                   | inr more ↦ omega (arith, more.1, size, room)
@@ -327,26 +327,26 @@ varlen_uint_least v fits =
           })
     ]
 
-pub varlen_uint_writes : (v : ℕ) (old new : List ℕ) → v < 2 ^ 64 → new ≡ old ++ varlen_uint_spelling v → Writes (λ w. Some (varlen_uint_spelling w)) IsVarlenUint v old new
-varlen_uint_writes v old new fits e = record { bytes = varlen_uint_spelling v; is = refl; appended = e; least = varlen_uint_least v fits }
+pub varlen_uint_writes : (v : ℕ) (old new : List ℕ) → v < 2 ^ 64 → new ≡ old ++ varlen_uint_encoded v → Writes (λ w. Some (varlen_uint_encoded w)) IsVarlenUint v old new
+varlen_uint_writes v old new fits e = record { bytes = varlen_uint_encoded v; is = refl; appended = e; least = varlen_uint_least v fits }
 
--- the two forms of what is written
-pub spelling_long : (v : ℕ) → varlen_uint_len v ≡ 9 → varlen_uint_spelling v ≡ 255 ∷ little_bytes 8 v
-unfolding varlen_uint_spelling
-spelling_long v e = elim (eqb_tells (varlen_uint_len v) 9) [ inl t ↦ rw t.0 refl | inr t ↦ absurd (t.1 e) ]
+-- the two formats that are written
+pub encoded_long : (v : ℕ) → varlen_uint_len v ≡ 9 → varlen_uint_encoded v ≡ 255 ∷ little_bytes 8 v
+unfolding varlen_uint_encoded
+encoded_long v e = elim (eqb_tells (varlen_uint_len v) 9) [ inl t ↦ rw t.0 refl | inr t ↦ absurd (t.1 e) ]
 
-pub spelling_short : (v n : ℕ) → n ≡ varlen_uint_len v → (n ≡ 9 → ⊥) → varlen_uint_spelling v ≡ little_bytes n (marked n v)
-unfolding varlen_uint_spelling
-spelling_short v n e not = elim (eqb_tells (varlen_uint_len v) 9) [ inl t ↦ absurd (not (e ∙ t.1)) | inr t ↦ rw (t.0, ← e) refl ]
+pub encoded_short : (v n : ℕ) → n ≡ varlen_uint_len v → (n ≡ 9 → ⊥) → varlen_uint_encoded v ≡ little_bytes n (trailing_ones_number n v)
+unfolding varlen_uint_encoded
+encoded_short v n e not = elim (eqb_tells (varlen_uint_len v) 9) [ inl t ↦ absurd (not (e ∙ t.1)) | inr t ↦ rw (t.0, ← e) refl ]
 
--- the length of what is written
-pub spelling_length : (v : ℕ) → length (varlen_uint_spelling v) ≡ varlen_uint_len v
-spelling_length v = elim (eqb_tells (varlen_uint_len v) 9) [
-  | inl t ↦ ap length (spelling_long v t.1) ∙ ap suc (length-bytes_low_first 0 8 v) ∙ sym t.1
-  | inr t ↦ ap length (spelling_short v (varlen_uint_len v) refl t.1) ∙ length-bytes_low_first 0 (varlen_uint_len v) (marked (varlen_uint_len v) v)
+-- the length of the bytes that are written
+pub encoded_length : (v : ℕ) → length (varlen_uint_encoded v) ≡ varlen_uint_len v
+encoded_length v = elim (eqb_tells (varlen_uint_len v) 9) [
+  | inl t ↦ ap length (encoded_long v t.1) ∙ ap suc (length-bytes_low_first 0 8 v) ∙ sym t.1
+  | inr t ↦ ap length (encoded_short v (varlen_uint_len v) refl t.1) ∙ length-bytes_low_first 0 (varlen_uint_len v) (trailing_ones_number (varlen_uint_len v) v)
 ]
 
--- what the count of trailing ones says of the byte
+-- the facts about the byte that the count of trailing ones gives
 pub full_byte : (r b : ℕ) → r ≡ 8 → ((r ≡ 8) × (b ≡ 255)) ⊎ ((r ≤ 7) × HasTrailingOnes r b) → b ≡ 255
 full_byte r b e (inl p) = p.1
 full_byte r b e (inr p) = let small = p.0 in absurd (omega (arith, e, small))
@@ -362,11 +362,11 @@ short_reads_code n m number x y room ones e =
     let P : ℕ → Type 0 = λ k. k ≤ length x → number ≡ little_number k x → y ≡ drop k x → Reads (Alone IsVarlenUint) (number / 2 ^ k) x y in
     subst P (sym e) (λ a b d. short_reads n room x ones (number / 2 ^ suc n) y a (ap (λ k. k / 2 ^ suc n) b) d)
 
--- what the length of the shortest spelling says, for the writer
+-- the facts that the writer needs about the length of the shortest encoding
 pub len_low : (v n : ℕ) → n ≡ varlen_uint_len v → (1 ≤ n) × (n ≤ 9) × (n ≤ 8 → v < 128 ^ n)
 len_low v n e = let f = len_facts v in let P : ℕ → Type 0 = λ k. (1 ≤ k) × (k ≤ 9) × (k ≤ 8 → v < 128 ^ k) in subst P (sym e) (f.low, f.high, f.fits)
 
--- the bytes of a number, taken from the array that they were put into
+-- the bytes of a number, taken from the array that holds them
 pub taken_bytes : (n k : ℕ) (buf tail : List ℕ) → buf ≡ little_bytes n k ++ tail → take n buf ≡ little_bytes n k
 taken_bytes n k buf tail e =
     let size : length (little_bytes n k) ≡ n = length-bytes_low_first 0 n k in

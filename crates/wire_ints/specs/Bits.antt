@@ -1,4 +1,4 @@
--- The bits of a number of n bytes give it back: lemmas, which stand here since the laws of the trait `Number` cite definitions alone.
+-- Lemmas: the bits of a number in n bytes determine it. They are in specs because the laws of the trait `Number` may cite definitions only.
 use Rattle.std.proofs.Common.{◌≡◌, ◌≤◌, ◌<◌, ◌-◌, ◌*◌, ◌^◌, ◌%◌, ◌∙◌, ℕ, suc, arith, refl, ap, Option, Some, None, inl, inr}
 use Rattle.std.specs.Prelude.{ℤ, pos, negsuc, neg_ℤ, ◌+ℤ◌, ◌⊎◌, Bool, true, false, if◌then◌else◌, option_map, ◌≤ℤ◌, ◌<ℤ◌}
 use Rattle.std.proofs.Math.Nat.{pow-le-pow_right, pow-succ'}
@@ -21,8 +21,8 @@ unsigned_bits-some n v h = elim (leb_tells (suc v) (256 ^ n)) [
 pub unsigned_bits-none : (n v : ℕ) → 256 ^ n ≤ v → unsigned_bits n v ≡ None
 unsigned_bits-none n v h = rw (le-ltb v (256 ^ n) h) refl
 
-pub unsigned_bits-back : (n b v : ℕ) → unsigned_bits n v ≡ Some b → (b < 256 ^ n) × (v ≡ b)
-unsigned_bits-back n b v e = elim (leb_tells (suc v) (256 ^ n)) [
+pub unsigned_bits-suffix : (n b v : ℕ) → unsigned_bits n v ≡ Some b → (b < 256 ^ n) × (v ≡ b)
+unsigned_bits-suffix n b v e = elim (leb_tells (suc v) (256 ^ n)) [
   | inl t ↦
       let f : ◌≡◌ {A = Option ℕ} (Some v) (Some b) = rw t.0 at e in
       let same = some_is v b f in
@@ -33,7 +33,7 @@ unsigned_bits-back n b v e = elim (leb_tells (suc v) (256 ^ n)) [
       absurd cc
 ]
 
--- the bits of n bytes are twice as many as those below the sign
+-- n bytes have twice as many values as there are below the sign bit
 pub twice : (n : ℕ) → 1 ≤ n → 256 ^ n ≡ 2 * 2 ^ (8 * n - 1)
 twice n low =
     let whole : 8 * n ≡ suc (8 * n - 1) = omega arith in
@@ -63,15 +63,15 @@ bits_tell : (t : Bool) (x y : ℕ) → ◌≡◌ {A = Option ℕ} (if t then Som
 bits_tell true x y e = (refl, some_is x y e)
 bits_tell false x y e = absurd cc
 
-pub signed_bits-back : (n b : ℕ) (v : ℤ) → 1 ≤ n → signed_bits n v ≡ Some b → (b < 256 ^ n) × (v ≡ twos_complement n b)
-signed_bits-back n b (pos k) low e =
+pub signed_bits-suffix : (n b : ℕ) (v : ℤ) → 1 ≤ n → signed_bits n v ≡ Some b → (b < 256 ^ n) × (v ≡ twos_complement n b)
+signed_bits-suffix n b (pos k) low e =
     let t = bits_tell _ _ _ e in
     let fits : fits_signed n (pos k) ≡ true = t.0 in
     let whole = twice n low in
     let same = t.1 in
     let small : k < 2 ^ (8 * n - 1) = grind (arith, ints) in
     (omega arith, rw (← same, lt-ltb k (2 ^ (8 * n - 1)) small) refl)
-signed_bits-back n b (negsuc k) low e =
+signed_bits-suffix n b (negsuc k) low e =
     let t = bits_tell _ _ _ e in
     let fits : fits_signed n (negsuc k) ≡ true = t.0 in
     let whole = twice n low in
@@ -80,7 +80,7 @@ signed_bits-back n b (negsuc k) low e =
     let above : 2 ^ (8 * n - 1) ≤ b = omega arith in
     (omega arith, rw (le-ltb b (2 ^ (8 * n - 1)) above, ← pow256 n) (omega (arith, ints)))
 
--- a number of n bytes is one of more bytes
+-- a number of n bytes fits in more bytes
 pub fits_wider : (n m b : ℕ) → n ≤ m → b < 256 ^ n → b < 256 ^ m
 fits_wider n m b more h =
     let wider : 256 ^ n ≤ 256 ^ m = pow-le-pow_right {n = 256} (omega arith) {i = n} {j = m} more in
@@ -96,7 +96,7 @@ signed_wider n m b low more h =
       | inr t ↦ let large = t.1 in rw (t.0, ← pow256 n) (omega (arith, ints), omega (arith, ints))
     ]
 
--- the bytes of the bits are those of the number
+-- `option_map` on a conditional result
 pub map_if : {A B : Type 0} (f : A → B) (t : Bool) (x : A) → option_map f (if t then Some x else None) ≡ (if t then Some (f x) else None)
 map_if f true x = refl
 map_if f false x = refl

@@ -1,4 +1,4 @@
--- Which fault a reader of numbers answers where no number stands: `Eof` where bytes are missing, and `BadNumber` where no further byte would help.
+-- The error of a reader of integers at bytes that encode none: `Eof` if bytes are missing, `BadNumber` if no further byte would help.
 use Rattle.std.specs.Prelude.{ℕ, List, [], ◌∷◌, length, nat_le, nat_lt, ◌==◌, ◌||◌, ◌&&◌, if◌then◌else◌}
 use Rattle.std.specs.List.{list_all}
 use Rattle.wire_buf.specs.declared.fault.WireFault.{WireFault}
@@ -9,6 +9,6 @@ abbrev pub lenenc_fault : List ℕ → WireFault
 lenenc_fault [] = Eof
 lenenc_fault (b ∷ x) = if b == 251 || b == 255 then BadNumber else Eof
 
--- fewer than five bytes, each of which says that more follow
+-- `Eof` for fewer than five bytes whose top bits are all set, so that more should follow
 abbrev pub varlen_fault : List ℕ → WireFault
 varlen_fault x = if nat_lt (length x) 5 && list_all (λ b. nat_le 128 b) x then Eof else BadNumber

@@ -1,4 +1,4 @@
--- VarLen numbers: seven bits a byte, the lowest first, with the top bit set where more follow; at most five bytes and 32 bits.
+-- `VarLen` integers: seven bits a byte, the lowest first, the top bit set if more bytes follow; at most five bytes and 32 bits.
 use Rattle.std.specs.Prelude.{◌<◌, ◌≤◌, ◌+◌, ◌*◌, ◌-◌, ◌/◌, ◌%◌, ◌^◌, ℕ, zero, suc, List, [], ◌∷◌, Option, Some, None, nat_lt, if◌then◌else◌, option_map}
 
 -- v in at most k bytes: the low seven bits of byte i count 128 ^ i, and all bytes but the last have their top bit set
@@ -6,21 +6,21 @@ pub data IsSevens : ℕ → ℕ → List ℕ → Type 0 where
   last : {k b : ℕ} → b < 128 → IsSevens (suc k) b (b ∷ [])
   more : {k d v : ℕ} {bytes : List ℕ} → 128 ≤ d → IsSevens k v bytes → IsSevens (suc k) ((d - 128) + 128 * v) (d ∷ bytes)
 
--- at most five bytes, and a number of 32 bits
+-- at most five bytes, and an integer of 32 bits
 pub record IsVarLen (v : ℕ) (bytes : List ℕ) : Type 0 where
   pub sevens : IsSevens 5 v bytes
   pub fits : v < 2 ^ 32
 
--- the shortest spelling, in at most k bytes
-unfoldable pub sevens_spelling : ℕ → ℕ → List ℕ
-sevens_spelling zero v = []
-sevens_spelling (suc k) v = if nat_lt v 128 then v ∷ [] else (v % 128 + 128) ∷ sevens_spelling k (v / 128)
+-- the shortest encoding, in at most k bytes
+unfoldable pub sevens_encoded : ℕ → ℕ → List ℕ
+sevens_encoded zero v = []
+sevens_encoded (suc k) v = if nat_lt v 128 then v ∷ [] else (v % 128 + 128) ∷ sevens_encoded k (v / 128)
 
-abbrev pub varlen_spelling : ℕ → List ℕ
-varlen_spelling v = sevens_spelling 5 v
+abbrev pub varlen_encoded : ℕ → List ℕ
+varlen_encoded v = sevens_encoded 5 v
 
--- the number at the front in at most k bytes, and what follows, as a function that computes: what the private reader is proved against
-unfoldable pub sevens_front : ℕ → List ℕ → Option (ℕ × List ℕ)
-sevens_front zero x = None
-sevens_front (suc k) [] = None
-sevens_front (suc k) (b ∷ x) = if nat_lt b 128 then Some (b, x) else option_map (λ p. ((b - 128) + 128 * p.0, p.1)) (sevens_front k x)
+-- the number at the start in at most k bytes, and the bytes after it, as a function that computes; the private reader is proved against it
+unfoldable pub sevens_split : ℕ → List ℕ → Option (ℕ × List ℕ)
+sevens_split zero x = None
+sevens_split (suc k) [] = None
+sevens_split (suc k) (b ∷ x) = if nat_lt b 128 then Some (b, x) else option_map (λ p. ((b - 128) + 128 * p.0, p.1)) (sevens_split k x)

@@ -1,24 +1,24 @@
-//! Numbers and counted strings at the end of a buffer.
+//! Appends integers and strings with a length prefix to a buffer.
 
 ghost use Rattle.std.specs.Prelude.{◌≡◌, ◌≤◌, ◌++◌, Some, length, take, OnOk, IfErr};
-ghost use Rattle.wire_buf.specs.Numbers.{IsLenenc, IsLittle, IsSignedLittle, IsLenencString, IsShortString, IsLongString, lenenc_spelling};
-ghost use Rattle.wire_buf.specs.Writing.{Writes, Refuses};
+ghost use Rattle.wire_buf.specs.Numbers.{IsLenenc, IsLittle, IsSignedLittle, IsLenencString, IsShortString, IsLongString, lenenc_encoded};
+ghost use Rattle.wire_buf.specs.Writing.{Writes, WriteFails};
 ghost use Rattle.wire_buf.specs.declared.fault.WireFault.TheVariants.{Memory};
-ghost use Rattle.wire_ints.specs.Ints.{little_spelling, signed_little_spelling};
-ghost use Rattle.wire_ints.specs.Strings.{lenenc_string_spelling, counted_spelling};
+ghost use Rattle.wire_ints.specs.Ints.{little_encoded, signed_little_encoded};
+ghost use Rattle.wire_ints.specs.Strings.{lenenc_string_encoded, counted_encoded};
 
 use crate::lenenc::lenenc_bytes;
 use bytes::BufMut;
 use wire_buf::WireFault;
 
-/// Writes numbers and counted strings to any buffer of the crate `bytes`, and to a `Vec`, as in
-/// `mysql_common`. Each answers `Memory` where the buffer can't grow.
+/// Writes integers and strings with a length prefix to any buffer of the crate `bytes`, and to a `Vec`, as in
+/// `mysql_common`. Each call returns `Memory` if the buffer can't grow; an error appends nothing.
 pub trait BufMutExt: BufMut {
-    /// Appends a length-encoded integer in its shortest form, or nothing.
+    /// Appends the shortest encoding of a length-encoded integer.
     final fn put_lenenc_int(&mut self, n: u64) -> Result<(), WireFault>
     where
         Self: Sized,
-        ensures ok { OnOk result (Writes (λ v. Some (lenenc_spelling v)) IsLenenc n
+        ensures ok { OnOk result (Writes (λ v. Some (lenenc_encoded v)) IsLenenc n
             (Self.written self.old) (Self.written self.new)) }
         ensures err { IfErr result (λ e. (e ≡ Memory)
             × (Self.written self.new ≡ Self.written self.old)) }
@@ -28,11 +28,11 @@ pub trait BufMutExt: BufMut {
         Ok(())
     }
 
-    /// Appends a length-encoded string, or nothing.
+    /// Appends a length-encoded string.
     final fn put_lenenc_str(&mut self, s: &[u8]) -> Result<(), WireFault>
     where
         Self: Sized,
-        ensures ok { OnOk result (Writes (λ v. Some (lenenc_string_spelling v)) IsLenencString
+        ensures ok { OnOk result (Writes (λ v. Some (lenenc_string_encoded v)) IsLenencString
             s.now (Self.written self.old) (Self.written self.new)) }
         ensures err { IfErr result (λ e. (e ≡ Memory)
             × (Self.written self.new ≡ Self.written self.old)) }
@@ -41,13 +41,13 @@ pub trait BufMutExt: BufMut {
         put_both(self, &bytes[..len], s)
     }
 
-    /// Appends an unsigned number of three bytes, or nothing: `Form` for one past 24 bits.
+    /// Appends an unsigned 3-byte little-endian integer. Returns `Form` if it has more than 24 bits.
     final fn put_u24_le(&mut self, x: u32) -> Result<(), WireFault>
     where
         Self: Sized,
-        ensures ok { OnOk result (Writes (little_spelling 3) (IsLittle 3) x
+        ensures ok { OnOk result (Writes (little_encoded 3) (IsLittle 3) x
             (Self.written self.old) (Self.written self.new)) }
-        ensures err { IfErr result (λ e. Refuses (little_spelling 3) x e
+        ensures err { IfErr result (λ e. WriteFails (little_encoded 3) x e
             (Self.written self.old) (Self.written self.new)) }
     {
         if x >= 0x100_0000 {
@@ -57,13 +57,13 @@ pub trait BufMutExt: BufMut {
         Ok(())
     }
 
-    /// Appends a signed number of three bytes, or nothing: `Form` for one past 24 bits.
+    /// Appends a signed 3-byte little-endian integer. Returns `Form` if it doesn't fit in 24 bits.
     final fn put_i24_le(&mut self, x: i32) -> Result<(), WireFault>
     where
         Self: Sized,
-        ensures ok { OnOk result (Writes (signed_little_spelling 3) (IsSignedLittle 3) x
+        ensures ok { OnOk result (Writes (signed_little_encoded 3) (IsSignedLittle 3) x
             (Self.written self.old) (Self.written self.new)) }
-        ensures err { IfErr result (λ e. Refuses (signed_little_spelling 3) x e
+        ensures err { IfErr result (λ e. WriteFails (signed_little_encoded 3) x e
             (Self.written self.old) (Self.written self.new)) }
     {
         if x < -0x80_0000 || x >= 0x80_0000 {
@@ -73,13 +73,13 @@ pub trait BufMutExt: BufMut {
         Ok(())
     }
 
-    /// Appends an unsigned number of six bytes, or nothing: `Form` for one past 48 bits.
+    /// Appends an unsigned 6-byte little-endian integer. Returns `Form` if it has more than 48 bits.
     final fn put_u48_le(&mut self, x: u64) -> Result<(), WireFault>
     where
         Self: Sized,
-        ensures ok { OnOk result (Writes (little_spelling 6) (IsLittle 6) x
+        ensures ok { OnOk result (Writes (little_encoded 6) (IsLittle 6) x
             (Self.written self.old) (Self.written self.new)) }
-        ensures err { IfErr result (λ e. Refuses (little_spelling 6) x e
+        ensures err { IfErr result (λ e. WriteFails (little_encoded 6) x e
             (Self.written self.old) (Self.written self.new)) }
     {
         if x >= 0x1_0000_0000_0000 {
@@ -89,13 +89,13 @@ pub trait BufMutExt: BufMut {
         Ok(())
     }
 
-    /// Appends an unsigned number of seven bytes, or nothing: `Form` for one past 56 bits.
+    /// Appends an unsigned 7-byte little-endian integer. Returns `Form` if it has more than 56 bits.
     final fn put_u56_le(&mut self, x: u64) -> Result<(), WireFault>
     where
         Self: Sized,
-        ensures ok { OnOk result (Writes (little_spelling 7) (IsLittle 7) x
+        ensures ok { OnOk result (Writes (little_encoded 7) (IsLittle 7) x
             (Self.written self.old) (Self.written self.new)) }
-        ensures err { IfErr result (λ e. Refuses (little_spelling 7) x e
+        ensures err { IfErr result (λ e. WriteFails (little_encoded 7) x e
             (Self.written self.old) (Self.written self.new)) }
     {
         if x >= 0x100_0000_0000_0000 {
@@ -105,13 +105,13 @@ pub trait BufMutExt: BufMut {
         Ok(())
     }
 
-    /// Appends a signed number of seven bytes, or nothing: `Form` for one past 56 bits.
+    /// Appends a signed 7-byte little-endian integer. Returns `Form` if it doesn't fit in 56 bits.
     final fn put_i56_le(&mut self, x: i64) -> Result<(), WireFault>
     where
         Self: Sized,
-        ensures ok { OnOk result (Writes (signed_little_spelling 7) (IsSignedLittle 7) x
+        ensures ok { OnOk result (Writes (signed_little_encoded 7) (IsSignedLittle 7) x
             (Self.written self.old) (Self.written self.new)) }
-        ensures err { IfErr result (λ e. Refuses (signed_little_spelling 7) x e
+        ensures err { IfErr result (λ e. WriteFails (signed_little_encoded 7) x e
             (Self.written self.old) (Self.written self.new)) }
     {
         if x < -0x80_0000_0000_0000 || x >= 0x80_0000_0000_0000 {
@@ -121,49 +121,49 @@ pub trait BufMutExt: BufMut {
         Ok(())
     }
 
-    /// Appends a string behind its length in one byte, cut at 255 bytes, or nothing.
+    /// Appends a string after its length in one byte, truncated to 255 bytes.
     final fn put_u8_str(&mut self, s: &[u8]) -> Result<(), WireFault>
     where
         Self: Sized,
-        ensures ok { OnOk result (Writes (counted_spelling 1) IsShortString (take 255 s.now)
+        ensures ok { OnOk result (Writes (counted_encoded 1) IsShortString (take 255 s.now)
             (Self.written self.old) (Self.written self.new)) }
         ensures err { IfErr result (λ e. (e ≡ Memory)
             × (Self.written self.new ≡ Self.written self.old)) }
     {
-        let text = cut(s, 255);
+        let text = truncated(s, 255);
         put_both(self, &[text.len() as u8], text)
     }
 
-    /// Appends a string behind its length in four bytes, cut at 4,294,967,295 bytes, or nothing.
+    /// Appends a string after its length in four little-endian bytes, truncated to 4,294,967,295 bytes.
     final fn put_u32_str(&mut self, s: &[u8]) -> Result<(), WireFault>
     where
         Self: Sized,
-        ensures ok { OnOk result (Writes (counted_spelling 4) IsLongString
+        ensures ok { OnOk result (Writes (counted_encoded 4) IsLongString
             (take 4294967295 s.now) (Self.written self.old) (Self.written self.new)) }
         ensures err { IfErr result (λ e. (e ≡ Memory)
             × (Self.written self.new ≡ Self.written self.old)) }
     {
-        let text = cut(s, 0xffff_ffff);
+        let text = truncated(s, 0xffff_ffff);
         put_both(self, &(text.len() as u32).to_le_bytes(), text)
     }
 }
 
 impl<T: BufMut> BufMutExt for T {}
 
-/// Appends both, or nothing: the room for both is made first, so that a buffer grows once.
-fn put_both<B: BufMut>(buf: &mut B, front: &[u8], back: &[u8]) -> Result<(), WireFault>
+/// Appends both, or nothing. The room for both is reserved first, so that the buffer grows once.
+fn put_both<B: BufMut>(buf: &mut B, prefix: &[u8], back: &[u8]) -> Result<(), WireFault>
     ensures ok { OnOk result
-        (B.written buf.new ≡ B.written buf.old ++ (front.now ++ back.now)) }
+        (B.written buf.new ≡ B.written buf.old ++ (prefix.now ++ back.now)) }
     ensures err { IfErr result (λ e. (e ≡ Memory) × (B.written buf.new ≡ B.written buf.old)) }
 {
-    buf.reserve(front.len() + back.len())?;
-    buf.put_slice(front)?;
+    buf.reserve(prefix.len() + back.len())?;
+    buf.put_slice(prefix)?;
     buf.put_slice(back)?;
     Ok(())
 }
 
-/// The first `max` bytes of the text, or all there are.
-fn cut(text: &[u8], max: usize) -> &[u8]
+/// Returns the first `max` bytes of the text, or all of them if there are fewer.
+fn truncated(text: &[u8], max: usize) -> &[u8]
     ensures value { result.now ≡ take max text.now }
     ensures size { length result.now ≤ max }
 {

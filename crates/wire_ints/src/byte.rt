@@ -1,7 +1,7 @@
 //! Integers of one byte.
 
 ghost use Rattle.wire_buf.specs.Numbers.{IsLittle, IsSignedLittle};
-ghost use Rattle.wire_ints.specs.Ints.{little_spelling, signed_little_spelling};
+ghost use Rattle.wire_ints.specs.Ints.{little_encoded, signed_little_encoded};
 
 use crate::int_repr::IntRepr;
 use std::alloc::Allocator;
@@ -14,9 +14,9 @@ impl IntRepr for u8 {
 
     type Primitive = u8;
 
-    ghost spells = { IsLittle 1 };
+    ghost encodes = { IsLittle 1 };
 
-    ghost spelling = { little_spelling 1 };
+    ghost encoded = { little_encoded 1 };
 
     fn deserialize(buf: &mut ParseBuf<'_>) -> Result<u8, WireFault> {
         Ok(buf.eat_u8())
@@ -45,9 +45,9 @@ impl IntRepr for i8 {
 
     type Primitive = i8;
 
-    ghost spells = { IsSignedLittle 1 };
+    ghost encodes = { IsSignedLittle 1 };
 
-    ghost spelling = { signed_little_spelling 1 };
+    ghost encoded = { signed_little_encoded 1 };
 
     fn deserialize(buf: &mut ParseBuf<'_>) -> Result<i8, WireFault> {
         Ok(buf.eat_i8())

@@ -1,15 +1,14 @@
-//! The two halves of a number of 32 bits, each in two bytes. A handshake packet sends its
-//! capability flags so, the lower half early and the upper half later.
+//! The two halves of a 32-bit integer, each in two bytes. A handshake packet sends its capability flags this
+//! way, the lower half before the upper.
 
 ghost use Rattle.wire_buf.specs.Numbers.{IsLittle};
-ghost use Rattle.wire_ints.specs.Ints.{little_spelling, lower_half, upper_half, upper_half_spelling, IsUpperHalf};
+ghost use Rattle.wire_ints.specs.Ints.{little_encoded, lower_half, upper_half, upper_half_encoded, IsUpperHalf};
 
 use crate::int_repr::IntRepr;
 use std::alloc::Allocator;
 use wire_buf::{FixedSize, ParseBuf, WireFault};
 
-/// Two bytes that are the lower half of a `u32`. What is read has a zero upper half; the upper half
-/// of what is written is dropped.
+/// The lower half of a `u32` in two bytes. Reading gives a zero upper half; writing drops the upper half.
 pub struct LeU32LowerHalf;
 
 impl IntRepr for LeU32LowerHalf {
@@ -19,9 +18,9 @@ impl IntRepr for LeU32LowerHalf {
 
     type Primitive = u32;
 
-    ghost spells = { IsLittle 2 };
+    ghost encodes = { IsLittle 2 };
 
-    ghost spelling = { little_spelling 2 };
+    ghost encoded = { little_encoded 2 };
 
     ghost kept = { lower_half };
 
@@ -37,8 +36,7 @@ impl IntRepr for LeU32LowerHalf {
     ghost sized = { λ v bytes h. h.size };
 }
 
-/// Two bytes that are the upper half of a `u32`. What is read has a zero lower half; the lower half
-/// of what is written is dropped.
+/// The upper half of a `u32` in two bytes. Reading gives a zero lower half; writing drops the lower half.
 pub struct LeU32UpperHalf;
 
 impl IntRepr for LeU32UpperHalf {
@@ -48,9 +46,9 @@ impl IntRepr for LeU32UpperHalf {
 
     type Primitive = u32;
 
-    ghost spells = { IsUpperHalf };
+    ghost encodes = { IsUpperHalf };
 
-    ghost spelling = { upper_half_spelling };
+    ghost encoded = { upper_half_encoded };
 
     ghost kept = { upper_half };
 

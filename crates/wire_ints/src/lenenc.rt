@@ -1,8 +1,9 @@
-//! Length-encoded integers: one byte up to 250, else 252, 253 or 254 and two, three or eight bytes.
+//! Length-encoded integers: one byte up to 250, else 252, 253 or 254 and two, three or eight bytes. MySQL's
+//! manual: Protocol::LengthEncodedInteger.
 
 ghost use Rattle.std.specs.Prelude.{◌≡◌, ◌≤◌, ◌-◌, ◌^◌, Some, length, min, take};
-ghost use Rattle.wire_buf.specs.Numbers.{IsLenenc, lenenc_spelling};
-ghost use Rattle.wire_ints.specs.Strings.{lenenc_string_spelling};
+ghost use Rattle.wire_buf.specs.Numbers.{IsLenenc, lenenc_encoded};
+ghost use Rattle.wire_ints.specs.Strings.{lenenc_string_encoded};
 ghost use Rattle.wire_ints.specs.Faults.{lenenc_fault};
 ghost use Rattle.wire_buf.specs.declared.fault.WireFault.TheVariants.{BadNumber};
 
@@ -12,8 +13,7 @@ use std::alloc::Allocator;
 use thiserror::Error;
 use wire_buf::{AnySize, ParseBuf, WireFault};
 
-/// A length-encoded integer stands where its first byte is 251 or 255. `WireFault::BadNumber` says
-/// the same.
+/// The first byte of a length-encoded integer is 251 or 255. `WireFault::BadNumber` means the same.
 #[derive(Clone, Copy, Debug, PartialEq, Eq, Hash, Error)]
 #[error("invalid length-encoded integer value")]
 pub struct InvalidLengthEncodedInteger;
@@ -26,7 +26,7 @@ impl From<InvalidLengthEncodedInteger> for WireFault {
     }
 }
 
-/// A length-encoded integer, in one, three, four or nine bytes.
+/// A length-encoded integer in one, three, four or nine bytes.
 pub struct LenEnc;
 
 impl IntRepr for LenEnc {
@@ -36,15 +36,15 @@ impl IntRepr for LenEnc {
 
     type Primitive = u64;
 
-    ghost spells = { IsLenenc };
+    ghost encodes = { IsLenenc };
 
-    ghost spelling = { λ v. Some (lenenc_spelling v) };
+    ghost encoded = { λ v. Some (lenenc_encoded v) };
 
     ghost fault_at = { lenenc_fault };
 
     fn deserialize(buf: &mut ParseBuf<'_>) -> Result<u64, WireFault> {
         let Some(value) = buf.checked_eat_lenenc_int() else {
-            return Err(fault_of(buf));
+            return Err(missing_fault(buf));
         };
         Ok(value)
     }
@@ -56,12 +56,12 @@ impl IntRepr for LenEnc {
     ghost sized = { λ v bytes h. tt };
 }
 
-/// The number's shortest spelling, as the first bytes of an array and their count.
-#[tactic(auto, unfolding(wire_buf::specs::Numbers::lenenc_spelling))]
+/// Returns the integer's shortest encoding: an array and the count of its bytes that are used.
+#[tactic(auto, unfolding(wire_buf::specs::Numbers::lenenc_encoded))]
 pub(crate) fn lenenc_bytes(x: u64) -> ([u8; 9], usize)
-    ensures count { result.1 ≡ length (lenenc_spelling x) }
+    ensures count { result.1 ≡ length (lenenc_encoded x) }
     ensures size { result.1 ≤ 9 }
-    ensures bytes { take result.1 result.0 ≡ lenenc_spelling x }
+    ensures bytes { take result.1 result.0 ≡ lenenc_encoded x }
 {
     let b = x.to_le_bytes();
     match x {
@@ -72,8 +72,8 @@ pub(crate) fn lenenc_bytes(x: u64) -> ([u8; 9], usize)
     }
 }
 
-/// Why no length-encoded integer stands there.
-fn fault_of(buf: &ParseBuf<'_>) -> WireFault
+/// Returns the error for bytes that begin with no length-encoded integer.
+fn missing_fault(buf: &ParseBuf<'_>) -> WireFault
     ensures { result ≡ lenenc_fault buf.now.0.now }
 {
     match buf.0.first() {
@@ -82,10 +82,10 @@ fn fault_of(buf: &ParseBuf<'_>) -> WireFault
     }
 }
 
-/// How many bytes the length-encoded `x` takes: 1, 3, 4 or 9.
-#[tactic(auto, unfolding(wire_buf::specs::Numbers::lenenc_spelling))]
+/// Returns the number of bytes of the length-encoded `x`: 1, 3, 4 or 9.
+#[tactic(auto, unfolding(wire_buf::specs::Numbers::lenenc_encoded))]
 pub fn lenenc_int_len(x: u64) -> u64
-    ensures { result ≡ length (lenenc_spelling x) }
+    ensures { result ≡ length (lenenc_encoded x) }
 {
     match x {
         0..=0xfa => 1,
@@ -95,10 +95,10 @@ pub fn lenenc_int_len(x: u64) -> u64
     }
 }
 
-/// How many bytes `s` takes as a length-encoded string. It stops at `u64::MAX`, which no slice in
+/// Returns the number of bytes of `s` as a length-encoded string, at most `u64::MAX`, which no slice in
 /// memory reaches.
 pub fn lenenc_str_len(s: &[u8]) -> u64
-    ensures { result ≡ min (length (lenenc_string_spelling s.now)) (2 ^ 64 - 1) }
+    ensures { result ≡ min (length (lenenc_string_encoded s.now)) (2 ^ 64 - 1) }
 {
     let length = s.len() as u64;
     lenenc_int_len(length).saturating_add(length)

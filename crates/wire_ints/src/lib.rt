@@ -1,8 +1,8 @@
-//! Integers as bytes: the representations that MySQL's packets and binlog events use, an integer
-//! in one of them as a field, and the reading and writing of numbers over buffers and streams.
+//! Integers as bytes: the representations in MySQL's packets and binlog events, an integer in one of them as
+//! a field, and reading and writing integers over buffers and streams.
 //!
-//! A representation is a type with the trait [`IntRepr`]. Its contract has two laws: what is read
-//! is the one number that the bytes spell, and what is written is that number's shortest spelling.
+//! A representation is a type with the trait [`IntRepr`]. Its contract has two laws: reading returns the one
+//! integer that the bytes encode, and writing appends that integer's shortest encoding.
 #![tactic(auto)]
 
 mod buf_mut_ext;

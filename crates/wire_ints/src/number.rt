@@ -1,32 +1,32 @@
-//! The numbers that a representation of fixed width holds, unsigned and signed.
+//! The numbers of the fixed-width representations, unsigned and signed.
 
 ghost use Rattle.std.specs.Prelude.{◌≡◌, ◌≤◌, ◌<◌, ◌^◌, ℕ, length, Option, Some};
 ghost use Rattle.std.proofs.Common.{rules};
 ghost use Rattle.byteorder.specs.Endian.{twos_complement};
 ghost use Rattle.wire_ints.specs.Ints.{unsigned_bits, signed_bits};
-ghost use Rattle.wire_ints.specs.Bits.{unsigned_bits-back, signed_bits-back};
+ghost use Rattle.wire_ints.specs.Bits.{unsigned_bits-suffix, signed_bits-suffix};
 
 use byteorder::ByteOrder;
 
-/// An integer in memory. It is read from some of its bytes, and written as them.
+/// An integer in memory that is read from and written as a number of bytes.
 pub trait Number: Copy {
-    /// The greatest number of bytes.
+    /// The largest number of bytes.
     ghost WIDTH: { ℕ };
 
-    /// The number of so many bytes whose bits are an unsigned number's.
+    /// `value_of n b` is the number that `n` bytes with the bits `b` encode.
     ghost value_of: { ℕ → ℕ → Self };
 
-    /// The unsigned number with the bits of so many bytes, or None where the number doesn't fit.
+    /// `bits_of n v` is the bits of `v` in `n` bytes, or None if `v` doesn't fit.
     ghost bits_of: { ℕ → Self → Option ℕ };
 
-    /// Reads the number of the first `size` bytes of `buf`.
+    /// Reads a number from the first `size` bytes of `buf`.
     fn read<O: ByteOrder>(buf: &[u8], size: usize) -> Self
         requires low { 1 ≤ size }
         requires high { size ≤ WIDTH }
         requires room { size ≤ length buf.now }
         ensures { result ≡ value_of size (O.number_of size buf.now) };
 
-    /// The bits of the number in `size` bytes, or None where it doesn't fit.
+    /// Returns the number's bits in `size` bytes, or None if it doesn't fit.
     fn bits(self, size: usize) -> Option<u128>
         requires low { 1 ≤ size }
         requires high { size ≤ WIDTH }
@@ -35,14 +35,14 @@ pub trait Number: Copy {
     /// No number has more than sixteen bytes.
     ghost narrow: { WIDTH ≤ 16 };
 
-    /// What fits is read back from its bits.
+    /// A number that fits is read back from its bits.
     ghost bits_back: { (n b : ℕ) (v : Self) → 1 ≤ n → bits_of n v ≡ Some b → (b < 256 ^ n) × (v ≡ value_of n b) };
 }
 
 /// A number without a sign.
 pub trait Unsigned: Number {}
 
-/// The bits of an unsigned number.
+/// Returns the bits of an unsigned number in `size` bytes, or None if it doesn't fit.
 fn unsigned_bits_of(value: u128, size: usize) -> Option<u128>
     requires { size ≤ 16 }
     ensures { result ≡ unsigned_bits size value }
@@ -56,7 +56,7 @@ fn unsigned_bits_of(value: u128, size: usize) -> Option<u128>
     Some(value)
 }
 
-/// The bits of a signed number in two's complement.
+/// Returns the bits of a signed number in `size` bytes of two's complement, or None if it doesn't fit.
 fn signed_bits_of(value: i128, size: usize) -> Option<u128>
     requires low { 1 ≤ size }
     requires high { size ≤ 16 }
@@ -92,7 +92,7 @@ impl Number for u16 {
 
     ghost narrow = { Prim.search rules };
 
-    ghost bits_back = { λ n b v h e. unsigned_bits-back n b v e };
+    ghost bits_back = { λ n b v h e. unsigned_bits-suffix n b v e };
 }
 
 impl Number for i16 {
@@ -112,7 +112,7 @@ impl Number for i16 {
 
     ghost narrow = { Prim.search rules };
 
-    ghost bits_back = { λ n b v h e. signed_bits-back n b v h e };
+    ghost bits_back = { λ n b v h e. signed_bits-suffix n b v h e };
 }
 
 impl Number for u32 {
@@ -132,7 +132,7 @@ impl Number for u32 {
 
     ghost narrow = { Prim.search rules };
 
-    ghost bits_back = { λ n b v h e. unsigned_bits-back n b v e };
+    ghost bits_back = { λ n b v h e. unsigned_bits-suffix n b v e };
 }
 
 impl Number for i32 {
@@ -152,7 +152,7 @@ impl Number for i32 {
 
     ghost narrow = { Prim.search rules };
 
-    ghost bits_back = { λ n b v h e. signed_bits-back n b v h e };
+    ghost bits_back = { λ n b v h e. signed_bits-suffix n b v h e };
 }
 
 impl Number for u64 {
@@ -172,7 +172,7 @@ impl Number for u64 {
 
     ghost narrow = { Prim.search rules };
 
-    ghost bits_back = { λ n b v h e. unsigned_bits-back n b v e };
+    ghost bits_back = { λ n b v h e. unsigned_bits-suffix n b v e };
 }
 
 impl Number for i64 {
@@ -192,7 +192,7 @@ impl Number for i64 {
 
     ghost narrow = { Prim.search rules };
 
-    ghost bits_back = { λ n b v h e. signed_bits-back n b v h e };
+    ghost bits_back = { λ n b v h e. signed_bits-suffix n b v h e };
 }
 
 impl Number for u128 {
@@ -212,7 +212,7 @@ impl Number for u128 {
 
     ghost narrow = { Prim.search rules };
 
-    ghost bits_back = { λ n b v h e. unsigned_bits-back n b v e };
+    ghost bits_back = { λ n b v h e. unsigned_bits-suffix n b v e };
 }
 
 impl Number for i128 {
@@ -232,7 +232,7 @@ impl Number for i128 {
 
     ghost narrow = { Prim.search rules };
 
-    ghost bits_back = { λ n b v h e. signed_bits-back n b v h e };
+    ghost bits_back = { λ n b v h e. signed_bits-suffix n b v h e };
 }
 
 impl Unsigned for u16 {}

@@ -1,20 +1,20 @@
-//! Length-encoded numbers and strings from a reader.
+//! Length-encoded integers and strings from a reader.
 
 ghost use Rattle.std.specs.Prelude.{◌⊎◌, IfOk, IfErr};
-ghost use Rattle.wire_buf.specs.Spelling.{Alone};
+ghost use Rattle.wire_buf.specs.Encoding.{Alone};
 ghost use Rattle.wire_buf.specs.Numbers.{IsLenenc, IsLenencString};
-ghost use Rattle.wire_ints.specs.Streams.{ReadsFrom, FailsFrom, LacksMemory};
+ghost use Rattle.wire_ints.specs.Streams.{ReadsFrom, FailsFrom, RunsOutOfMemory};
 
 use byteorder::{ByteOrder, LittleEndian};
 use std::alloc::Global;
 use std::io::Read;
 use wire_buf::{WireFault, read_exact, read_more};
 
-/// Reads length-encoded numbers and strings from any reader, as in `mysql_common`.
+/// Reads length-encoded integers and strings from any reader, as in `mysql_common`.
 ///
-/// An end of the input within the value is `Eof`, and all bytes are then taken; a first byte of 251
-/// or 255 is `BadNumber`, and it alone is then taken; a reader that fails, and one that is
-/// interrupted for 2^63 - 1 times, is `Read`.
+/// - `Eof`: the input ended within the value; all of its bytes are taken.
+/// - `BadNumber`: the first byte is 251 or 255; only that byte is taken.
+/// - `Read`: the reader failed, or was interrupted 2^63 - 1 times.
 pub trait ReadMysqlExt: Read {
     /// Reads a length-encoded integer.
     final fn read_lenenc_int(&mut self) -> Result<u64, WireFault>
@@ -49,8 +49,8 @@ pub trait ReadMysqlExt: Read {
         Err(WireFault::BadNumber)
     }
 
-    /// Reads a length-encoded string. It grows with the bytes that come and never by the length
-    /// alone. Want of memory is `Memory`.
+    /// Reads a length-encoded string. The string grows with the bytes that arrive, never by the length alone.
+    /// The error is also `Memory` if it can't grow.
     final fn read_lenenc_str(&mut self, alloc: Global) -> Result<Vec<u8>, WireFault>
     where
         Self: Sized,
@@ -58,7 +58,7 @@ pub trait ReadMysqlExt: Read {
             (Self.remaining self.old) (Self.remaining self.new)) }
         ensures err { IfErr result (λ e.
             FailsFrom (Alone IsLenencString) e (Self.remaining self.old) (Self.remaining self.new)
-            ⊎ LacksMemory e (Self.remaining self.old) (Self.remaining self.new)) }
+            ⊎ RunsOutOfMemory e (Self.remaining self.old) (Self.remaining self.new)) }
     {
         let length = self.read_lenenc_int()?;
         let mut text = Vec::new(alloc);

@@ -1,16 +1,17 @@
-//! Numbers of seven bits a byte, the lowest first, with the top bit set where more follow.
+//! Integers of seven bits a byte, the lowest first; the top bit of a byte is set if more bytes follow
+//! (LEB128).
 
 ghost use Rattle.std.specs.Prelude.{◌≡◌, ◌≤◌, Some, option_map, take, nat_le};
 ghost use Rattle.std.specs.List.{list_all};
-ghost use Rattle.wire_ints.specs.Sevens.{IsVarLen, sevens_front, varlen_spelling};
+ghost use Rattle.wire_ints.specs.Sevens.{IsVarLen, sevens_split, varlen_encoded};
 ghost use Rattle.wire_ints.specs.Faults.{varlen_fault};
 
 use crate::int_repr::IntRepr;
 use std::alloc::Allocator;
 use wire_buf::{AnySize, ParseBuf, WireFault};
 
-/// A number of at most 32 bits in at most five bytes of seven bits each. A longer spelling than
-/// needed is read too, within the five bytes. `mysql_common` reads more bits and cuts them.
+/// A `u32` in at most five bytes of seven bits each. An encoding longer than needed is accepted, within the
+/// five bytes. `mysql_common` reads more bits and cuts them.
 pub struct VarLen;
 
 impl IntRepr for VarLen {
@@ -20,15 +21,15 @@ impl IntRepr for VarLen {
 
     type Primitive = u32;
 
-    ghost spells = { IsVarLen };
+    ghost encodes = { IsVarLen };
 
-    ghost spelling = { λ v. Some (varlen_spelling v) };
+    ghost encoded = { λ v. Some (varlen_encoded v) };
 
     ghost fault_at = { varlen_fault };
 
     fn deserialize(buf: &mut ParseBuf<'_>) -> Result<u32, WireFault> {
-        let Some((value, rest)) = front_sevens(*buf) else {
-            return Err(fault_of(buf));
+        let Some((value, rest)) = split_sevens(*buf) else {
+            return Err(missing_fault(buf));
         };
         if value > 0xffff_ffff {
             return Err(WireFault::BadNumber);
@@ -46,9 +47,9 @@ impl IntRepr for VarLen {
     ghost sized = { λ v bytes h. tt };
 }
 
-/// The number in at most five bytes of seven bits, and what follows.
-fn front_sevens<'a>(buf: ParseBuf<'a>) -> Option<(u64, ParseBuf<'a>)>
-    ensures { option_map (λ p. (p.0, p.1.0.now)) result ≡ sevens_front 5 buf.entry.0.now }
+/// Returns the number in at most five bytes of seven bits each, and the bytes after it.
+fn split_sevens<'a>(buf: ParseBuf<'a>) -> Option<(u64, ParseBuf<'a>)>
+    ensures { option_map (λ p. (p.0, p.1.0.now)) result ≡ sevens_split 5 buf.entry.0.now }
 {
     let mut rest = buf;
     let mut value = 0;
@@ -64,10 +65,10 @@ fn front_sevens<'a>(buf: ParseBuf<'a>) -> Option<(u64, ParseBuf<'a>)>
     None
 }
 
-/// The number's shortest spelling as a [`VarLen`], as the first bytes of an array and their count.
+/// Returns the number's shortest encoding as a [`VarLen`]: an array and the count of its bytes that are used.
 pub fn varlen_bytes(val: u32) -> ([u8; 5], usize)
     ensures size { result.1 ≤ 5 }
-    ensures bytes { take result.1 result.0 ≡ varlen_spelling val }
+    ensures bytes { take result.1 result.0 ≡ varlen_encoded val }
 {
     let mut bytes = [0u8; 5];
     let mut len = 0;
@@ -81,19 +82,19 @@ pub fn varlen_bytes(val: u32) -> ([u8; 5], usize)
     (bytes, len + 1)
 }
 
-/// Why no number stands there.
-fn fault_of(buf: &ParseBuf<'_>) -> WireFault
+/// Returns the error for bytes that begin with no number.
+fn missing_fault(buf: &ParseBuf<'_>) -> WireFault
     ensures { result ≡ varlen_fault buf.now.0.now }
 {
-    if buf.len() < 5 && say_more(buf.0) {
+    if buf.len() < 5 && has_only_continuations(buf.0) {
         WireFault::Eof
     } else {
         WireFault::BadNumber
     }
 }
 
-/// Whether each byte says that more follow.
-fn say_more(bytes: &[u8]) -> bool
+/// Returns whether the top bit of each byte is set, so that more bytes follow.
+fn has_only_continuations(bytes: &[u8]) -> bool
     ensures { result ≡ list_all (λ b. nat_le 128 b) bytes.now }
 {
     bytes.iter().all(|byte| *byte >= 0x80)

@@ -1,18 +1,18 @@
-//! The variable-length unsigned integers of MySQL's serialization library, as in `mysql_common`:
-//! the trailing one bits of the first byte say how many bytes follow it.
+//! The variable-length unsigned integers of MySQL's serialization library, as in `mysql_common`: the number
+//! of trailing one bits of the first byte is the number of bytes after it.
 
 ghost use Rattle.std.specs.Prelude.{◌≡◌, ◌≤◌, ◌<◌, ◌^◌, ◌⊎◌, Some, length, IfOk, IfErr, OnOk};
-ghost use Rattle.wire_buf.specs.Spelling.{Reads, Lacks, Alone};
+ghost use Rattle.wire_buf.specs.Encoding.{Reads, Lacks, Alone};
 ghost use Rattle.wire_buf.specs.Writing.{Writes};
 ghost use Rattle.wire_buf.specs.declared.fault.WireFault.TheVariants.{Eof, Memory};
-ghost use Rattle.wire_ints.specs.TrailingOnes.{HasTrailingOnes, IsVarlenUint, marked, varlen_uint_len, varlen_uint_spelling};
+ghost use Rattle.wire_ints.specs.TrailingOnes.{HasTrailingOnes, IsVarlenUint, trailing_ones_number, varlen_uint_len, varlen_uint_encoded};
 
 use byteorder::{ByteOrder, LittleEndian};
 use std::alloc::Allocator;
 use wire_buf::{ParseBuf, WireFault};
 
-/// Reads the number at the front. Where bytes are missing it answers `Eof` and eats nothing; a
-/// longer spelling than needed is read too.
+/// Reads the integer at the start of `buf`. An encoding longer than needed is accepted. If bytes are missing,
+/// returns `Eof` and takes none.
 pub fn read_varlen_uint(buf: &mut ParseBuf<'_>) -> Result<u64, WireFault>
     ensures ok { IfOk result
         (λ v. Reads (Alone IsVarlenUint) v buf.old.0.now buf.new.0.now) }
@@ -40,9 +40,10 @@ pub fn read_varlen_uint(buf: &mut ParseBuf<'_>) -> Result<u64, WireFault>
     Ok(number >> size)
 }
 
-/// Appends the number in its shortest form, or nothing: `Memory` where the buffer can't grow.
+/// Appends the integer's shortest encoding. Returns `Memory` if the buffer can't grow; nothing is then
+/// appended.
 pub fn write_varlen_uint<A: Allocator>(value: u64, buf: &mut Vec<u8, A>) -> Result<(), WireFault>
-    ensures ok { OnOk result (Writes (λ v. Some (varlen_uint_spelling v)) IsVarlenUint value
+    ensures ok { OnOk result (Writes (λ v. Some (varlen_uint_encoded v)) IsVarlenUint value
         buf.old.items buf.new.items) }
     ensures err { IfErr result (λ e. (e ≡ Memory) × (buf.new.items ≡ buf.old.items)) }
 {
@@ -55,20 +56,20 @@ pub fn write_varlen_uint<A: Allocator>(value: u64, buf: &mut Vec<u8, A>) -> Resu
         return Ok(());
     }
     let mut bytes = [0u8; 8];
-    LittleEndian::write_uint(&mut bytes, with_ones(value, size), size);
+    LittleEndian::write_uint(&mut bytes, with_trailing_ones(value, size), size);
     buf.extend_from_slice(&bytes[..size])?;
     Ok(())
 }
 
-/// How many bytes `write_varlen_uint` appends for the number: 1 to 9.
-#[tactic(auto, using(crate::proofs::OnesLemmas::spelling_length))]
+/// Returns the number of bytes that `write_varlen_uint` appends: 1 to 9.
+#[tactic(auto, using(crate::proofs::OnesLemmas::encoded_length))]
 pub fn varlen_uint_size(value: u64) -> usize
-    ensures { result ≡ length (varlen_uint_spelling value) }
+    ensures { result ≡ length (varlen_uint_encoded value) }
 {
     fewest_bytes(value)
 }
 
-/// The fewest bytes, with seven bits of the number each, and nine from 56 bits on.
+/// Returns the number of bytes of the shortest encoding: one for every seven bits, and nine from 57 bits on.
 #[tactic(auto, unfolding(crate::specs::TrailingOnes::varlen_uint_len))]
 fn fewest_bytes(value: u64) -> usize
     ensures { result ≡ varlen_uint_len value }
@@ -86,18 +87,18 @@ fn fewest_bytes(value: u64) -> usize
     }
 }
 
-/// The number of `size` bytes that says its size in its trailing ones.
-fn with_ones(value: u64, size: usize) -> u64
+/// Returns the integer shifted left by `size` bits, with `size` - 1 trailing one bits.
+fn with_trailing_ones(value: u64, size: usize) -> u64
     requires low { 1 ≤ size }
     requires high { size ≤ 8 }
     requires fits { value < 128 ^ size }
-    ensures value { result ≡ marked size value }
+    ensures value { result ≡ trailing_ones_number size value }
     ensures within { result < 256 ^ size }
 {
     (value << size) + ((1 << (size - 1)) - 1)
 }
 
-/// How many one bits the byte ends in.
+/// Returns the number of trailing one bits of the byte.
 fn trailing_ones(byte: u8) -> usize
     ensures { ((result ≡ 8) × (byte ≡ 255)) ⊎ ((result ≤ 7) × HasTrailingOnes result byte) }
 {

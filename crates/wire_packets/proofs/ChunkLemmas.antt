@@ -1,15 +1,15 @@
--- A header that was eaten.
+-- A header that was taken.
 use Rattle.std.proofs.Common.{◌≡◌, ℕ, ◌+◌, ◌*◌, ◌/◌, ◌%◌, ◌<◌, ◌≤◌, List, ◌∷◌, ◌++◌, length, get_or, drop, sym, ap, ◌∙◌, arith}
 use Rattle.std.proofs.lemmas.List.{drop_more, get_or_read}
-use Rattle.wire_packets.specs.Reading.{len_at}
-use Rattle.wire_packets.specs.Chunks.{header_of}
+use Rattle.wire_packets.specs.Reading.{payload_len_at}
+use Rattle.wire_packets.specs.Chunks.{held_header}
 use Rattle.wire_packets.specs.declared.chunk_decoder.ChunkDecoder.TheVariants.{Chunk}
 
-pub header_len : (number needed : ℕ) (u : List ℕ) → len_at (header_of (Chunk number needed) ++ u) ≡ needed
+pub header_len : (number needed : ℕ) (u : List ℕ) → payload_len_at (held_header (Chunk number needed) ++ u) ≡ needed
 header_len number needed u = omega arith
 
--- the four bytes, eaten, are the header of what was kept
-pub header_eaten : (u v : List ℕ) (a b c n needed : ℕ) → 4 ≤ length u → a ≡ get_or u 0 a → b ≡ get_or u 1 b → c ≡ get_or u 2 c → n ≡ get_or u 3 n → a < 256 → b < 256 → c < 256 → needed ≡ a + 256 * b + 65536 * c → v ≡ drop 4 u → header_of (Chunk n needed) ++ v ≡ u
+-- the four bytes that were taken are the header that the decoder holds
+pub header_eaten : (u v : List ℕ) (a b c n needed : ℕ) → 4 ≤ length u → a ≡ get_or u 0 a → b ≡ get_or u 1 b → c ≡ get_or u 2 c → n ≡ get_or u 3 n → a < 256 → b < 256 → c < 256 → needed ≡ a + 256 * b + 65536 * c → v ≡ drop 4 u → held_header (Chunk n needed) ++ v ≡ u
 header_eaten u v a b c n needed h p q r s la lb lc is rest =
     let p' : a ≡ get_or u 0 0 = get_or_read u 0 a (omega arith) p 0 in
     let q' : b ≡ get_or u 1 0 = get_or_read u 1 b (omega arith) q 0 in

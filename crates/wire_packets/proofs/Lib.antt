@@ -1,6 +1,6 @@
 pub mod ReadingLemmas
 pub mod FramingLemmas
-pub mod StandingLemmas
+pub mod CodecStateLemmas
 pub mod PacketLemmas
 pub mod PieceLemmas
 pub mod ChunkLemmas

@@ -1,4 +1,4 @@
--- Digits at the front of a text.
+-- Digits at the start of a text.
 use Rattle.std.proofs.Common.{◌≡◌, ◌≤◌, ◌<◌, ◌+◌, ◌*◌, ◌-◌, ◌++◌, ◌&&◌, inl, inr, ℕ, zero, suc, List, [], ◌∷◌, length, take, drop, get_or, min, arith, refl, sym, ap, subst, ◌∙◌, Bool, true, false, Option, Some, None}
 use Rattle.std.specs.Prelude.{take_while, option_and_then}
 use Rattle.std.specs.Char.{is_ascii_digit}
@@ -8,10 +8,10 @@ use Rattle.std.proofs.lemmas.Bool.Decides.{leb_tells, eqb_tells}
 use Rattle.std.proofs.Math.Seq.{drop-append_seam}
 use mathlib.Core.Bool.{true≢false}
 use Rattle.std.proofs.lemmas.List.Sums.{take_while-cons, fold_push}
-use Rattle.wire_packets.specs.Version.{decimal, leading_digits, number_at, behind_point, numbers_at, IsVersionNumber, IsVersion}
+use Rattle.wire_packets.specs.Version.{version_digits_number, leading_digits, number_at, after_point, numbers_at, IsVersionNumber, IsVersion}
 use Rattle.wire_packets.specs.Laws.{VersionsAreTheirNumbers}
 
--- the elements before the first that fails, by its place
+-- the elements before the first that fails, by its index
 pub take_while-at : (p : ℕ → Bool) (x : List ℕ) (k : ℕ) → k ≤ length x → ((j : ℕ) → j < k → p (get_or x j 0) ≡ true) → (k < length x → p (get_or x k 0) ≡ false) → take_while p x ≡ take k x
 take_while-at p [] k room before at = let e : k ≡ 0 = omega (arith, room) in rw e refl
 take_while-at p (b ∷ x) zero room before at = let e : p b ≡ false = at (omega arith) in rw take_while-cons (rw e refl)
@@ -21,10 +21,10 @@ take_while-at p (b ∷ x) (suc k) room before at =
     rw take_while-cons (rw e (ap (λ l. b ∷ l) tail))
 
 -- one more digit
-pub decimal_push : (ds : List ℕ) (d : ℕ) → decimal (ds ++ (d ∷ [])) ≡ 10 * decimal ds + (d - 48)
+pub decimal_push : (ds : List ℕ) (d : ℕ) → version_digits_number (ds ++ (d ∷ [])) ≡ 10 * version_digits_number ds + (d - 48)
 decimal_push ds d = fold_push (λ n e. 10 * n + (e - 48)) 0 ds d
 
-pub capped_more : (v d : ℕ) (ds : List ℕ) → v ≡ min (decimal ds) 256 → min (10 * v + (d - 48)) 256 ≡ min (decimal (ds ++ (d ∷ []))) 256
+pub capped_more : (v d : ℕ) (ds : List ℕ) → v ≡ min (version_digits_number ds) 256 → min (10 * v + (d - 48)) 256 ≡ min (version_digits_number (ds ++ (d ∷ []))) 256
 capped_more v d ds e = rw (decimal_push ds d) (omega (arith, e))
 
 -- the elements before the first that fails, and the others, are the list
@@ -42,7 +42,7 @@ lead_all p (b ∷ x) = elim (cases_Bool (p b)) [
   | inr off ↦ rw (take_while-cons, off) refl
 ]
 
--- behind them none passes at once
+-- after them, the next element fails
 lead_stop : (p : ℕ → Bool) (x : List ℕ) → take_while p (drop (length (take_while p x)) x) ≡ []
 lead_stop p [] = refl
 lead_stop p (b ∷ x) = elim (cases_Bool (p b)) [
@@ -63,13 +63,13 @@ same_pair p q h = let e : p ≡ q = cc h in (ap (λ r. r.0) e, ap (λ r. r.1) e)
 same_three : (p q : ℕ × ℕ × ℕ) → Some p ≡ Some q → (p.0 ≡ q.0) × (p.1 ≡ q.1) × (p.2 ≡ q.2)
 same_three p q h = let all : p ≡ q = cc h in (ap (λ r. r.0) all, ap (λ r. r.1) all, ap (λ r. r.2) all)
 
--- a number at the front is that of the digits there
+-- a number at the start is that of the digits there
 number_at-sound : (n : ℕ) (x r : List ℕ) → number_at x ≡ Some (n, r) → IsVersionNumber n (leading_digits x) × (x ≡ leading_digits x ++ r) × (leading_digits r ≡ [])
 unfolding number_at
 number_at-sound n x r = elim (leb_tells 1 (length (leading_digits x))) [
-  | inl some ↦ rw some.0 (elim (leb_tells (suc (decimal (leading_digits x))) 256) [
+  | inl some ↦ rw some.0 (elim (leb_tells (suc (version_digits_number (leading_digits x))) 256) [
     | inl few ↦ rw few.0 (λ h.
-        let parts = same_pair (decimal (leading_digits x), drop (length (leading_digits x)) x) (n, r) h in
+        let parts = same_pair (version_digits_number (leading_digits x), drop (length (leading_digits x)) x) (n, r) h in
         let value = parts.0 in
         let rest = parts.1 in (
           record { all_digits = lead_all is_ascii_digit x; some = some.1; value_is = value; fits = subst (λ k. k < 256) value few.1 },
@@ -84,20 +84,20 @@ number_at-sound n x r = elim (leb_tells 1 (length (leading_digits x))) [
 number_at-complete : (n : ℕ) (ds r : List ℕ) → IsVersionNumber n ds → leading_digits r ≡ [] → number_at (ds ++ r) ≡ Some (n, r)
 unfolding number_at
 number_at-complete n ds r is stop =
-    let few : decimal ds < 256 = subst (λ k. k < 256) (sym is.value_is) is.fits in
+    let few : version_digits_number ds < 256 = subst (λ k. k < 256) (sym is.value_is) is.fits in
     rw (lead_append is_ascii_digit ds r is.all_digits stop)
     (elim (leb_tells 1 (length ds)) [
-      | inl some ↦ rw some.0 (elim (leb_tells (suc (decimal ds)) 256) [
+      | inl some ↦ rw some.0 (elim (leb_tells (suc (version_digits_number ds)) 256) [
         | inl t ↦ rw (t.0, is.value_is, drop-append_seam ds r) refl
         | inr t ↦ absurd (omega (arith, t.1, few))
       ])
       | inr t ↦ let some = is.some in absurd (omega (arith, t.1, some))
     ])
 
-behind_point-sound : (x r : List ℕ) → behind_point x ≡ Some r → x ≡ 46 ∷ r
-unfolding behind_point
-behind_point-sound [] r = λ h. absurd (cc h)
-behind_point-sound (c ∷ x) r = elim (eqb_tells c 46) [
+after_point-sound : (x r : List ℕ) → after_point x ≡ Some r → x ≡ 46 ∷ r
+unfolding after_point
+after_point-sound [] r = λ h. absurd (cc h)
+after_point-sound (c ∷ x) r = elim (eqb_tells c 46) [
   | inl e ↦ rw e.0 (λ h. let rest : x ≡ r = cc h in ap (λ k. k ∷ x) e.1 ∙ ap (λ l. 46 ∷ l) rest)
   | inr e ↦ rw e.0 (λ h. absurd (cc h))
 ]
@@ -110,9 +110,9 @@ numbers_at-sound : (major minor patch : ℕ) (text : List ℕ) → numbers_at te
 unfolding numbers_at
 numbers_at-sound major minor patch text h =
     let a = and_then_some _ (number_at text) _ h in
-    let b = and_then_some _ (behind_point a.0.1) _ a.2 in
+    let b = and_then_some _ (after_point a.0.1) _ a.2 in
     let c = and_then_some _ (number_at b.0) _ b.2 in
-    let d = and_then_some _ (behind_point c.0.1) _ c.2 in
+    let d = and_then_some _ (after_point c.0.1) _ c.2 in
     let e = and_then_some _ (number_at d.0) _ d.2 in
     let p = number_at-sound a.0.0 text a.0.1 a.1 in
     let q = number_at-sound c.0.0 b.0 c.0.1 c.1 in
@@ -123,8 +123,8 @@ numbers_at-sound major minor patch text h =
       second = leading_digits b.0;
       third = leading_digits d.0;
       rest = e.0.1;
-      joined = p.1 ∙ ap (λ l. leading_digits text ++ l) (behind_point-sound a.0.1 b.0 b.1 ∙ ap (λ l. 46 ∷ l)
-          (q.1 ∙ ap (λ l. leading_digits b.0 ++ l) (behind_point-sound c.0.1 d.0 d.1 ∙ ap (λ l. 46 ∷ l) s.1)));
+      joined = p.1 ∙ ap (λ l. leading_digits text ++ l) (after_point-sound a.0.1 b.0 b.1 ∙ ap (λ l. 46 ∷ l)
+          (q.1 ∙ ap (λ l. leading_digits b.0 ++ l) (after_point-sound c.0.1 d.0 d.1 ∙ ap (λ l. 46 ∷ l) s.1)));
       first_is = subst (λ k. IsVersionNumber k (leading_digits text)) values.0 p.0;
       second_is = subst (λ k. IsVersionNumber k (leading_digits b.0)) values.1 q.0;
       third_is = subst (λ k. IsVersionNumber k (leading_digits d.0)) values.2 s.0;
@@ -132,7 +132,7 @@ numbers_at-sound major minor patch text h =
     }
 
 numbers_at-complete : (major minor patch : ℕ) (text : List ℕ) → IsVersion major minor patch text → numbers_at text ≡ Some (major, minor, patch)
-unfolding numbers_at behind_point
+unfolding numbers_at after_point
 numbers_at-complete major minor patch text v =
     rw (v.joined, number_at-complete major v.first _ v.first_is refl, number_at-complete minor v.second _ v.second_is refl, number_at-complete patch v.third v.rest v.third_is v.ends) refl
 

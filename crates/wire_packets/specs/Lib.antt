@@ -1,9 +1,9 @@
 pub mod Framing
 pub mod Reading
-pub mod Front
+pub mod NextChunk
 pub mod Chunks
 pub mod Packets
-pub mod Standing
+pub mod CodecState
 pub mod Pieces
 pub mod Laws
 pub mod Version

@@ -1,46 +1,43 @@
--- The packets of a stream and its first packet fault, by whole lists.
+-- The packets of a stream and its first fault, as functions of the whole stream.
 use Rattle.std.specs.Prelude.{ℕ, zero, suc, ◌+◌, ◌/◌, ◌&&◌, List, [], ◌∷◌, ◌++◌, length, drop, Option, Some, None, option_map, ◌==◌, if◌then◌else◌}
-use Rattle.wire_packets.specs.Framing.{longest, framing, framings, next_number, number_after}
-use Rattle.wire_packets.specs.Reading.{len_at, takes, fault_at, bytes_at, behind}
+use Rattle.wire_packets.specs.Framing.{max_chunk_len, framing, framings, next_sequence_id, sequence_id_after}
+use Rattle.wire_packets.specs.Reading.{payload_len_at, has_chunk_of, chunk_fault, chunk_payload, after_chunk}
 use Rattle.wire_packets.specs.declared.error.PacketCodecError.{PacketCodecError}
 
--- the payload whose framing from k on is a front of s, within the limit where so many bytes of it went
--- before; of at most n chunks
+-- the payload with which s begins, framed from sequence id k on, within the limit, with `before` bytes of the packet before s; of at most n chunks
 unfoldable pub payload_in : ℕ → ℕ → ℕ → ℕ → List ℕ → Option (List ℕ)
 payload_in zero limit k before s = None
 payload_in (suc n) limit k before s =
-    if takes k limit before s
-    then (if len_at s == longest
-    then option_map (λ more. bytes_at s ++ more) (payload_in n limit (k + 1) (before + longest) (behind s))
-    else Some (bytes_at s))
+    if has_chunk_of k limit before s
+    then (if payload_len_at s == max_chunk_len
+    then option_map (λ more. chunk_payload s ++ more) (payload_in n limit (k + 1) (before + max_chunk_len) (after_chunk s))
+    else Some (chunk_payload s))
     else None
 
--- the payloads whose framings, numbered on from k, are a front of s; at most n of them
+-- the payloads with whose framings s begins, with sequence ids from k on; at most n of them
 unfoldable pub packets_in : ℕ → ℕ → ℕ → List ℕ → List (List ℕ)
 packets_in zero limit k s = []
 packets_in (suc n) limit k s =
-    elim (payload_in (suc (limit / longest)) limit k 0 s) [ None ↦ [] | Some p ↦ p ∷ packets_in n limit (next_number k p) (drop (length (framing k p)) s) ]
+    elim (payload_in (suc (limit / max_chunk_len)) limit k 0 s) [ None ↦ [] | Some p ↦ p ∷ packets_in n limit (next_sequence_id k p) (drop (length (framing k p)) s) ]
 
--- the longest list of payloads, each within the limit, whose framings, numbered on from k, are a front of s
--- (a framing has at least four bytes, so the length of s bounds their count)
+-- the longest list of payloads, each within the limit, with whose framings s begins, with sequence ids from k on (a framing has at least four bytes, so the length of s bounds their number)
 abbrev pub packets : ℕ → ℕ → List ℕ → List (List ℕ)
 packets limit k s = packets_in (length s) limit k s
 
--- the longest run of whole chunks of the greatest length that are numbered on from k, within the limit: the
--- count of its payload bytes and of those before, and what is behind it
+-- the longest run of full chunks at the start of s, with sequence ids from k on, within the limit: the number of its payload bytes and of those before it, and the bytes after it
 unfoldable pub full_run : ℕ → ℕ → ℕ → ℕ → List ℕ → ℕ × List ℕ
 full_run zero limit k before s = (before, s)
 full_run (suc n) limit k before s =
-    if takes k limit before s && (len_at s == longest)
-    then full_run n limit (k + 1) (before + longest) (behind s)
+    if has_chunk_of k limit before s && (payload_len_at s == max_chunk_len)
+    then full_run n limit (k + 1) (before + max_chunk_len) (after_chunk s)
     else (before, s)
 
--- what is left behind the packets
-abbrev pub rest_of : ℕ → ℕ → List ℕ → List ℕ
-rest_of limit k s = drop (length (framings k (packets limit k s))) s
+-- the bytes after the packets
+abbrev pub after_packets : ℕ → ℕ → List ℕ → List ℕ
+after_packets limit k s = drop (length (framings k (packets limit k s))) s
 
--- why no packet follows: the fault at what is behind the longest run of whole chunks
+-- why no packet follows: the fault at the bytes after the longest run of full chunks
 abbrev pub packet_fault : ℕ → ℕ → List ℕ → Option PacketCodecError
 packet_fault limit k s =
-    let run = full_run (length (rest_of limit k s)) limit (number_after k (packets limit k s)) 0 (rest_of limit k s) in
-    fault_at limit run.0 run.1
+    let run = full_run (length (after_packets limit k s)) limit (sequence_id_after k (packets limit k s)) 0 (after_packets limit k s) in
+    chunk_fault limit run.0 run.1

@@ -3,30 +3,30 @@ use Rattle.std.specs.Prelude.{◌≡◌, ◌<◌, ◌++◌, true, ◌+◌, ◌*�
 use Rattle.std.specs.Char.{is_ascii_digit}
 use Rattle.std.specs.List.{list_all}
 
--- the digits at the front
+-- the digits at the start
 abbrev pub leading_digits : List ℕ → List ℕ
 leading_digits x = take_while is_ascii_digit x
 
 -- the decimal number of digits
-abbrev pub decimal : List ℕ → ℕ
-decimal ds = fold (λ n d. 10 * n + (d - 48)) 0 ds
+abbrev pub version_digits_number : List ℕ → ℕ
+version_digits_number ds = fold (λ n d. 10 * n + (d - 48)) 0 ds
 
--- a number below 256 of at least one digit at the front, and what follows its last digit
+-- a number below 256 of at least one digit at the start, and the text after its last digit
 unfoldable pub number_at : List ℕ → Option (ℕ × List ℕ)
 number_at x =
     let ds = leading_digits x in
-    if nat_lt 0 (length ds) && nat_lt (decimal ds) 256 then Some (decimal ds, drop (length ds) x) else None
+    if nat_lt 0 (length ds) && nat_lt (version_digits_number ds) 256 then Some (version_digits_number ds, drop (length ds) x) else None
 
--- what follows a point
-unfoldable pub behind_point : List ℕ → Option (List ℕ)
-behind_point [] = None
-behind_point (c ∷ r) = if c == 46 then Some r else None
+-- the text after a point
+unfoldable pub after_point : List ℕ → Option (List ℕ)
+after_point [] = None
+after_point (c ∷ r) = if c == 46 then Some r else None
 
--- the three numbers at the front
+-- the three numbers at the start
 unfoldable pub numbers_at : List ℕ → Option (ℕ × ℕ × ℕ)
 numbers_at x =
     option_and_then (λ a. option_and_then (λ r. option_and_then (λ b. option_and_then (λ s. option_and_then (λ c.
-    Some (a.0, b.0, c.0)) (number_at s)) (behind_point b.1)) (number_at r)) (behind_point a.1)) (number_at x)
+    Some (a.0, b.0, c.0)) (number_at s)) (after_point b.1)) (number_at r)) (after_point a.1)) (number_at x)
 
 -- the three numbers, or zeros
 abbrev pub version_of : List ℕ → ℕ × ℕ × ℕ
@@ -36,10 +36,10 @@ version_of x = unwrap_or (numbers_at x) (0, 0, 0)
 pub record IsVersionNumber (n : ℕ) (digits : List ℕ) : Type 0 where
   pub all_digits : list_all is_ascii_digit digits ≡ true
   pub some : 0 < length digits
-  pub value_is : decimal digits ≡ n
+  pub value_is : version_digits_number digits ≡ n
   pub fits : n < 256
 
--- three such numbers, the first two with a point behind, and then anything that begins with no digit
+-- three such numbers, the first two followed by a point, then any text that doesn't begin with a digit
 pub record IsVersion (major minor patch : ℕ) (text : List ℕ) : Type 0 where
   pub first : List ℕ
   pub second : List ℕ

@@ -1,13 +1,13 @@
 ghost use Rattle.std.specs.Prelude.{◌≡◌, ◌+◌, ◌≤◌, ◌++◌, length, OnOk};
-ghost use Rattle.wire_packets.specs.Reading.{len_at};
-ghost use Rattle.wire_packets.specs.Chunks.{header_of, EatsHeader, DecodesChunk};
+ghost use Rattle.wire_packets.specs.Reading.{payload_len_at};
+ghost use Rattle.wire_packets.specs.Chunks.{held_header, EatsHeader, DecodesChunk};
 
 use crate::error::PacketCodecError;
-use crate::header::{PACKET_HEADER_LEN, exceeds, read_header};
+use crate::header::{PACKET_HEADER_LEN, is_over_limit, read_header};
 use bytes::BytesMut;
 use wire_consts::MAX_PAYLOAD_LEN;
 
-/// Whether a chunk ends its packet, with the chunk's number.
+/// Whether a chunk ends its packet, and the chunk's sequence id.
 #[derive(Clone, Copy, Debug, PartialEq, Eq)]
 pub enum ChunkInfo {
     /// A chunk of `MAX_PAYLOAD_LEN` bytes: more of the packet follows.
@@ -16,32 +16,36 @@ pub enum ChunkInfo {
     Last(u8),
 }
 
-/// Reads one chunk after the other, whatever their numbers are.
+/// Reads one chunk at a time, whatever its sequence id is.
 #[derive(Clone, Copy, Debug, PartialEq, Eq)]
 pub enum ChunkDecoder {
     /// The next byte is the first of a chunk's header.
     Idle,
-    /// A header was eaten: the chunk's number, and the count of its payload bytes.
+    /// A header was read: the chunk's sequence id, and the number of its payload bytes.
     Chunk { seq_id: u8, needed: usize },
 }
 
 impl ChunkDecoder {
-    /// Appends the next chunk's payload to `dst`, once all of it stands in `src`.
+    /// Appends the next chunk's payload to `dst` once all of it is in `src`. Returns None if more bytes are
+    /// needed.
     ///
-    /// None says that more bytes are wanted. Answers `PacketTooLarge` where the header leads `dst` past
-    /// `max_allowed_packet` bytes, and `Memory`. A refusal leaves `dst` as it was and loses no byte: what
-    /// was eaten of `src` is the header that the decoder then holds.
+    /// - `PacketTooLarge`: with the chunk that the header announces, `dst` would exceed `max_allowed_packet`
+    ///   bytes.
+    /// - `Memory`: out of memory.
+    ///
+    /// An error leaves `dst` unchanged and loses no byte: a header that was taken from `src` is held by the
+    /// decoder.
     pub fn decode(
         &mut self,
         src: &mut BytesMut,
         dst: &mut Vec<u8>,
         max_allowed_packet: usize,
     ) -> Result<Option<ChunkInfo>, PacketCodecError>
-        ensures chunk { DecodesChunk max_allowed_packet self.old (header_of self.old ++ src.old.items)
-            (header_of self.new ++ src.new.items) dst.old.items dst.new.items result }
-        // A header that is still in `src` is held against the limit as soon as it stands.
+        ensures chunk { DecodesChunk max_allowed_packet self.old (held_header self.old ++ src.old.items)
+            (held_header self.new ++ src.new.items) dst.old.items dst.new.items result }
+        // A header that is still in `src` is checked against the limit as soon as it is complete.
         ensures limit { self.old ≡ ChunkDecoder.Idle → 4 ≤ length src.old.items
-            → OnOk result (length dst.old.items + len_at src.old.items ≤ max_allowed_packet) }
+            → OnOk result (length dst.old.items + payload_len_at src.old.items ≤ max_allowed_packet) }
     {
         if let Err(fault) = self.eat_header(src, dst.len(), max_allowed_packet) {
             return Err(fault);
@@ -63,7 +67,7 @@ impl ChunkDecoder {
         Ok(Some(ChunkInfo::Middle(seq_id)))
     }
 
-    /// Eats the next header, where it stands and the limit allows its chunk.
+    /// Reads the next header if it is complete and the limit allows its chunk.
     #[tactic(auto, using(crate::proofs::ChunkLemmas::header_eaten))]
     fn eat_header(
         &mut self,
@@ -71,7 +75,7 @@ impl ChunkDecoder {
         gathered: usize,
         limit: usize,
     ) -> Result<(), PacketCodecError>
-        ensures same { header_of self.new ++ src.new.items ≡ header_of self.old ++ src.old.items }
+        ensures same { held_header self.new ++ src.new.items ≡ held_header self.old ++ src.old.items }
         ensures eaten { EatsHeader limit gathered self.old self.new src.old.items src.new.items result }
     {
         if let ChunkDecoder::Chunk { .. } = *self {
@@ -80,7 +84,7 @@ impl ChunkDecoder {
         let Some(header) = read_header(src.as_slice()) else {
             return Ok(());
         };
-        if exceeds(limit, gathered, header.len) {
+        if is_over_limit(limit, gathered, header.len) {
             return Err(PacketCodecError::PacketTooLarge);
         }
         src.advance(PACKET_HEADER_LEN);

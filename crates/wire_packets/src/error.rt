@@ -8,17 +8,16 @@ use wire_buf::WireFault;
 /// Why packets can't be read or written.
 #[derive(Clone, Copy, Debug, PartialEq, Eq, Error)]
 pub enum PacketCodecError {
-    /// A refusal of the wire's forms, for callers that read fields beside packets. No call of this crate
-    /// answers it.
+    /// A `WireFault`, for callers that read fields besides packets. No call of this crate returns it.
     #[error("IO error: `{0}'")]
     Io(WireFault),
-    /// The payload would be longer than `max_allowed_packet`.
+    /// The payload would exceed `max_allowed_packet`.
     #[error("packet is larger than max_allowed_packet")]
     PacketTooLarge,
-    /// A chunk has another number than the next one.
+    /// A chunk's sequence id isn't the expected one.
     #[error("packets out of sync")]
     PacketsOutOfSync,
-    /// Memory was refused.
+    /// Out of memory.
     #[error("out of memory")]
     Memory,
 }
@@ -32,9 +31,9 @@ impl From<WireFault> for PacketCodecError {
 }
 
 impl From<AllocError> for PacketCodecError {
-    ghost from_gives = { λ refusal error. error ≡ Memory };
+    ghost from_gives = { λ fails_with error. error ≡ Memory };
 
-    fn from(_refusal: AllocError) -> PacketCodecError {
+    fn from(_error: AllocError) -> PacketCodecError {
         PacketCodecError::Memory
     }
 }

@@ -1,8 +1,8 @@
 //! Packets: a payload travels as numbered chunks of at most 16,777,215 bytes.
 //!
-//! `packet_to_chunks` and `PacketCodec::encode` write them; `PacketCodec::decode`, `ChunkDecoder` and `decode_pieces`
-//! read them, and `PacketCodec::decode_in_place` lends a payload from the buffer that it stands in. `laws` has what
-//! holds of framings and packets themselves. `split_version` reads the version of a server.
+//! `packet_to_chunks` and `PacketCodec::encode` write them. `PacketCodec::decode`, `ChunkDecoder` and
+//! `decode_pieces` read them; `PacketCodec::decode_in_place` borrows a payload from the input buffer. `laws`
+//! has the theorems about framings and packets. `split_version` reads a server's version.
 #![tactic(auto)]
 
 mod chunk_decoder;

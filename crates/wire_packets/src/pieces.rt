@@ -1,6 +1,6 @@
 ghost use Rattle.std.specs.Prelude.{◌≡◌, ℕ, List, [], ◌++◌, IfErr, IfSome, IfNone, Some};
-ghost use Rattle.wire_packets.specs.Standing.{HasRead, limit_of, fault_of};
-ghost use Rattle.wire_packets.specs.Pieces.{Takes, IsReading, Rests, lists, stream};
+ghost use Rattle.wire_packets.specs.CodecState.{HasRead, codec_limit, codec_fault};
+ghost use Rattle.wire_packets.specs.Pieces.{TakesPackets, IsReading, DrainsStream, vec_items, joined_pieces};
 
 use crate::error::PacketCodecError;
 use crate::packet_codec::PacketCodec;
@@ -8,24 +8,24 @@ use bytes::BytesMut;
 use std::alloc::Global;
 use std::mem;
 
-/// The packets of the joined pieces, in order, and the first fault.
+/// Returns the packets of the joined pieces, in order, and the first error.
 ///
-/// Reads by `PacketCodec::decode`, whose faults these are; where memory is missing the packets are some
-/// first ones, and the fault is `Memory`. After a fault the codec answers it, here too. What follows the
-/// last whole packet is dropped, but the codec has counted its whole chunks.
+/// The errors are those of `PacketCodec::decode`. At `Memory` only some of the first packets are returned.
+/// After an error, every call with the codec returns that error. The bytes after the last whole packet are
+/// dropped, but the codec has counted their whole chunks.
 pub fn decode_pieces(
     alloc: Global,
     codec: &mut PacketCodec,
     pieces: &[&[u8]],
 ) -> (Vec<Vec<u8>>, Option<PacketCodecError>)
     ensures reading { (k : ℕ) → HasRead codec.old k [] [] [] []
-        → IsReading (limit_of codec.old) k (stream pieces.now) (lists result.0.items) result.1 }
+        → IsReading (codec_limit codec.old) k (joined_pieces pieces.now) (vec_items result.0.items) result.1 }
     ensures rests { (k : ℕ) → HasRead codec.old k [] [] [] []
-        → IfNone result.1 (Rests codec.new k (stream pieces.now) (lists result.0.items)) }
-    ensures limit { limit_of codec.new ≡ limit_of codec.old }
-    ensures again { IfSome (fault_of codec.old) (λ e. (result.0.items ≡ []) × (result.1 ≡ Some e)
+        → IfNone result.1 (DrainsStream codec.new k (joined_pieces pieces.now) (vec_items result.0.items)) }
+    ensures limit { codec_limit codec.new ≡ codec_limit codec.old }
+    ensures again { IfSome (codec_fault codec.old) (λ e. (result.0.items ≡ []) × (result.1 ≡ Some e)
         × (codec.new ≡ codec.old)) }
-    ensures fault { IfSome result.1 (λ e. fault_of codec.new ≡ Some e) }
+    ensures fault { IfSome result.1 (λ e. codec_fault codec.new ≡ Some e) }
 {
     let mut packets = Vec::new(alloc);
     if let Some(fault) = codec.fault() {
@@ -41,7 +41,7 @@ pub fn decode_pieces(
     (packets, None)
 }
 
-/// Takes the packets of one more piece.
+/// Reads the packets of one more piece.
 fn take_piece(
     alloc: Global,
     codec: &mut PacketCodec,
@@ -51,18 +51,18 @@ fn take_piece(
     piece: &[u8],
 ) -> Result<(), PacketCodecError>
     ensures takes { (k : ℕ) (s : List ℕ)
-        → HasRead codec.old k s (lists packets.old.items) packet.old.items src.old.items
-        → Takes codec.new k (s ++ piece.now) (lists packets.new.items) packet.new.items src.new.items result }
-    ensures limit { limit_of codec.new ≡ limit_of codec.old }
-    ensures fault { IfErr result (λ e. fault_of codec.new ≡ Some e) }
+        → HasRead codec.old k s (vec_items packets.old.items) packet.old.items src.old.items
+        → TakesPackets codec.new k (s ++ piece.now) (vec_items packets.new.items) packet.new.items src.new.items result }
+    ensures limit { codec_limit codec.new ≡ codec_limit codec.old }
+    ensures fault { IfErr result (λ e. codec_fault codec.new ≡ Some e) }
 {
     if let Err(_) = src.extend_from_slice(piece) {
-        return Err(codec.fail());
+        return Err(codec.fail_with_memory());
     }
     drain(alloc, codec, src, packet, packets)
 }
 
-/// Takes each packet that is whole.
+/// Reads each packet that is complete.
 fn drain(
     alloc: Global,
     codec: &mut PacketCodec,
@@ -71,10 +71,10 @@ fn drain(
     packets: &mut Vec<Vec<u8>>,
 ) -> Result<(), PacketCodecError>
     ensures takes { (k : ℕ) (s : List ℕ)
-        → HasRead codec.old k s (lists packets.old.items) packet.old.items src.old.items
-        → Takes codec.new k s (lists packets.new.items) packet.new.items src.new.items result }
-    ensures limit { limit_of codec.new ≡ limit_of codec.old }
-    ensures fault { IfErr result (λ e. fault_of codec.new ≡ Some e) }
+        → HasRead codec.old k s (vec_items packets.old.items) packet.old.items src.old.items
+        → TakesPackets codec.new k s (vec_items packets.new.items) packet.new.items src.new.items result }
+    ensures limit { codec_limit codec.new ≡ codec_limit codec.old }
+    ensures fault { IfErr result (λ e. codec_fault codec.new ≡ Some e) }
 {
     loop {
         let is_whole = match codec.decode(src, packet) {
@@ -86,7 +86,7 @@ fn drain(
         }
         let whole = mem::replace(packet, Vec::new(alloc));
         if let Err(_) = packets.push(whole) {
-            return Err(codec.fail());
+            return Err(codec.fail_with_memory());
         }
     }
 }

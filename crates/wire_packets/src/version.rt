@@ -1,30 +1,31 @@
-//! Server versions, as MySQL writes them: `8.0.32-log`.
+//! Server versions such as `8.0.32-log`.
 
 ghost use Rattle.std.specs.Prelude.{◌≡◌, option_map, option_copied, min};
-ghost use Rattle.wire_packets.specs.Version.{version_of, numbers_at, number_at, behind_point as behind_point_of, leading_digits as leading_digits_of, decimal};
+ghost use Rattle.wire_packets.specs.Version.{version_of, numbers_at, number_at, after_point as after_point_of, leading_digits as leading_digits_of, version_digits_number};
 
-/// The three numbers of a server version: each has at least one digit and is below 256, the first
-/// two end in a point, and what follows the third's digits is ignored. Anything else is (0, 0, 0).
+/// Returns the three numbers of a server version. Each number has at least one digit and is below 256, the
+/// first two are followed by a point, and the text after the third is ignored. Returns (0, 0, 0) for any
+/// other text.
 pub fn split_version(version: &[u8]) -> (u8, u8, u8)
     ensures { result ≡ version_of version.now }
 {
     three_numbers(version).unwrap_or((0, 0, 0))
 }
 
-/// The three numbers, if they stand there.
+/// Returns the three numbers, if the text begins with them.
 #[tactic(auto, unfolding(crate::specs::Version::numbers_at))]
 fn three_numbers(version: &[u8]) -> Option<(u8, u8, u8)>
     ensures { result ≡ numbers_at version.now }
 {
     let (major, rest) = number(version)?;
-    let rest = behind_point(rest)?;
+    let rest = after_point(rest)?;
     let (minor, rest) = number(rest)?;
-    let rest = behind_point(rest)?;
+    let rest = after_point(rest)?;
     let (patch, _) = number(rest)?;
     Some((major, minor, patch))
 }
 
-/// The number at the front, and what follows its last digit.
+/// Returns the number at the start, and the text after its last digit.
 #[tactic(auto, unfolding(crate::specs::Version::number_at))]
 fn number(text: &[u8]) -> Option<(u8, &[u8])>
     ensures { option_map (λ p. (p.0, p.1.now)) result ≡ number_at text.now }
@@ -40,16 +41,16 @@ fn number(text: &[u8]) -> Option<(u8, &[u8])>
     Some((value as u8, &text[digits.len()..]))
 }
 
-/// What follows a point, if one is at the front.
-#[tactic(auto, unfolding(crate::specs::Version::behind_point))]
-fn behind_point(text: &[u8]) -> Option<&[u8]>
-    ensures { option_map (λ r. r.now) result ≡ behind_point_of text.now }
+/// Returns the text after a point, if it begins with one.
+#[tactic(auto, unfolding(crate::specs::Version::after_point))]
+fn after_point(text: &[u8]) -> Option<&[u8]>
+    ensures { option_map (λ r. r.now) result ≡ after_point_of text.now }
 {
     let (first, rest) = text.split_first()?;
     if *first == b'.' { Some(rest) } else { None }
 }
 
-/// The digits at the front.
+/// Returns the digits at the start.
 fn leading_digits(text: &[u8]) -> &[u8]
     ensures { result.now ≡ leading_digits_of text.now }
 {
@@ -61,9 +62,9 @@ fn leading_digits(text: &[u8]) -> &[u8]
     text
 }
 
-/// The number that the digits spell, or 256 where it is more.
+/// Returns the number that the digits make up, or 256 if it is more.
 fn capped_value(digits: &[u8]) -> u32
-    ensures { result ≡ min (decimal digits.now) 256 }
+    ensures { result ≡ min (version_digits_number digits.now) 256 }
 {
     let mut value = 0;
     for digit in digits {

@@ -1,11 +1,11 @@
--- Counts of n bytes at the front of bytes, and the greatest of them.
+-- Counts of n bytes at the start of bytes, and the largest of them.
 use Rattle.std.proofs.Common.{◌≡◌, ◌++◌, ◌<◌, ◌≤◌, ◌^◌, ℕ, suc, List, [], length, drop, ◌-◌, arith, refl, sym, ap, ◌∙◌, inl, inr, Some}
 use Rattle.std.proofs.Math.Nat.{pow-le-pow_right, one-le-pow}
 use Rattle.std.proofs.lemmas.Bool.Decides.{leb_tells}
 use Rattle.std.proofs.lemmas.List.{append-nil}
-use Rattle.wire_buf.specs.Spelling.{Reads, Alone}
-use Rattle.wire_buf.proofs.SpellingLemmas.{Reads-fixed}
-use Rattle.wire_seqs.specs.Counts.{IsCount, greatest}
+use Rattle.wire_buf.specs.Encoding.{Reads, Alone}
+use Rattle.wire_buf.proofs.EncodingLemmas.{Reads-fixed}
+use Rattle.wire_seqs.specs.Counts.{IsCount, max_count_of}
 use Rattle.wire_buf.specs.Writing.{WritesField}
 use Rattle.std.specs.Bool.{⊤}
 
@@ -19,18 +19,18 @@ module _ (number : List ℕ → ℕ) (n : ℕ) where
         only = λ w r t. p.only w r (record { bytes = t.bytes; joined = t.joined; is = t.is.0 });
       }
 
-  pub count_writes : (spelled : ℕ → List ℕ) (count : ℕ) (old new : List ℕ) → length (spelled count) ≡ n → number (spelled count ++ []) ≡ count → count < 2 ^ 64
-      → new ≡ old ++ spelled count → WritesField (λ k. Some (spelled k)) (Alone (IsCount number n)) (λ rest. ⊤) count old new
-  count_writes spelled count old new size back small appended = record {
-    bytes = spelled count;
+  pub count_writes : (encoding_is : ℕ → List ℕ) (count : ℕ) (old new : List ℕ) → length (encoding_is count) ≡ n → number (encoding_is count ++ []) ≡ count → count < 2 ^ 64
+      → new ≡ old ++ encoding_is count → WritesField (λ k. Some (encoding_is k)) (Alone (IsCount number n)) (λ rest. ⊤) count old new
+  count_writes encoding_is count old new size back small appended = record {
+    bytes = encoding_is count;
     is = refl;
     appended = appended;
-    spells = λ rest _. (record { size = size; value_is = sym back ∙ ap number (append-nil (spelled count)) }, small);
+    encodes = λ rest _. (record { size = size; value_is = sym back ∙ ap number (append-nil (encoding_is count)) }, small);
     least = λ other rest h _. let e = h.0.size in omega (arith, size, e);
   }
 
--- a count up to the greatest fits its bytes, and a length
-pub greatest_fits : (n c : ℕ) → c ≤ greatest n → (c < 256 ^ n) × (c < 2 ^ 64)
+-- a count up to the largest fits in its bytes, and in a length
+pub greatest_fits : (n c : ℕ) → c ≤ max_count_of n → (c < 256 ^ n) × (c < 2 ^ 64)
 greatest_fits n c h = elim (leb_tells (suc n) 8) [
   | inl t ↦
       let below = t.1 in

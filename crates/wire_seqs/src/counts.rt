@@ -1,10 +1,10 @@
-//! The forms of counts. A number before the elements is at most the greatest of its width.
+//! The encodings of an element count. A count before the elements is at most the largest number of its width.
 
 ghost use Rattle.std.specs.Prelude.{◌≡◌, ◌^◌, ◌-◌, []};
 ghost use Rattle.std.proofs.Common.{refl, sym};
 ghost use Rattle.byteorder.specs.Endian.{little_bytes};
 ghost use Rattle.wire_buf.specs.Numbers.{IsLittle};
-ghost use Rattle.wire_seqs.specs.Counts.{IsCount, greatest};
+ghost use Rattle.wire_seqs.specs.Counts.{IsCount, max_count_of};
 
 use crate::seq_repr::SeqRepr;
 use byteorder::ByteOrder;
@@ -12,7 +12,7 @@ use std::alloc::Allocator;
 use wire_buf::{ParseBuf, WireFault};
 use wire_ints::{Fixed, InBytes, Unsigned};
 
-/// No count stands before the elements: the context is their number.
+/// No count is written: the context gives the number of elements.
 pub struct Unknown;
 
 impl SeqRepr for Unknown {
@@ -24,7 +24,7 @@ impl SeqRepr for Unknown {
 
     ghost counts = { λ ctx count bytes. (count ≡ ctx) × (bytes ≡ []) };
 
-    ghost count_spelling = { λ count. [] };
+    ghost count_encoded = { λ count. [] };
 
     ghost context = { λ count. count };
 
@@ -49,7 +49,7 @@ impl SeqRepr for u8 {
 
     ghost counts = { λ ctx. IsLittle 1 };
 
-    ghost count_spelling = { little_bytes 1 };
+    ghost count_encoded = { little_bytes 1 };
 
     ghost context = { λ count. tt };
 
@@ -68,9 +68,9 @@ impl SeqRepr for u8 {
     ghost one_context = { λ ctx count bytes h. refl };
 }
 
-/// The greatest count in so many bytes, or the greatest length.
-const fn greatest_count(size: usize) -> usize
-    ensures { result ≡ greatest size }
+/// Returns the largest count in `size` bytes, or the largest length if `size` is 8 or more.
+const fn max_count(size: usize) -> usize
+    ensures { result ≡ max_count_of size }
 {
     if size < 8 {
         (1usize << (8 * size)) - 1
@@ -79,18 +79,18 @@ const fn greatest_count(size: usize) -> usize
     }
 }
 
-/// A count in `N` bytes of the order `O`. Where it has more than eight, a number past 64 bits is no
+/// A count in `N` bytes of byte order `O`. If `N` is more than eight, a number of more than 64 bits is no
 /// count.
 impl<P: Unsigned + InBytes<N>, O: ByteOrder, const N: usize> SeqRepr for Fixed<P, O, N> {
-    const MAX_LEN: usize = greatest_count(N);
+    const MAX_LEN: usize = max_count(N);
 
-    ghost MAX_LEN = { greatest N };
+    ghost MAX_LEN = { max_count_of N };
 
     type Ctx = ();
 
     ghost counts = { λ ctx. IsCount (O.number_of N) N };
 
-    ghost count_spelling = { O.bytes_of N };
+    ghost count_encoded = { O.bytes_of N };
 
     ghost context = { λ count. tt };
 

@@ -1,5 +1,5 @@
-//! Sequences of fields, as packets and events have them: so many elements, one after the other,
-//! behind a count or with a count that is known beforehand.
+//! Sequences of fields, as in packets and events: elements after an encoded count, or with a count that the
+//! context gives.
 #![tactic(auto)]
 
 mod counts;

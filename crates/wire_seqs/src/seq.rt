@@ -1,7 +1,7 @@
 ghost use Rattle.std.specs.Prelude.{◌≡◌, ◌↔◌, ◌++◌, ◌∷◌, List, [], length, map, take, OnOk, OnErr, IfOk, IsTrue};
 ghost use Rattle.std.specs.Cow.{cow_slice_items, IsOwnedSlice};
-ghost use Rattle.wire_seqs.specs.Sequences.{IsCountedSequence, sequence_spelling, ItemsRefusal, SequenceRefusal};
-ghost use Rattle.wire_buf.specs.Refusals.{ParseRefusal};
+ghost use Rattle.wire_seqs.specs.Sequences.{IsCountedSequence, sequence_encoded, ItemsFail, SequenceFails};
+ghost use Rattle.wire_buf.specs.ReadErrors.{ParseFails};
 ghost use Rattle.wire_buf.specs.declared.fault.WireFault.TheVariants.{Eof, Memory};
 
 use crate::items::{read_items, write_items};
@@ -10,36 +10,38 @@ use std::alloc::{AllocError, Allocator, Global};
 use std::borrow::CowSlice;
 use std::marker::PhantomData;
 use std::ops::DerefSlice;
-use wire_buf::{AnySize, Inner, MyDeserialize, MySerialize, ParseBuf, WireFault, whole_or_none};
+use wire_buf::{
+    AnySize, Inner, MyDeserialize, MySerialize, ParseBuf, WireFault, truncate_on_error,
+};
 
-/// A sequence of elements, whose number is said in the form `U`.
+/// A sequence of elements, whose count is encoded by `U`.
 #[derive(Drop)]
 #[derive_where(PartialEq, Eq, Debug; T)]
 pub struct Seq<'a, T, U>(pub CowSlice<'a, T>, PhantomData<U>);
 
 impl<'a, T, U> Seq<'a, T, U> {
-    /// The elements, to be written with their number.
+    /// Returns a field that holds `items`.
     pub fn new(items: CowSlice<'a, T>) -> Seq<'a, T, U>
         ensures { result.0 ≡ items.entry }
     {
         Seq(items, PhantomData)
     }
 
-    /// No elements.
+    /// Returns an empty sequence.
     pub fn empty() -> Seq<'static, T, U>
         ensures { cow_slice_items result.0 ≡ [] }
     {
         Seq(CowSlice::Borrowed(&[]), PhantomData)
     }
 
-    /// How many elements there are.
+    /// Returns how many elements there are.
     pub fn len(&self) -> usize
         ensures { result ≡ length (cow_slice_items self.now.0) }
     {
         self.0.len()
     }
 
-    /// Whether there is no element.
+    /// Returns whether there are no elements.
     pub fn is_empty(&self) -> bool
         ensures { IsTrue result ↔ (cow_slice_items self.now.0 ≡ []) }
     {
@@ -48,8 +50,8 @@ impl<'a, T, U> Seq<'a, T, U> {
 }
 
 impl<'a, T: Clone, U> Seq<'a, T, U> {
-    /// Appends an element. Borrowed elements are cloned first, and their clones have to equal them.
-    /// Want of memory leaves the elements as they were.
+    /// Appends an element. Borrowed elements are cloned first, and their clones must equal them. An error
+    /// (out of memory) leaves the elements unchanged.
     pub fn push(&mut self, alloc: Global, element: T) -> Result<(), AllocError>
         requires { (x y : T) → T.is_clone x y → y ≡ x }
         ensures ok { OnOk result
@@ -65,8 +67,7 @@ impl<'a, T: Clone, U> Seq<'a, T, U> {
         Ok(())
     }
 
-    /// The same elements, borrowed from nothing. Borrowed elements are cloned, and their clones
-    /// have to equal them.
+    /// Returns the same elements, owned. Borrowed elements are cloned, and their clones must equal them.
     pub fn into_owned(self, alloc: Global) -> Result<Seq<'a, T, U>, AllocError>
         requires { (x y : T) → T.is_clone x y → y ≡ x }
         ensures items { IfOk result (λ s. cow_slice_items s.0 ≡ cow_slice_items self.entry.0) }
@@ -75,7 +76,7 @@ impl<'a, T: Clone, U> Seq<'a, T, U> {
         Ok(Seq(CowSlice::Owned(self.0.into_owned(alloc)?), PhantomData))
     }
 
-    /// The same elements, in memory of their own. Their clones have to equal them.
+    /// Returns an owned copy. Clones of the elements must equal them.
     pub fn clone(&self, alloc: Global) -> Result<Seq<'a, T, U>, AllocError>
         requires { (x y : T) → T.is_clone x y → y ≡ x }
         ensures items { IfOk result (λ s. cow_slice_items s.0 ≡ cow_slice_items self.now.0) }
@@ -118,9 +119,9 @@ impl<'de, T: MyDeserialize<'de, Ctx = ()> + Drop, U: SeqRepr> MyDeserialize<'de>
 
     ghost view = { λ v. map T.view (cow_slice_items v.0) };
 
-    ghost spells = { λ ctx. IsCountedSequence (U.counts ctx) (T.spells tt) };
+    ghost encodes = { λ ctx. IsCountedSequence (U.counts ctx) (T.encodes tt) };
 
-    ghost refusal = { λ ctx. SequenceRefusal (U.counts ctx) (T.Fault.from_gives Eof) (λ n. ItemsRefusal n (T.spells tt) (ParseRefusal T.Size.SIZE (T.refusal tt) (T.Fault.from_gives Eof)) (T.Fault.from_gives Memory)) };
+    ghost fails_with = { λ ctx. SequenceFails (U.counts ctx) (T.Fault.from_gives Eof) (λ n. ItemsFail n (T.encodes tt) (ParseFails T.Size.SIZE (T.fails_with tt) (T.Fault.from_gives Eof)) (T.Fault.from_gives Memory)) };
 
     fn deserialize(
         alloc: Global,
@@ -140,16 +141,16 @@ impl<'a, T: Inner, U: SeqRepr> MySerialize for Seq<'a, T, U> {
 
     ghost view = { λ v. map T.view (take U.MAX_LEN (cow_slice_items v.0)) };
 
-    ghost form = { λ vs. IsCountedSequence (U.counts (U.context (length vs))) T.form vs };
+    ghost encoding = { λ vs. IsCountedSequence (U.counts (U.context (length vs))) T.encoding vs };
 
-    ghost spelling = { sequence_spelling U.count_spelling T.spelling };
+    ghost encoded = { sequence_encoded U.count_encoded T.encoded };
 
     fn serialize<A: Allocator>(&self, buf: &mut Vec<u8, A>) -> Result<(), WireFault> {
         let start = buf.len();
         let items = &self.0[..self.0.len().min(U::MAX_LEN)];
         U::write_count(items.len(), buf)?;
         let written = write_items(items, buf);
-        whole_or_none(written, start, buf)
+        truncate_on_error(written, start, buf)
     }
 }
 

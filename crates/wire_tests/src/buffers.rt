@@ -1,8 +1,8 @@
-//! Bytes taken from a buffer, beside what the contracts say of them.
+//! Bytes read from a buffer, in addition to the contracts.
 
 use crate::helpers::size_agrees;
 use std::io::Read;
-use wire_buf::{AnySize, FixedSize, MySerialize, ParseBuf, WireFault, WireSize, whole_or_none};
+use wire_buf::{AnySize, FixedSize, MySerialize, ParseBuf, WireFault, WireSize, truncate_on_error};
 
 #[test]
 fn sizes_of_fields(rt: HostRuntime) {
@@ -80,7 +80,7 @@ fn numbers_known_to_stand_there(rt: HostRuntime) {
 #[test]
 fn strings_and_the_rest(rt: HostRuntime) {
     let mut buf = ParseBuf(b"\x02ab\x01\x00\x00\x00c\x03de\x00");
-    // three bytes are announced last, and the zero is one of them
+    // the last length is three bytes, and the zero is one of them
     assert!(rt;
         buf.checked_eat_u8_str() == Some(b"ab".as_slice())
             && buf.checked_eat_u32_str() == Some(b"c".as_slice())
@@ -123,13 +123,13 @@ fn buffer_as_a_reader(rt: HostRuntime) {
 }
 
 #[test]
-fn refused_writes_taken_back(rt: HostRuntime) {
+fn failed_writes_taken_back(rt: HostRuntime) {
     let mut buf = Vec::new(rt.alloc());
     assert!(rt;
         buf.extend_from_slice(b"abc").is_ok()
-            && whole_or_none(Ok(()), 1, &mut buf) == Ok(())
+            && truncate_on_error(Ok(()), 1, &mut buf) == Ok(())
             && buf.as_slice() == b"abc".as_slice()
-            && whole_or_none(Err(WireFault::Form), 1, &mut buf) == Err(WireFault::Form)
+            && truncate_on_error(Err(WireFault::Form), 1, &mut buf) == Err(WireFault::Form)
             && buf.as_slice() == b"a".as_slice()
     );
 }

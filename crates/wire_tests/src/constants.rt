@@ -1,4 +1,4 @@
-//! The constants of the protocol, and the texts of their refusals.
+//! The constants of the protocol, and the texts of their errors.
 
 use bitflags::Flags;
 use std::alloc::Global;
@@ -9,8 +9,9 @@ use wire_consts::{
     UnknownFlags2, UnknownGeometryType, UnknownItemResultType,
 };
 
-/// Whether the number is a column type that turns back into it, or is refused with it where MySQL has none.
-fn turns_back(number: u8) -> bool {
+/// Whether the number is a column type and converts back to it, or, if MySQL has none, the error holds the
+/// number.
+fn converts_back(number: u8) -> bool {
     match ColumnType::try_from(number) {
         Ok(column_type) => u8::from(column_type) == number,
         Err(unknown) => {
@@ -23,7 +24,7 @@ fn turns_back(number: u8) -> bool {
 fn column_types_and_back(rt: HostRuntime) {
     let mut all_turn_back = true;
     for number in 0..=255u8 {
-        all_turn_back = all_turn_back && turns_back(number);
+        all_turn_back = all_turn_back && converts_back(number);
     }
     assert!(rt; all_turn_back);
 }
@@ -44,7 +45,7 @@ fn count_of_column_types(rt: HostRuntime) {
     assert!(rt; column_types() == 34);
 }
 
-// The numbers that MySQL's manual gives the commands, each of them.
+// The number of each command, from MySQL's manual.
 #[test]
 fn command_numbers(rt: HostRuntime) {
     let numbers = [
@@ -107,7 +108,7 @@ fn geometry_types(rt: HostRuntime) {
     );
 }
 
-// A set of flags, through the bound alone.
+// A set of flags, through the trait bound only.
 fn known_of<F: Flags>(bits: F::Bits) -> F {
     F::from_bits_truncate(bits)
 }
@@ -145,7 +146,7 @@ fn named_numbers(rt: HostRuntime) {
     );
 }
 
-/// Whether the value is printed as the text.
+/// Whether the value is displayed as the text.
 fn prints<T: Display>(alloc: Global, value: &T, text: &str) -> bool {
     match format!(in alloc; "{}", value) {
         Ok(printed) => printed.as_str() == text,
@@ -153,9 +154,9 @@ fn prints<T: Display>(alloc: Global, value: &T, text: &str) -> bool {
     }
 }
 
-// The texts of the refusals.
+// The texts of the errors.
 #[test]
-fn refusals_as_text(rt: HostRuntime) {
+fn errors_as_text(rt: HostRuntime) {
     let alloc = rt.alloc();
     assert!(rt;
         prints(alloc, &UnknownColumnType(21), "Unknown column type 21")

@@ -98,7 +98,7 @@ fn lowest_byte_first_long(rt: HostRuntime) {
     );
 }
 
-// The sizes of the other representations are asked where `agrees` names them.
+// The sizes of the other representations are checked where `agrees` names them.
 #[test]
 fn sizes_of_representations(rt: HostRuntime) {
     assert!(rt;

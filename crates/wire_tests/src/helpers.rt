@@ -1,4 +1,4 @@
-//! What the tests of several subjects ask.
+//! Helpers of several tests.
 
 use std::alloc::Global;
 use wire_buf::{MyDeserialize, MySerialize, ParseBuf, WireFault, WireSize};
@@ -11,7 +11,7 @@ pub fn written<V: MySerialize>(alloc: Global, value: &V) -> Result<Vec<u8>, Wire
     Ok(out)
 }
 
-/// The value at the front of the bytes, and how many bytes are left.
+/// The value at the start of the bytes, and the number of bytes left.
 pub fn parsed<'a, V: MyDeserialize<'a, Ctx = ()> + Drop>(
     alloc: Global,
     bytes: &'a [u8],
@@ -29,8 +29,8 @@ pub fn writes<V: MySerialize>(alloc: Global, value: &V, bytes: &[u8]) -> bool {
     }
 }
 
-/// Why no value is read at the front of the bytes, or None where one is.
-pub fn refusal<'a, V: MyDeserialize<'a, Ctx = ()> + Drop>(
+/// The error of reading a value at the start of the bytes, or None if there is one.
+pub fn read_error<'a, V: MyDeserialize<'a, Ctx = ()> + Drop>(
     alloc: Global,
     bytes: &'a [u8],
 ) -> Option<V::Fault> {
@@ -38,7 +38,7 @@ pub fn refusal<'a, V: MyDeserialize<'a, Ctx = ()> + Drop>(
 }
 
 /// Whether the value is read from all of the bytes, and written as them.
-pub fn stands_as<'a, V: MySerialize + MyDeserialize<'a, Ctx = ()> + PartialEq + Drop>(
+pub fn round_trips_as<'a, V: MySerialize + MyDeserialize<'a, Ctx = ()> + PartialEq + Drop>(
     alloc: Global,
     value: &V,
     bytes: &'a [u8],
@@ -57,7 +57,7 @@ pub fn writes_number<T: IntRepr>(alloc: Global, value: T::Primitive, bytes: &[u8
     writes(alloc, &RawInt::<T>::new(value), bytes)
 }
 
-/// The number at the front of the bytes.
+/// The number at the start of the bytes.
 pub fn number_parsed<T: IntRepr>(alloc: Global, bytes: &[u8]) -> Result<T::Primitive, WireFault> {
     let (raw, _) = parsed::<RawInt<T>>(alloc, bytes)?;
     Ok(*raw)
@@ -73,18 +73,18 @@ where
         && number_size_agrees::<T>()
 }
 
-/// Whether the number is refused for its size, and nothing is written.
+/// Whether writing the number returns `Form`, and nothing is written.
 pub fn is_too_wide<T: IntRepr>(alloc: Global, value: T::Primitive) -> bool {
     let mut out = Vec::new(alloc);
     RawInt::<T>::new(value).serialize(&mut out) == Err(WireFault::Form) && out.is_empty()
 }
 
-/// Whether the constant of a field is the one that proofs see.
+/// Whether the constant `SIZE` of a field is the one that proofs see.
 pub fn size_agrees<'de, V: MyDeserialize<'de>>() -> bool {
     V::SIZE == <V::Size as WireSize>::SIZE
 }
 
-/// Whether the constant of a representation is the one that proofs see.
+/// Whether the constant `SIZE` of a representation is the one that proofs see.
 pub fn number_size_agrees<T: IntRepr>() -> bool {
     T::SIZE == <T::Size as WireSize>::SIZE && <RawInt<T> as MyDeserialize<'_>>::SIZE == T::SIZE
 }

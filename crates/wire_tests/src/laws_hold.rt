@@ -1,8 +1,8 @@
-//! Laws, which are calls that do nothing.
+//! The laws, each called once; they do nothing.
 
-use wire_ints::laws::{spellings_are_shortest, worked_numbers, worked_widths};
+use wire_ints::laws::{encodings_are_shortest, worked_numbers, worked_widths};
 use wire_packets::laws::{
-    framings_are_read_back, framings_are_uniquely_read, packets_are_a_front, packets_are_longest,
+    framings_are_read_back, framings_are_uniquely_read, packets_are_a_prefix, packets_are_longest,
     packets_end, streams_have_a_split, versions_are_their_numbers, worked_framings,
     worked_versions,
 };
@@ -10,7 +10,7 @@ use wire_packets::laws::{
 #[test]
 fn laws_hold() {
     framings_are_uniquely_read();
-    packets_are_a_front();
+    packets_are_a_prefix();
     packets_are_longest();
     packets_end();
     streams_have_a_split();
@@ -20,5 +20,5 @@ fn laws_hold() {
     worked_versions();
     worked_numbers();
     worked_widths();
-    spellings_are_shortest();
+    encodings_are_shortest();
 }

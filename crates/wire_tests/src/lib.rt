@@ -1,5 +1,5 @@
-//! Tests of the wire layer, over its parts: worked values from MySQL's manual, each call once where memory is
-//! found, each generic call at a concrete type, and readers and writers that end, fail or are interrupted on the way.
+//! Tests of the wire layer: worked values from MySQL's manual, each call once with enough memory, each
+//! generic call at a concrete type, and readers and writers that end, fail or are interrupted.
 #![tactic(auto)]
 
 #[cfg(test)]
@@ -7,9 +7,9 @@ mod buffers;
 #[cfg(test)]
 mod constants;
 #[cfg(test)]
-mod fixed_widths;
+mod fields;
 #[cfg(test)]
-mod forms;
+mod fixed_widths;
 #[cfg(test)]
 mod helpers;
 #[cfg(test)]

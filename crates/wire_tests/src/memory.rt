@@ -1,4 +1,4 @@
-//! Values that are written where memory may be refused.
+//! Values written with little memory.
 
 use linked_list_allocator::LocalHeap;
 use std::alloc::Global;
@@ -8,8 +8,8 @@ use wire_forms::{BytesRepr, NullBytes, RawBytes, U8Bytes};
 use wire_ints::{LeU16, LeU128, LenEnc, RawInt};
 use wire_seqs::Seq;
 
-/// What comes of a value behind `ab` where memory is for so many bytes: the answer, and how many bytes stand there then.
-/// None where not even the two find a place.
+/// Writes a value after `ab` with memory for so many bytes. Returns the result and the number of bytes then
+/// in the buffer, or None if there is no memory even for `ab`.
 fn written_in<T: MySerialize>(
     alloc: Global,
     value: &T,
@@ -22,19 +22,19 @@ fn written_in<T: MySerialize>(
     Some((answer, out.len()))
 }
 
-/// Whether the value of `len` bytes is written in some of the memories of up to 256 bytes, refused in others with nothing
-/// behind the two bytes, and in none of them written in part.
-fn is_whole_or_refused<T: MySerialize>(alloc: Global, value: &T, len: usize) -> bool {
-    let (mut written, mut refused) = (false, false);
+/// Whether the value of `len` bytes is written with some of the memories of up to 256 bytes, returns an error
+/// and appends nothing with others, and is never written in part.
+fn is_all_or_nothing<T: MySerialize>(alloc: Global, value: &T, len: usize) -> bool {
+    let (mut written, mut failed) = (false, false);
     for size in 1..=256usize {
         match written_in(alloc, value, size) {
             None => {}
             Some((Ok(()), all)) if all == len.wrapping_add(2) => written = true,
-            Some((Err(WireFault::Memory), 2)) => refused = true,
+            Some((Err(WireFault::Memory), 2)) => failed = true,
             Some(_) => return false,
         }
     }
-    written && refused
+    written && failed
 }
 
 #[test]
@@ -42,13 +42,13 @@ fn sequences_without_memory(rt: HostRuntime) {
     let alloc = rt.alloc();
     let numbers = [RawInt::<LeU128>::new(1), RawInt::<LeU128>::new(2)];
     let seq = Seq::<'_, RawInt<LeU128>, LeU16>::new(CowSlice::Borrowed(&numbers));
-    assert!(rt; is_whole_or_refused(alloc, &seq, 34));
+    assert!(rt; is_all_or_nothing(alloc, &seq, 34));
 }
 
-/// Whether the text is written, with one byte for its length or its end, or refused.
-fn refuses_text<T: BytesRepr>(alloc: Global, text: &[u8]) -> bool {
+/// Whether the text is written, with one byte for its length or its end, or returns an error.
+fn text_is_all_or_nothing<T: BytesRepr>(alloc: Global, text: &[u8]) -> bool {
     let raw = RawBytes::<T>::new(CowSlice::Borrowed(text));
-    is_whole_or_refused(alloc, &raw, text.len().wrapping_add(1))
+    is_all_or_nothing(alloc, &raw, text.len().wrapping_add(1))
 }
 
 #[test]
@@ -56,8 +56,8 @@ fn texts_without_memory(rt: HostRuntime) {
     let alloc = rt.alloc();
     let text = [b't'; 100];
     assert!(rt;
-        refuses_text::<LenEnc>(alloc, &text)
-            && refuses_text::<U8Bytes>(alloc, &text)
-            && refuses_text::<NullBytes>(alloc, &text)
+        text_is_all_or_nothing::<LenEnc>(alloc, &text)
+            && text_is_all_or_nothing::<U8Bytes>(alloc, &text)
+            && text_is_all_or_nothing::<NullBytes>(alloc, &text)
     );
 }

@@ -1,4 +1,4 @@
-//! Worked spellings of numbers.
+//! Worked encodings of integers.
 
 use crate::helpers::{number_parsed, writes_number, written};
 use std::alloc::Global;
@@ -107,7 +107,7 @@ fn length_of_a_string(rt: HostRuntime) {
     assert!(rt; lenenc_str_len(b"abc") == 4);
 }
 
-/// Whether the number takes so many bytes, whose first one says how many they are, and is read from them.
+/// Whether the number takes so many bytes, whose first one gives their number, and is read from them.
 fn has_varlen_size(alloc: Global, value: u64, size: usize) -> bool {
     let mut out = Vec::new(alloc);
     write_varlen_uint(value, &mut out).is_ok()
@@ -162,6 +162,6 @@ fn strings_at_the_end_of_a_buffer(rt: HostRuntime) {
 }
 
 #[test]
-fn refusal_of_an_integer(rt: HostRuntime) {
+fn error_of_an_integer(rt: HostRuntime) {
     assert!(rt; WireFault::from(InvalidLengthEncodedInteger) == WireFault::BadNumber);
 }

@@ -147,7 +147,7 @@ fn packet_out_of_its_order(rt: HostRuntime) {
     );
 }
 
-/// A count in three bytes, and then a length-encoded number: the example of the documentation.
+/// A count in three bytes, then a length-encoded integer: the first example of docs/WIRE.md.
 fn read(alloc: Global, bytes: &[u8]) -> Result<(u32, u64), WireFault> {
     let mut buf = ParseBuf(bytes);
     let count = buf.parse::<RawInt<LeU24>>(alloc, ())?;
@@ -173,8 +173,8 @@ fn field_read_and_written(rt: HostRuntime) {
     );
 }
 
-/// A name, two bytes that mean nothing, and the rest: the second example of the documentation.
-fn reads_raw_forms(alloc: Global) -> Result<bool, WireFault> {
+/// A name, two bytes without meaning, and the rest: the second example of docs/WIRE.md.
+fn reads_fields(alloc: Global) -> Result<bool, WireFault> {
     let mut buf = ParseBuf(b"\x02ab\x00\x00cd");
     let name = buf.parse::<RawBytes<'_, U8Bytes>>(alloc, ())?;
     buf.parse::<Skip<2>>(alloc, ())?;
@@ -183,11 +183,11 @@ fn reads_raw_forms(alloc: Global) -> Result<bool, WireFault> {
 }
 
 #[test]
-fn raw_forms_read(rt: HostRuntime) {
-    assert!(rt; reads_raw_forms(rt.alloc()) == Ok(true));
+fn raw_encodings_read(rt: HostRuntime) {
+    assert!(rt; reads_fields(rt.alloc()) == Ok(true));
 }
 
-/// Takes each packet that is whole, as more of a stream comes: the third example.
+/// Reads each packet that is complete as more of a stream arrives: the third example of docs/WIRE.md.
 fn take(
     codec: &mut PacketCodec,
     src: &mut BytesMut,
@@ -224,7 +224,7 @@ fn server_version_split(rt: HostRuntime) {
     );
 }
 
-/// Whether memory is found for the longest payload of a chunk, and for that chunk, which has the number 0.
+/// Whether there is memory for the longest payload of a chunk, and for that chunk, with the sequence id 0.
 fn begins_full_chunk(payload: &mut Vec<u8>, stream: &mut BytesMut) -> bool {
     payload.resize(MAX_PAYLOAD_LEN, 7).is_ok()
         && stream.extend_from_slice(&[255, 255, 255, 0]).is_ok()

@@ -1,6 +1,6 @@
-//! Sequences read and written at concrete types, beside what the contracts say of them.
+//! Sequences read and written at concrete types, in addition to the contracts.
 
-use crate::helpers::{refusal, size_agrees, stands_as, writes, written};
+use crate::helpers::{read_error, round_trips_as, size_agrees, writes, written};
 use std::alloc::Global;
 use std::borrow::CowSlice;
 use wire_buf::{MySerialize, ParseBuf, WireFault};
@@ -18,15 +18,15 @@ type Texts<'a> = Seq<'a, RawBytes<'a, U8Bytes>, Unknown>;
 
 type Bytes<'a> = Seq<'a, u8, LeU16>;
 
-/// Whether two numbers stand as the bytes, behind their count in the form `U`.
+/// Whether two numbers are encoded as the bytes, after their count in the representation `U`.
 fn counts<U: SeqRepr<Ctx = ()>>(alloc: Global, bytes: &[u8]) -> bool {
     let numbers = [RawInt::<LeU16>::new(1), RawInt::<LeU16>::new(0x0302)];
     let seq = Seq::<'_, RawInt<LeU16>, U>::new(CowSlice::Borrowed(&numbers));
-    stands_as(alloc, &seq, bytes)
+    round_trips_as(alloc, &seq, bytes)
 }
 
 #[test]
-fn counts_of_each_form(rt: HostRuntime) {
+fn counts_of_each_encoding(rt: HostRuntime) {
     let alloc = rt.alloc();
     assert!(rt;
         counts::<u8>(alloc, b"\x02\x01\x00\x02\x03")
@@ -74,21 +74,21 @@ fn counts_of_sixteen_bytes(rt: HostRuntime) {
     assert!(rt;
         counts::<LeU128>(alloc, b"\x02\0\0\0\0\0\0\0\0\0\0\0\0\0\0\0\x01\0\x02\x03")
             && counts::<BeU128>(alloc, b"\0\0\0\0\0\0\0\0\0\0\0\0\0\0\0\x02\x01\0\x02\x03")
-            && refusal::<Numbers<'_, LeU128>>(alloc, b"\0\0\0\0\0\0\0\0\x01\0\0\0\0\0\0\0")
+            && read_error::<Numbers<'_, LeU128>>(alloc, b"\0\0\0\0\0\0\0\0\x01\0\0\0\0\0\0\0")
                 == Some(WireFault::Eof)
     );
 }
 
-/// Whether the two texts are read, and written as the bytes.
-fn texts_stand(alloc: Global, texts: &Texts<'_>, bytes: &[u8]) -> bool {
+/// Whether there are two texts, and they are written as the bytes.
+fn texts_round_trip(alloc: Global, texts: &Texts<'_>, bytes: &[u8]) -> bool {
     texts.len() == 2 && texts[1].eq_bytes(b"bc") && writes(alloc, texts, bytes)
 }
 
-/// Whether the two texts are read where the context says that there are two, and one byte is left.
+/// Whether two texts are read if the context says that there are two, and one byte remains.
 fn two_texts(alloc: Global) -> Result<bool, WireFault> {
     let mut buf = ParseBuf(b"\x01a\x02bc\x00");
     let texts = buf.parse::<Texts<'_>>(alloc, 2)?;
-    Ok(texts_stand(alloc, &texts, b"\x01a\x02bc") && buf.len() == 1)
+    Ok(texts_round_trip(alloc, &texts, b"\x01a\x02bc") && buf.len() == 1)
 }
 
 #[test]
@@ -100,8 +100,8 @@ fn count_from_the_context(rt: HostRuntime) {
     );
 }
 
-/// Whether no more than 255 of three hundred numbers are written behind their count in one byte.
-fn cuts_many(alloc: Global) -> Option<bool> {
+/// Whether only 255 of three hundred numbers are written after their count in one byte.
+fn truncates_many(alloc: Global) -> Option<bool> {
     let mut sevens = Vec::new(alloc);
     for _ in 0..300 {
         sevens.push(RawInt::<u8>::new(7)).ok()?;
@@ -113,11 +113,11 @@ fn cuts_many(alloc: Global) -> Option<bool> {
 
 #[test]
 fn more_than_the_count_holds(rt: HostRuntime) {
-    assert!(rt; cuts_many(rt.alloc()) == Some(true));
+    assert!(rt; truncates_many(rt.alloc()) == Some(true));
 }
 
 #[test]
-fn elements_that_are_refused(rt: HostRuntime) {
+fn elements_that_are_failed(rt: HostRuntime) {
     let alloc = rt.alloc();
     let numbers = [RawInt::<LeU24>::new(1), RawInt::<LeU24>::new(0x100_0000)];
     let seq = Seq::<'_, RawInt<LeU24>, u8>::new(CowSlice::Borrowed(&numbers));
@@ -126,12 +126,12 @@ fn elements_that_are_refused(rt: HostRuntime) {
         out.push(9).is_ok()
             && seq.serialize(&mut out) == Err(WireFault::Form)
             && out.as_slice() == b"\x09".as_slice()
-            && refusal::<Numbers<'_, u8>>(alloc, b"\x02\x01\x00\x02") == Some(WireFault::Eof)
-            && refusal::<Numbers<'_, LeU16>>(alloc, b"\x02") == Some(WireFault::Eof)
+            && read_error::<Numbers<'_, u8>>(alloc, b"\x02\x01\x00\x02") == Some(WireFault::Eof)
+            && read_error::<Numbers<'_, LeU16>>(alloc, b"\x02") == Some(WireFault::Eof)
     );
 }
 
-/// Whether a copy is the same, up to a push.
+/// Whether a copy is equal until an element is pushed.
 fn grows_apart(alloc: Global, seq: &mut Bytes<'_>, byte: u8) -> bool {
     match seq.clone(alloc) {
         Ok(copy) => copy == *seq && seq.push(alloc, byte).is_ok() && !(copy == *seq),
@@ -139,7 +139,7 @@ fn grows_apart(alloc: Global, seq: &mut Bytes<'_>, byte: u8) -> bool {
     }
 }
 
-/// Whether three bytes are there, once they are owned.
+/// Whether three bytes are there after `into_owned`.
 fn owns_three(alloc: Global, seq: Bytes<'_>) -> bool {
     match seq.into_owned(alloc) {
         Ok(owned) => owned.len() == 3 && !owned.is_empty(),
@@ -164,8 +164,8 @@ fn sequences_of_nothing(rt: HostRuntime) {
     assert!(rt; Bytes::empty().is_empty() && Bytes::default().is_empty());
 }
 
-/// Whether the numbers are copied and owned as they are, and written as the bytes.
-fn numbers_stand(alloc: Global, types: RawSeq<'_, u8, ColumnType>, bytes: &[u8]) -> bool {
+/// Whether the numbers are copied and owned unchanged, and written as the bytes.
+fn numbers_round_trip(alloc: Global, types: RawSeq<'_, u8, ColumnType>, bytes: &[u8]) -> bool {
     let is_written = writes(alloc, &types, bytes);
     match (types.clone(alloc), types.into_owned(alloc)) {
         (Ok(copy), Ok(owned)) => is_written && copy == owned && writes(alloc, &copy, bytes),
@@ -173,7 +173,7 @@ fn numbers_stand(alloc: Global, types: RawSeq<'_, u8, ColumnType>, bytes: &[u8])
     }
 }
 
-/// Whether the first of the numbers is that of a whole number of four bytes.
+/// Whether the first of the numbers is the type of a 4-byte integer.
 fn begins_with_long(types: &RawSeq<'_, u8, ColumnType>) -> bool {
     match types.get(0) {
         Some(first) => first.get() == Ok(ColumnType::MYSQL_TYPE_LONG),
@@ -189,11 +189,11 @@ fn numbers_for_constants(rt: HostRuntime) {
     );
 }
 
-/// Whether two numbers are read where the context says that there are two, and one byte is left.
+/// Whether two numbers are read if the context says that there are two, and one byte remains.
 fn two_numbers(alloc: Global) -> Result<bool, WireFault> {
     let mut buf = ParseBuf(b"\x03\xc8\x0f");
     let types = buf.parse::<RawSeq<'_, u8, ColumnType>>(alloc, 2)?;
-    Ok(numbers_stand(alloc, types, b"\x03\xc8") && buf.len() == 1)
+    Ok(numbers_round_trip(alloc, types, b"\x03\xc8") && buf.len() == 1)
 }
 
 #[test]
@@ -220,7 +220,7 @@ fn sizes_of_sequences(rt: HostRuntime) {
     );
 }
 
-// The counts of sequences alone: in one byte, in two, and where the reader knows it.
+// The counts of sequences alone: in one byte, in two, and given by the context.
 #[test]
 fn counts_of_sequences(rt: HostRuntime) {
     let alloc = rt.alloc();

@@ -1,11 +1,11 @@
-//! Readers and writers that give and take little at once, are interrupted, end and fail.
+//! Readers and writers that move few bytes at once, are interrupted, end and fail.
 
 use std::alloc::Global;
 use std::io::{Error, ErrorKind, Read, Result as IoResult, Write};
 use wire_buf::{Watched, WireFault, read_exact, read_more, write_all};
 use wire_ints::{ReadMysqlExt, WriteMysqlExt};
 
-/// What a device does at one call after the other: so many bytes at most, or an error.
+/// A device whose steps are given, one for each call: an error, or one byte at most.
 #[derive(Drop)]
 struct Device<'a> {
     bytes: &'a [u8],
@@ -24,7 +24,7 @@ impl<'a> Device<'a> {
         }
     }
 
-    /// The error of the next step, or none where bytes move.
+    /// The error of the next step, or None if bytes move.
     fn step(&mut self) -> Option<ErrorKind> {
         let (first, rest) = self.steps.split_first()?;
         self.steps = rest;
@@ -85,7 +85,7 @@ fn byte_after_byte(rt: HostRuntime) {
 }
 
 #[test]
-fn bytes_behind_others(rt: HostRuntime) {
+fn bytes_after_others(rt: HostRuntime) {
     let steps = [None, Some(ErrorKind::Interrupted), None];
     let mut device = Device::new(b"cde", &steps);
     let mut more = Vec::new(rt.alloc());
@@ -103,7 +103,7 @@ fn ends_and_failures(rt: HostRuntime) {
     let steps = [None, Some(ErrorKind::Other)];
     let mut two = [0; 2];
     let mut more = Vec::new(rt.alloc());
-    // u64::MAX is so many bytes that no memory would do: it grows with those that come
+    // no memory holds u64::MAX bytes: the buffer grows with the bytes that arrive
     assert!(rt;
         read_exact(&mut Device::new(b"a", &[]), &mut two) == Err(WireFault::Eof)
             && read_exact(&mut Device::new(b"ab", &steps), &mut two) == Err(WireFault::Read)
@@ -126,7 +126,7 @@ fn writers_that_fail_or_are_full(rt: HostRuntime) {
     );
 }
 
-/// What is read as a length-encoded string.
+/// Whether a length-encoded string is read as the text.
 fn string_read<R: Read>(alloc: Global, reader: &mut R, text: &[u8]) -> Result<bool, WireFault> {
     let read = reader.read_lenenc_str(alloc)?;
     Ok(read.as_slice() == text)

@@ -1,6 +1,6 @@
-//! Byte strings in each representation, beside what the contracts say of them.
+//! Byte strings in each representation, in addition to the contracts.
 
-use crate::helpers::{parsed, refusal, size_agrees, writes};
+use crate::helpers::{parsed, read_error, size_agrees, writes};
 use std::alloc::Global;
 use std::borrow::CowSlice;
 use wire_buf::{ParseBuf, WireFault, WireSize};
@@ -16,7 +16,7 @@ fn writes_text<T: BytesRepr>(alloc: Global, text: &[u8], bytes: &[u8]) -> bool {
     writes(alloc, &RawBytes::<T>::new(CowSlice::Borrowed(text)), bytes)
 }
 
-/// Whether the text stands at the front of the bytes, before so many others.
+/// Whether the text is at the start of the bytes, followed by so many others.
 fn reads_text<T: BytesRepr<Ctx = ()>>(
     alloc: Global,
     bytes: &[u8],
@@ -29,9 +29,9 @@ fn reads_text<T: BytesRepr<Ctx = ()>>(
     }
 }
 
-/// Why no text is read at the front of the bytes, or None where one is.
-fn text_refusal<T: BytesRepr<Ctx = ()>>(alloc: Global, bytes: &[u8]) -> Option<WireFault> {
-    refusal::<RawBytes<'_, T>>(alloc, bytes)
+/// The error of reading a text at the start of the bytes, or None if there is one.
+fn text_error<T: BytesRepr<Ctx = ()>>(alloc: Global, bytes: &[u8]) -> Option<WireFault> {
+    read_error::<RawBytes<'_, T>>(alloc, bytes)
 }
 
 #[test]
@@ -41,7 +41,7 @@ fn fixed_length_text(rt: HostRuntime) {
         writes_text::<FixedLengthText<4>>(alloc, b"ab", b"ab\x00\x00")
             && writes_text::<FixedLengthText<4>>(alloc, b"abcde", b"abcd")
             && reads_text::<FixedLengthText<4>>(alloc, b"ab\x00\x00c", b"ab\x00\x00", 1)
-            && text_refusal::<FixedLengthText<4>>(alloc, b"abc") == Some(WireFault::Eof)
+            && text_error::<FixedLengthText<4>>(alloc, b"abc") == Some(WireFault::Eof)
     );
 }
 
@@ -51,7 +51,7 @@ fn counted_texts(rt: HostRuntime) {
     assert!(rt;
         writes_text::<U8Bytes>(alloc, b"abc", b"\x03abc")
             && reads_text::<U8Bytes>(alloc, b"\x03abcd", b"abc", 1)
-            && text_refusal::<U8Bytes>(alloc, b"\x03ab") == Some(WireFault::Eof)
+            && text_error::<U8Bytes>(alloc, b"\x03ab") == Some(WireFault::Eof)
             && writes_text::<U32Bytes>(alloc, b"ab", b"\x02\x00\x00\x00ab")
             && reads_text::<U32Bytes>(alloc, b"\x01\x00\x00\x00ab", b"a", 1)
     );
@@ -63,13 +63,13 @@ fn length_encoded_texts(rt: HostRuntime) {
     assert!(rt;
         writes_text::<LenEnc>(alloc, b"ab", b"\x02ab")
             && reads_text::<LenEnc>(alloc, b"\xfc\x01\x00a", b"a", 0)
-            && text_refusal::<LenEnc>(alloc, b"\xfbab") == Some(WireFault::BadNumber)
-            && text_refusal::<LenEnc>(alloc, b"\x02a") == Some(WireFault::Eof)
+            && text_error::<LenEnc>(alloc, b"\xfbab") == Some(WireFault::BadNumber)
+            && text_error::<LenEnc>(alloc, b"\x02a") == Some(WireFault::Eof)
     );
 }
 
-/// Whether the bytes were answered.
-fn gave(answer: Result<Vec<u8>, WireFault>, bytes: &[u8]) -> bool {
+/// Whether the result is these bytes.
+fn returned_bytes(answer: Result<Vec<u8>, WireFault>, bytes: &[u8]) -> bool {
     match answer {
         Ok(back) => back.as_slice() == bytes,
         Err(_) => false,
@@ -80,8 +80,8 @@ fn gave(answer: Result<Vec<u8>, WireFault>, bytes: &[u8]) -> bool {
 fn texts_read_back(rt: HostRuntime) {
     let alloc = rt.alloc();
     assert!(rt;
-        gave(read_back_bytes::<LenEnc>(alloc, (), b"abc"), b"abc")
-            && gave(
+        returned_bytes(read_back_bytes::<LenEnc>(alloc, (), b"abc"), b"abc")
+            && returned_bytes(
                 read_back_bytes::<FixedLengthText<2>>(alloc, (), b"abc"),
                 b"ab"
             )
@@ -110,14 +110,14 @@ fn long_texts(rt: HostRuntime) {
 }
 
 #[test]
-fn texts_behind_a_varlen(rt: HostRuntime) {
+fn texts_after_a_varlen(rt: HostRuntime) {
     let alloc = rt.alloc();
     assert!(rt;
-        gave(
+        returned_bytes(
             read_back_bytes::<VarLen>(alloc, (), &[b'x'; 300]),
             &[b'x'; 300]
-        ) && text_refusal::<VarLen>(alloc, b"\x02a") == Some(WireFault::Eof)
-            && text_refusal::<VarLen>(alloc, b"\x80\x80\x80\x80\x10") == Some(WireFault::BadNumber)
+        ) && text_error::<VarLen>(alloc, b"\x02a") == Some(WireFault::Eof)
+            && text_error::<VarLen>(alloc, b"\x80\x80\x80\x80\x10") == Some(WireFault::BadNumber)
     );
 }
 
@@ -127,13 +127,13 @@ fn texts_without_a_count(rt: HostRuntime) {
     assert!(rt;
         writes_text::<NullBytes>(alloc, b"ab\x00c", b"ab\x00")
             && reads_text::<NullBytes>(alloc, b"ab\x00c", b"ab", 1)
-            && text_refusal::<NullBytes>(alloc, b"ab") == Some(WireFault::Eof)
+            && text_error::<NullBytes>(alloc, b"ab") == Some(WireFault::Eof)
             && writes_text::<EofBytes>(alloc, b"ab", b"ab")
             && reads_text::<EofBytes>(alloc, b"abc", b"abc", 0)
     );
 }
 
-/// Whether two bytes are read where the context says that there are two.
+/// Whether two bytes are read if the context says that there are two.
 fn two_bytes(alloc: Global) -> Result<bool, WireFault> {
     let mut buf = ParseBuf(b"abc");
     let text = buf.parse::<RawBytes<'_, BareU16Bytes>>(alloc, 2)?;
@@ -149,7 +149,7 @@ fn texts_counted_by_the_context(rt: HostRuntime) {
     );
 }
 
-/// Whether the bytes are shown as the text.
+/// Whether `as_str` returns this text.
 fn shows<T: BytesRepr>(alloc: Global, raw: &RawBytes<'_, T>, text: &[u8]) -> bool {
     match raw.as_str(alloc) {
         Ok(shown) => shown.as_bytes() == text,
@@ -177,7 +177,7 @@ fn raw_bytes_as_text(rt: HostRuntime) {
     assert!(rt; shows(alloc, &raw, b"ab") && shows(alloc, &broken, b"a\xef\xbf\xbd"));
 }
 
-/// Whether a copy of the bytes, and the bytes once they own what they show, are the same as they were.
+/// Whether a copy of the bytes, and the bytes after `into_owned`, are unchanged.
 fn is_kept<T: BytesRepr>(alloc: Global, raw: RawBytes<'_, T>) -> Option<bool> {
     let copy = raw.clone(alloc).ok()?;
     let is_same = copy == raw;
@@ -185,7 +185,7 @@ fn is_kept<T: BytesRepr>(alloc: Global, raw: RawBytes<'_, T>) -> Option<bool> {
     Some(is_same && owned == copy)
 }
 
-/// Whether raw bytes are made of a list of their own.
+/// Whether raw bytes can be made from a `Vec`.
 fn is_made_of_list(alloc: Global) -> bool {
     let mut bytes = Vec::new(alloc);
     bytes.push(7).is_ok() && RawBytes::<'_, EofBytes>::from(bytes).eq_bytes(b"\x07")
@@ -198,7 +198,7 @@ fn raw_bytes_that_own(rt: HostRuntime) {
     assert!(rt; is_kept(alloc, raw) == Some(true) && is_made_of_list(alloc));
 }
 
-/// Whether the constant of a representation is the one that proofs see.
+/// Whether the constant `SIZE` of a representation is the one that proofs see.
 fn text_size_agrees<T: BytesRepr>() -> bool {
     T::SIZE == <T::Size as WireSize>::SIZE && size_agrees::<RawBytes<'_, T>>()
 }

@@ -1,9 +1,9 @@
-//! The cells of columns of times: what their bytes are worth.
+//! The values of the bytes in TIME2, DATETIME2 and TIMESTAMP2 cells. MySQL's source: `mysys/my_time.cc`.
 
 ghost use Rattle.std.specs.Prelude.{◌≡◌, ◌+◌, ◌-◌, ◌≤◌, ◌<◌, ◌^◌, ◌*◌, pos, length, IfOk, IfErr};
 ghost use Rattle.byteorder.specs.Endian.{big_number};
 ghost use Rattle.rows_times.specs.PackedTimes.{fraction_len, fraction, time2, datetime2, timestamp2};
-ghost use Rattle.rows_times.specs.ReadTimes.{ReadsValue, IsCut};
+ghost use Rattle.rows_times.specs.ReadTimes.{ReadsValue, ReadFallsShort};
 
 use crate::fault::RowsError;
 use crate::times::packed::{my_packed_time_make, my_packed_time_make_int};
@@ -11,17 +11,17 @@ use byteorder::{BigEndian, ByteOrder};
 use std::io::Read;
 use wire_buf::read_exact;
 
-/// What the three bytes of a `TIME2` without fraction hold above its hours, minutes and seconds.
+/// The offset of the three bytes of a `TIME2` without a fraction.
 pub const TIMEF_INT_OFS: i64 = 0x80_0000;
 
-/// The same of the six bytes of a `TIME2` with microseconds.
+/// The offset of the six bytes of a `TIME2` with microseconds.
 pub const TIMEF_OFS: i64 = 0x8000_0000_0000;
 
-/// What the first five bytes of a `DATETIME2` hold above its date and time.
+/// The offset of the first five bytes of a `DATETIME2`.
 pub const DATETIMEF_INT_OFS: i64 = 0x80_0000_0000;
 
-/// How many bytes the fraction of a cell with so many decimals has: one for each two of them. A
-/// number of decimals past 6 is taken as 0.
+/// Returns the number of bytes of the fraction of a cell with `dec` fractional digits: one for every two
+/// digits. More than 6 digits count as 0.
 pub fn fraction_size(dec: u32) -> usize
     ensures value { result ≡ fraction_len dec }
     ensures bound { result ≤ 3 }
@@ -34,7 +34,7 @@ pub fn fraction_size(dec: u32) -> usize
     }
 }
 
-/// The packed time in the first bytes, as the cell of a `TIME2` column with so many decimals has it: 3
+/// Returns the packed time of the `TIME2` cell with `dec` fractional digits at the start of the bytes: 3
 /// bytes and those of the fraction.
 pub fn time_of(bytes: &[u8], dec: u32) -> i64
     requires { 3 + fraction_len dec ≤ length bytes.now }
@@ -43,8 +43,8 @@ pub fn time_of(bytes: &[u8], dec: u32) -> i64
     time_with_fraction(bytes, fraction_size(dec))
 }
 
-/// The packed time in the first bytes, as the cell of a `DATETIME2` column with so many decimals has it:
-/// 5 bytes and those of the fraction.
+/// Returns the packed time of the `DATETIME2` cell with `dec` fractional digits at the start of the bytes: 5
+/// bytes and those of the fraction.
 pub fn datetime_of(bytes: &[u8], dec: u32) -> i64
     requires { 5 + fraction_len dec ≤ length bytes.now }
     ensures { result ≡ datetime2 (fraction_len dec) bytes.now }
@@ -52,8 +52,8 @@ pub fn datetime_of(bytes: &[u8], dec: u32) -> i64
     datetime_with_fraction(bytes, fraction_size(dec))
 }
 
-/// Seconds since 1970 and microseconds in the first bytes, as the cell of a `TIMESTAMP2` column with so
-/// many decimals has them: 4 bytes and those of the fraction.
+/// Returns the seconds since 1970 and the microseconds of the `TIMESTAMP2` cell with `dec` fractional digits
+/// at the start of the bytes: 4 bytes and those of the fraction.
 pub fn timestamp_of(bytes: &[u8], dec: u32) -> (i32, i32)
     requires { 4 + fraction_len dec ≤ length bytes.now }
     ensures { result ≡ timestamp2 (fraction_len dec) bytes.now }
@@ -61,16 +61,16 @@ pub fn timestamp_of(bytes: &[u8], dec: u32) -> (i32, i32)
     timestamp_with_fraction(bytes, fraction_size(dec))
 }
 
-/// Reads the cell of a `TIME2` column with so many decimals as a packed time: 3 bytes, and one for
-/// each two decimals. A number of decimals past 6 is taken as 0.
+/// Reads the `TIME2` cell of a column with `dec` fractional digits as a packed time: 3 bytes, and one for
+/// every two digits. More than 6 digits count as 0.
 ///
-/// An end of the input within the cell is `EndOfBody`, and all bytes are then taken; a reader that
-/// fails, and one that is interrupted for 2^63 - 1 times, is `Read`.
+/// - `EndOfBody`: the input ended within the cell; all of its bytes are taken.
+/// - `Read`: the reader failed, or was interrupted 2^63 - 1 times.
 pub fn my_time_packed_from_binary<R: Read>(input: &mut R, dec: u32) -> Result<i64, RowsError>
     ensures ok { IfOk result (λ v. ReadsValue (3 + fraction_len dec) (time2 (fraction_len dec)) v
         (R.remaining input.old) (R.remaining input.new)) }
     ensures err { IfErr result
-        (λ e. IsCut e (3 + fraction_len dec) (R.remaining input.old) (R.remaining input.new)) }
+        (λ e. ReadFallsShort e (3 + fraction_len dec) (R.remaining input.old) (R.remaining input.new)) }
 {
     let mut buf = [0u8; 6];
     let bytes = &mut buf[..3 + fraction_size(dec)];
@@ -78,14 +78,13 @@ pub fn my_time_packed_from_binary<R: Read>(input: &mut R, dec: u32) -> Result<i6
     Ok(time_of(bytes, dec))
 }
 
-/// Reads the cell of a `DATETIME2` column with so many decimals as a packed time: 5 bytes, and one
-/// for each two decimals. A number of decimals past 6 is taken as 0. Refusals are as those of
-/// [`my_time_packed_from_binary`].
+/// Reads the `DATETIME2` cell of a column with `dec` fractional digits as a packed time: 5 bytes, and one for
+/// every two digits. More than 6 digits count as 0. The errors are those of [`my_time_packed_from_binary`].
 pub fn my_datetime_packed_from_binary<R: Read>(input: &mut R, dec: u32) -> Result<i64, RowsError>
     ensures ok { IfOk result (λ v. ReadsValue (5 + fraction_len dec) (datetime2 (fraction_len dec)) v
         (R.remaining input.old) (R.remaining input.new)) }
     ensures err { IfErr result
-        (λ e. IsCut e (5 + fraction_len dec) (R.remaining input.old) (R.remaining input.new)) }
+        (λ e. ReadFallsShort e (5 + fraction_len dec) (R.remaining input.old) (R.remaining input.new)) }
 {
     let mut buf = [0u8; 8];
     let bytes = &mut buf[..5 + fraction_size(dec)];
@@ -93,14 +92,14 @@ pub fn my_datetime_packed_from_binary<R: Read>(input: &mut R, dec: u32) -> Resul
     Ok(datetime_of(bytes, dec))
 }
 
-/// Reads the cell of a `TIMESTAMP2` column with so many decimals: the seconds since 1970 and the
-/// microseconds, in 4 bytes and one for each two decimals. A number of decimals past 6 is taken as
-/// 0. Refusals are as those of [`my_time_packed_from_binary`].
+/// Reads the `TIMESTAMP2` cell of a column with `dec` fractional digits as seconds since 1970 and
+/// microseconds: 4 bytes, and one for every two digits. More than 6 digits count as 0. The errors are those
+/// of [`my_time_packed_from_binary`].
 pub fn my_timestamp_from_binary<R: Read>(input: &mut R, dec: u8) -> Result<(i32, i32), RowsError>
     ensures ok { IfOk result (λ v. ReadsValue (4 + fraction_len dec) (timestamp2 (fraction_len dec)) v
         (R.remaining input.old) (R.remaining input.new)) }
     ensures err { IfErr result
-        (λ e. IsCut e (4 + fraction_len dec) (R.remaining input.old) (R.remaining input.new)) }
+        (λ e. ReadFallsShort e (4 + fraction_len dec) (R.remaining input.old) (R.remaining input.new)) }
 {
     let mut buf = [0u8; 7];
     let bytes = &mut buf[..4 + fraction_size(u32::from(dec))];
@@ -108,7 +107,7 @@ pub fn my_timestamp_from_binary<R: Read>(input: &mut R, dec: u8) -> Result<(i32,
     Ok(timestamp_of(bytes, u32::from(dec)))
 }
 
-/// The packed time of a `TIME2` cell with so many bytes of fraction.
+/// Returns the packed time of a `TIME2` cell whose fraction has `fraction_bytes` bytes.
 fn time_with_fraction(bytes: &[u8], fraction_bytes: usize) -> i64
     requires low { fraction_bytes ≤ 3 }
     requires room { 3 + fraction_bytes ≤ length bytes.now }
@@ -129,7 +128,7 @@ fn time_with_fraction(bytes: &[u8], fraction_bytes: usize) -> i64
     }
 }
 
-/// The packed time of a `DATETIME2` cell with so many bytes of fraction.
+/// Returns the packed time of a `DATETIME2` cell whose fraction has `fraction_bytes` bytes.
 fn datetime_with_fraction(bytes: &[u8], fraction_bytes: usize) -> i64
     requires low { fraction_bytes ≤ 3 }
     requires room { 5 + fraction_bytes ≤ length bytes.now }
@@ -139,7 +138,7 @@ fn datetime_with_fraction(bytes: &[u8], fraction_bytes: usize) -> i64
     my_packed_time_make(whole, i64::from(fraction_of(&bytes[5..], fraction_bytes)))
 }
 
-/// Seconds and microseconds of a `TIMESTAMP2` cell with so many bytes of fraction.
+/// Returns the seconds and microseconds of a `TIMESTAMP2` cell whose fraction has `fraction_bytes` bytes.
 fn timestamp_with_fraction(bytes: &[u8], fraction_bytes: usize) -> (i32, i32)
     requires low { fraction_bytes ≤ 3 }
     requires room { 4 + fraction_bytes ≤ length bytes.now }
@@ -151,7 +150,7 @@ fn timestamp_with_fraction(bytes: &[u8], fraction_bytes: usize) -> (i32, i32)
     )
 }
 
-/// A fraction of so many bytes, in microseconds.
+/// Returns a fraction of `fraction_bytes` bytes in microseconds.
 fn fraction_of(bytes: &[u8], fraction_bytes: usize) -> i32
     requires low { fraction_bytes ≤ 3 }
     requires room { fraction_bytes ≤ length bytes.now }
@@ -165,7 +164,7 @@ fn fraction_of(bytes: &[u8], fraction_bytes: usize) -> i32
     }
 }
 
-/// The number in the first n bytes, the highest first.
+/// Returns the big-endian number in the first n bytes.
 fn big_endian(bytes: &[u8], n: usize) -> i64
     requires low { 3 ≤ n }
     requires high { n ≤ 6 }

@@ -1,5 +1,4 @@
-//! Dates, times of day and spans of time: packed in 64 bits, in the cells of rows, by their fields, and
-//! as text.
+//! Dates, times of day and time spans: packed in 64 bits, in cells, as fields, and as text.
 
 mod cells;
 mod mysql_time;

@@ -2,13 +2,13 @@
 
 ghost use Rattle.std.specs.Prelude.{◌≡◌, Some, None, [], if◌then◌else◌};
 ghost use Rattle.std.specs.Fmt.{decimal, WritesStyledOnOk, spec_precision, formatter_spec};
-ghost use Rattle.rows_times.specs.TimeTexts.{padded, two_digits, micros_text, date_text, after_hour, date_and_time_text, zone_text, time_text, span_text, zone_hours};
+ghost use Rattle.rows_times.specs.TimeTexts.{padded_decimal, two_digits, micros_text, date_text, after_hour, date_and_time_text, zone_text, time_text, span_text, zone_hours};
 
 use crate::times::{MysqlTime, MysqlTimestampType};
 use itoa::Buffer;
 use std::fmt;
 
-/// What each digit of the microseconds counts, the highest first.
+/// The weight of each digit of the microseconds, the highest first.
 const MICRO_DIGITS: [u32; 6] = [100_000, 10_000, 1_000, 100, 10, 1];
 
 impl fmt::Display for MysqlTime {
@@ -16,14 +16,14 @@ impl fmt::Display for MysqlTime {
 
     ghost styled_output = { λ t spec. Some (time_text (spec_precision spec) t) };
 
-    /// The date as `YYYY-MM-DD`, date and time as `YYYY-MM-DD hh:mm:ss`, a span as `hh:mm:ss` with
-    /// its sign; with a precision also that many digits of the microseconds, six at most. A part
-    /// that is out of range is shown as 00, save the hours of a span.
+    /// Writes a date as `YYYY-MM-DD`, a date and time as `YYYY-MM-DD hh:mm:ss`, and a time span as `hh:mm:ss`
+    /// with its sign. With a precision, that many digits of the microseconds follow, six at most. A part that
+    /// is out of range is written as 00, except for the hours of a time span.
     ///
-    /// Behind date and time a time zone is a plus, the hours of its displacement toward zero, a
-    /// colon and the minutes of its magnitude in two digits. The hours have two digits or more; of
-    /// a displacement below zero by an hour or more they have a minus, and at least one digit. So
-    /// five hours and a half west of UTC are `+-5:30`, and half an hour west `+00:30`.
+    /// A time zone follows date and time: a plus, the hours of its offset rounded toward zero, a colon and
+    /// the minutes of its magnitude in two digits. The hours have at least two digits; for an offset of an
+    /// hour or more below zero they have a minus and at least one digit. So five and a half hours west of UTC
+    /// are `+-5:30`, and half an hour west is `+00:30`.
     fn fmt<W: fmt::Write>(&self, f: &mut fmt::Formatter<W>) -> fmt::Result {
         match self.time_type {
             MysqlTimestampType::MYSQL_TIMESTAMP_NONE | MysqlTimestampType::MYSQL_TIMESTAMP_ERROR =>
@@ -45,7 +45,7 @@ fn put_number<W: fmt::Write>(number: u32, f: &mut fmt::Formatter<W>) -> fmt::Res
     f.write_str(Buffer::new().format(number))
 }
 
-/// A part of two digits; 00 from 100 on.
+/// Writes a part as two digits; 00 from 100 on.
 #[tactic(auto, unfolding(crate::specs::TimeTexts::two_digits))]
 fn put_two_digits<W: fmt::Write>(part: u32, f: &mut fmt::Formatter<W>) -> fmt::Result
     ensures { WritesStyledOnOk W.write_str_gives f.old result (two_digits part) f.new }
@@ -57,16 +57,16 @@ fn put_two_digits<W: fmt::Write>(part: u32, f: &mut fmt::Formatter<W>) -> fmt::R
     put_number(part % 10, f)
 }
 
-/// A text, if it is shown.
+/// Writes the text if `shown` is true.
 fn put_if<W: fmt::Write>(shown: bool, text: &str, f: &mut fmt::Formatter<W>) -> fmt::Result
     ensures { WritesStyledOnOk W.write_str_gives f.old result (if shown then text.now else []) f.new }
 {
     if shown { f.write_str(text) } else { Ok(()) }
 }
 
-/// A number of at least two digits.
+/// Writes a number with at least two digits.
 fn put_at_least_two<W: fmt::Write>(number: u32, f: &mut fmt::Formatter<W>) -> fmt::Result
-    ensures { WritesStyledOnOk W.write_str_gives f.old result (padded 2 number) f.new }
+    ensures { WritesStyledOnOk W.write_str_gives f.old result (padded_decimal 2 number) f.new }
 {
     put_if(number < 10, "0", f)?;
     put_number(number, f)
@@ -105,7 +105,7 @@ fn put_date_and_time<W: fmt::Write>(time: &MysqlTime, f: &mut fmt::Formatter<W>)
     put_after_hour(time, f)
 }
 
-/// Minutes, seconds and, with a precision, the first digits of the microseconds.
+/// Writes minutes, seconds and, with a precision, the first digits of the microseconds.
 #[tactic(auto, unfolding(crate::specs::TimeTexts::after_hour))]
 fn put_after_hour<W: fmt::Write>(time: &MysqlTime, f: &mut fmt::Formatter<W>) -> fmt::Result
     ensures { WritesStyledOnOk W.write_str_gives f.old result
@@ -119,7 +119,7 @@ fn put_after_hour<W: fmt::Write>(time: &MysqlTime, f: &mut fmt::Formatter<W>) ->
     put_fraction(time.second_part, precision, f)
 }
 
-/// A point and so many digits of the microseconds, six at most; nothing without a precision.
+/// Writes a point and that many digits of the microseconds, six at most; nothing without a precision.
 #[tactic(auto, unfolding(crate::specs::TimeTexts::micros_text))]
 fn put_fraction<W: fmt::Write>(
     micros: u32,
@@ -141,7 +141,7 @@ fn put_fraction<W: fmt::Write>(
     Ok(())
 }
 
-/// Hours in a width of two, in which a minus counts.
+/// Writes the hours in a width of two, which includes a minus.
 #[tactic(auto, unfolding(crate::specs::TimeTexts::zone_hours))]
 fn put_zone_hours<W: fmt::Write>(
     negative: bool,
@@ -157,7 +157,7 @@ fn put_zone_hours<W: fmt::Write>(
     put_at_least_two(hours, f)
 }
 
-/// The displacement as hours toward zero, its sign counted in their width, and minutes.
+/// Writes the offset as hours rounded toward zero, with the sign in their width, and minutes.
 #[tactic(auto, unfolding(crate::specs::TimeTexts::zone_text))]
 fn put_zone<W: fmt::Write>(seconds: i32, f: &mut fmt::Formatter<W>) -> fmt::Result
     ensures { WritesStyledOnOk W.write_str_gives f.old result (zone_text seconds) f.new }

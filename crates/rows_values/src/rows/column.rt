@@ -8,7 +8,7 @@ use std::borrow::CowStr;
 use std::str;
 use wire_consts::{ColumnFlags, ColumnType};
 
-/// The definition of a column, as far as the rows of a binary log have it.
+/// The definition of a column, as far as a binary log has it.
 #[derive(Debug, PartialEq, Eq, Drop)]
 pub struct Column {
     column_type: ColumnType,
@@ -21,7 +21,7 @@ pub struct Column {
 }
 
 impl Column {
-    /// A column of this type, without names, flags and character set.
+    /// Returns a column of this type, without names, flags and character set.
     pub fn new(alloc: Global, column_type: ColumnType) -> Column
         ensures { parts_of result ≡ parts_of_type column_type }
     {
@@ -36,14 +36,14 @@ impl Column {
         }
     }
 
-    /// The type of the column.
+    /// Returns the type of the column.
     pub fn column_type(&self) -> ColumnType
         ensures { result ≡ (parts_of self.now).column_type }
     {
         self.column_type
     }
 
-    /// The column with the name of its schema. Where memory is refused the column is dropped.
+    /// Returns the column with this schema name. The error is out of memory; the column is then dropped.
     pub fn with_schema(mut self, schema: &[u8]) -> Result<Column, AllocError>
         ensures { IfOk result (λ c. parts_of c ≡ record (parts_of self) { schema = schema.now }) }
     {
@@ -52,21 +52,21 @@ impl Column {
         Ok(self)
     }
 
-    /// The name of the schema.
+    /// Returns the name of the schema.
     pub fn schema_ref(&self) -> &[u8]
         ensures { result.now ≡ (parts_of self.now).schema }
     {
         &self.schema
     }
 
-    /// The name of the schema as text; what isn't UTF-8 in it is replaced.
+    /// Returns the name of the schema as text; bytes that aren't UTF-8 are replaced.
     pub fn schema_str(&self, alloc: Global) -> Result<CowStr<'_, Global>, AllocError>
         ensures { IfOk result (λ t. cow_str_bytes t ≡ utf8_lossy ((parts_of self.now).schema)) }
     {
-        lossy(alloc, &self.schema)
+        lossy_text(alloc, &self.schema)
     }
 
-    /// The column with the name of its table. Where memory is refused the column is dropped.
+    /// Returns the column with this table name. The error is out of memory; the column is then dropped.
     pub fn with_table(mut self, table: &[u8]) -> Result<Column, AllocError>
         ensures { IfOk result (λ c. parts_of c ≡ record (parts_of self) { table = table.now }) }
     {
@@ -75,21 +75,22 @@ impl Column {
         Ok(self)
     }
 
-    /// The name of the table, which may be an alias.
+    /// Returns the name of the table, which may be an alias.
     pub fn table_ref(&self) -> &[u8]
         ensures { result.now ≡ (parts_of self.now).table }
     {
         &self.table
     }
 
-    /// The name of the table, which may be an alias, as text; what isn't UTF-8 in it is replaced.
+    /// Returns the name of the table, which may be an alias, as text; bytes that aren't UTF-8 are replaced.
     pub fn table_str(&self, alloc: Global) -> Result<CowStr<'_, Global>, AllocError>
         ensures { IfOk result (λ t. cow_str_bytes t ≡ utf8_lossy ((parts_of self.now).table)) }
     {
-        lossy(alloc, &self.table)
+        lossy_text(alloc, &self.table)
     }
 
-    /// The column with the name of its table in the schema. Where memory is refused the column is dropped.
+    /// Returns the column with this original table name, its name in the schema. The error is out of memory;
+    /// the column is then dropped.
     pub fn with_org_table(mut self, org_table: &[u8]) -> Result<Column, AllocError>
         ensures { IfOk result (λ c. parts_of c ≡ record (parts_of self) { org_table = org_table.now }) }
     {
@@ -98,21 +99,21 @@ impl Column {
         Ok(self)
     }
 
-    /// The name of the table in its schema.
+    /// Returns the original name of the table, its name in the schema.
     pub fn org_table_ref(&self) -> &[u8]
         ensures { result.now ≡ (parts_of self.now).org_table }
     {
         &self.org_table
     }
 
-    /// The name of the table in its schema as text; what isn't UTF-8 in it is replaced.
+    /// Returns the original name of the table as text; bytes that aren't UTF-8 are replaced.
     pub fn org_table_str(&self, alloc: Global) -> Result<CowStr<'_, Global>, AllocError>
         ensures { IfOk result (λ t. cow_str_bytes t ≡ utf8_lossy ((parts_of self.now).org_table)) }
     {
-        lossy(alloc, &self.org_table)
+        lossy_text(alloc, &self.org_table)
     }
 
-    /// The column with its name. Where memory is refused the column is dropped.
+    /// Returns the column with this name. The error is out of memory; the column is then dropped.
     pub fn with_name(mut self, name: &[u8]) -> Result<Column, AllocError>
         ensures { IfOk result (λ c. parts_of c ≡ record (parts_of self) { name = name.now }) }
     {
@@ -121,21 +122,21 @@ impl Column {
         Ok(self)
     }
 
-    /// The name of the column.
+    /// Returns the name of the column.
     pub fn name_ref(&self) -> &[u8]
         ensures { result.now ≡ (parts_of self.now).name }
     {
         &self.name
     }
 
-    /// The name of the column as text; what isn't UTF-8 in it is replaced.
+    /// Returns the name of the column as text; bytes that aren't UTF-8 are replaced.
     pub fn name_str(&self, alloc: Global) -> Result<CowStr<'_, Global>, AllocError>
         ensures { IfOk result (λ t. cow_str_bytes t ≡ utf8_lossy ((parts_of self.now).name)) }
     {
-        lossy(alloc, &self.name)
+        lossy_text(alloc, &self.name)
     }
 
-    /// The column with its flags.
+    /// Returns the column with these flags.
     pub fn with_flags(mut self, flags: ColumnFlags) -> Column
         ensures { parts_of result ≡ record (parts_of self) { flags = flags } }
     {
@@ -143,14 +144,14 @@ impl Column {
         self
     }
 
-    /// The flags.
+    /// Returns the flags.
     pub fn flags(&self) -> ColumnFlags
         ensures { result ≡ (parts_of self.now).flags }
     {
         self.flags
     }
 
-    /// The column with its character set, by the number of a collation.
+    /// Returns the column with this character set, given as the number of a collation.
     pub fn with_character_set(mut self, character_set: u16) -> Column
         ensures { parts_of result ≡ record (parts_of self) { character_set = character_set } }
     {
@@ -158,14 +159,14 @@ impl Column {
         self
     }
 
-    /// The number of the collation.
+    /// Returns the character set as the number of a collation; 0 if none was set.
     pub fn character_set(&self) -> u16
         ensures { result ≡ (parts_of self.now).character_set }
     {
         self.character_set
     }
 
-    /// A column of the same parts, its names in memory of their own. Want of memory is refused.
+    /// Returns an owned copy of the column. The error is out of memory.
     pub fn clone(&self, alloc: Global) -> Result<Column, AllocError>
         ensures { IfOk result (λ copy. parts_of copy ≡ parts_of self.now) }
     {
@@ -181,8 +182,8 @@ impl Column {
     }
 }
 
-/// The bytes as text, which is borrowed where they are UTF-8.
-fn lossy<'a>(alloc: Global, bytes: &'a [u8]) -> Result<CowStr<'a, Global>, AllocError>
+/// Returns the bytes as text, borrowed if they are UTF-8.
+fn lossy_text<'a>(alloc: Global, bytes: &'a [u8]) -> Result<CowStr<'a, Global>, AllocError>
     ensures { IfOk result (λ t. cow_str_bytes t ≡ utf8_lossy bytes.now) }
 {
     match str::from_utf8(bytes) {

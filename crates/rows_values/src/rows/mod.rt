@@ -1,4 +1,4 @@
-//! Rows: their columns, and the values of their cells.
+//! Rows: their columns and the values of their cells.
 
 mod column;
 mod row;

@@ -7,14 +7,14 @@ use crate::rows::{Column, Value};
 use std::alloc::{AllocError, Global};
 use std::rc::RcSlice;
 
-/// A row: its columns, and for each of them a value, or None where there is no value.
+/// A row: its columns, and a value or None for each of them.
 #[derive(Debug, PartialEq, Drop)]
 pub struct Row {
     values: Vec<Option<Value>>,
     columns: RcSlice<Column, Global>,
 }
 
-/// A row of these values and columns.
+/// Returns a row of these values and columns.
 pub fn new_row_raw(values: Vec<Option<Value>>, columns: RcSlice<Column, Global>) -> Row
     ensures values { values_of result ≡ values.items }
     ensures columns { columns_of result ≡ rc_slice_items columns }
@@ -23,29 +23,28 @@ pub fn new_row_raw(values: Vec<Option<Value>>, columns: RcSlice<Column, Global>)
 }
 
 impl Row {
-    /// How many places for values the row has, with those where there is none.
+    /// Returns the number of cells, including those without a value.
     pub fn len(&self) -> usize
         ensures { result ≡ length (values_of self.now) }
     {
         self.values.len()
     }
 
-    /// The columns of the row.
+    /// Returns the columns of the row.
     pub fn columns_ref(&self) -> &[Column]
         ensures { result.now ≡ columns_of self.now }
     {
         self.columns.as_slice()
     }
 
-    /// The value at this index; None past the last, and where there is no value.
+    /// Returns the value at this index, or None if the index is out of range or the cell has no value.
     pub fn as_ref(&self, index: usize) -> Option<&Value>
         ensures { option_copied result ≡ value_at (values_of self.now) index }
     {
         self.values.get(index)?.as_ref()
     }
 
-    /// A row of the same values, in memory of their own, and of the same columns, which both rows
-    /// then have in common. Want of memory is refused.
+    /// Returns an owned copy of the values, with the columns shared by both rows. The error is out of memory.
     pub fn clone(&self, alloc: Global) -> Result<Row, AllocError>
         ensures values { IfOk result (λ copy. AllZip SameCell (values_of self.now) (values_of copy)) }
         ensures columns { IfOk result (λ copy. columns_of copy ≡ columns_of self.now) }
@@ -61,7 +60,7 @@ impl Row {
     }
 }
 
-/// The same value in memory of its own, or again none.
+/// Returns an owned copy of the value, if there is one.
 fn copy_of(value: &Option<Value>, alloc: Global) -> Result<Option<Value>, AllocError>
     ensures { IfOk result (λ copy. SameCell value.now copy) }
 {

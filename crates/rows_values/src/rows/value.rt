@@ -4,29 +4,29 @@ ghost use Rattle.rows_values.specs.Values.{SameValue, span_value, date_value};
 use rows_times::MysqlTime;
 use std::alloc::{AllocError, Global};
 
-/// The value of a cell. Floats are kept as their bits, and so compared.
+/// The value of a cell. Floats are stored and compared as their bits.
 #[derive(Debug, PartialEq, Drop)]
 pub enum Value {
-    /// No value.
+    /// SQL's NULL.
     NULL,
-    /// Bytes, text or a number in decimal.
+    /// Bytes, text, or a decimal number as text.
     Bytes(Vec<u8>),
     /// An integer of up to 8 bytes, or an unsigned one of up to 4.
     Int(i64),
     /// An unsigned integer of 8 bytes.
     UInt(u64),
-    /// The bits of a float of 4 bytes.
+    /// The bits of a 4-byte float.
     Float(u32),
-    /// The bits of a float of 8 bytes.
+    /// The bits of an 8-byte float.
     Double(u64),
     /// Year, month, day, hour, minutes, seconds and microseconds.
     Date(u16, u8, u8, u8, u8, u8, u32),
-    /// Whether it is below zero; days, hours, minutes, seconds and microseconds.
+    /// Whether the time is negative; days, hours, minutes, seconds and microseconds.
     Time(bool, u32, u8, u8, u8, u32),
 }
 
 impl Value {
-    /// The same value in memory of its own.
+    /// Returns an owned copy of the value. The error is out of memory.
     pub fn clone(&self, alloc: Global) -> Result<Value, AllocError>
         ensures { IfOk result (λ copy. SameValue self.now copy) }
     {
@@ -47,7 +47,7 @@ impl Value {
     }
 }
 
-/// The span of time that is packed, its hours split into days and hours.
+/// Returns the time span of a packed value, with its hours split into days and hours.
 pub fn time_from_packed(packed: i64) -> Value
     ensures { result ≡ span_value packed }
 {
@@ -62,7 +62,7 @@ pub fn time_from_packed(packed: i64) -> Value
     )
 }
 
-/// The date and time that are packed. A sign is dropped.
+/// Returns the date and time of a packed value. A sign is dropped.
 pub fn datetime_from_packed(packed: i64) -> Value
     ensures { result ≡ date_value packed }
 {

@@ -1,17 +1,17 @@
 //! Length-encoded integers.
 
 ghost use Rattle.std.specs.Prelude.{◌≡◌, IfSome, IfNone, option_map};
-ghost use Rattle.wire_buf.specs.Spelling.{Reads, Lacks, BeginsWith, Alone};
+ghost use Rattle.wire_buf.specs.Encoding.{Reads, Lacks, BeginsWith, Alone};
 ghost use Rattle.wire_buf.specs.Numbers.{IsLenenc};
-ghost use Rattle.wire_buf.specs.Fronts.{lenenc_front};
+ghost use Rattle.wire_buf.specs.LenencSplit.{split_lenenc};
 
 use super::ParseBuf;
 
 impl<'a> ParseBuf<'a> {
-    /// The length-encoded integer at the front, and what follows it.
-    #[tactic(auto, unfolding(crate::specs::Fronts::lenenc_front, crate::specs::Fronts::number_front))]
-    fn front_lenenc_int(&self) -> Option<(u64, ParseBuf<'a>)>
-        ensures { option_map (λ p. (p.0, p.1.0.now)) result ≡ lenenc_front self.now.0.now }
+    /// Returns the length-encoded integer at the start, and the bytes after it.
+    #[tactic(auto, unfolding(crate::specs::LenencSplit::split_lenenc, crate::specs::LenencSplit::split_number))]
+    fn split_lenenc_int(&self) -> Option<(u64, ParseBuf<'a>)>
+        ensures { option_map (λ p. (p.0, p.1.0.now)) result ≡ split_lenenc self.now.0.now }
     {
         let mut rest = *self;
         let first = rest.checked_eat_u8()?;
@@ -27,7 +27,7 @@ impl<'a> ParseBuf<'a> {
         Some((value, rest))
     }
 
-    /// A length-encoded integer, which is known to stand there.
+    /// Reads a length-encoded integer. The buffer must begin with one.
     pub fn eat_lenenc_int(&mut self) -> u64
         requires { BeginsWith (Alone IsLenenc) self.old.0.now }
         ensures { Reads (Alone IsLenenc) result self.old.0.now self.new.0.now }
@@ -35,15 +35,17 @@ impl<'a> ParseBuf<'a> {
         self.checked_eat_lenenc_int().unwrap()
     }
 
-    /// A length-encoded integer, or None where bytes are missing or the first is 251 or 255. A
-    /// longer spelling than needed is taken too.
+    /// Reads a length-encoded integer, or returns None if bytes are missing or the first is 251 or 255. An
+    /// encoding longer than needed is accepted.
+    ///
+    /// MySQL's manual: Protocol::LengthEncodedInteger.
     pub fn checked_eat_lenenc_int(&mut self) -> Option<u64>
         ensures some { IfSome result
             (λ v. Reads (Alone IsLenenc) v self.old.0.now self.new.0.now) }
         ensures none { IfNone result
             (Lacks (Alone IsLenenc) self.old.0.now × (self.new.0.now ≡ self.old.0.now)) }
     {
-        let (value, rest) = self.front_lenenc_int()?;
+        let (value, rest) = self.split_lenenc_int()?;
         *self = rest;
         Some(value)
     }

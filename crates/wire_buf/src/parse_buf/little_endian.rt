@@ -1,4 +1,4 @@
-//! Numbers whose lowest byte comes first.
+//! Little-endian integers of 2 to 8 and 16 bytes.
 
 ghost use Rattle.std.specs.Prelude.{◌≡◌, ◌≤◌, length, drop, IfSome, IfNone};
 ghost use Rattle.byteorder.specs.Endian.{little_number};
@@ -9,7 +9,7 @@ use super::ParseBuf;
 use byteorder::{ByteOrder, LittleEndian};
 
 impl ParseBuf<'_> {
-    /// An unsigned number of two bytes.
+    /// Reads an unsigned 2-byte little-endian integer.
     pub fn eat_u16_le(&mut self) -> u16
         requires { 2 ≤ length self.old.0.now }
         ensures value { result ≡ little_number 2 self.old.0.now }
@@ -20,7 +20,7 @@ impl ParseBuf<'_> {
         value
     }
 
-    /// An unsigned number of two bytes, or None where fewer are left.
+    /// Reads an unsigned 2-byte little-endian integer, or returns None if fewer bytes remain.
     pub fn checked_eat_u16_le(&mut self) -> Option<u16>
         ensures some { IfSome result
             (λ v. Eats (little_number 2) 2 v self.old.0.now self.new.0.now) }
@@ -32,7 +32,7 @@ impl ParseBuf<'_> {
         Some(self.eat_u16_le())
     }
 
-    /// A signed number of two bytes.
+    /// Reads a signed 2-byte little-endian integer.
     pub fn eat_i16_le(&mut self) -> i16
         requires { 2 ≤ length self.old.0.now }
         ensures value { result ≡ little_signed 2 self.old.0.now }
@@ -41,7 +41,7 @@ impl ParseBuf<'_> {
         self.eat_u16_le().cast_signed()
     }
 
-    /// A signed number of two bytes, or None where fewer are left.
+    /// Reads a signed 2-byte little-endian integer, or returns None if fewer bytes remain.
     pub fn checked_eat_i16_le(&mut self) -> Option<i16>
         ensures some { IfSome result
             (λ v. Eats (little_signed 2) 2 v self.old.0.now self.new.0.now) }
@@ -53,7 +53,7 @@ impl ParseBuf<'_> {
         Some(self.eat_i16_le())
     }
 
-    /// An unsigned number of three bytes.
+    /// Reads an unsigned 3-byte little-endian integer.
     pub fn eat_u24_le(&mut self) -> u32
         requires { 3 ≤ length self.old.0.now }
         ensures value { result ≡ little_number 3 self.old.0.now }
@@ -64,7 +64,7 @@ impl ParseBuf<'_> {
         value
     }
 
-    /// An unsigned number of three bytes, or None where fewer are left.
+    /// Reads an unsigned 3-byte little-endian integer, or returns None if fewer bytes remain.
     pub fn checked_eat_u24_le(&mut self) -> Option<u32>
         ensures some { IfSome result
             (λ v. Eats (little_number 3) 3 v self.old.0.now self.new.0.now) }
@@ -76,7 +76,7 @@ impl ParseBuf<'_> {
         Some(self.eat_u24_le())
     }
 
-    /// A signed number of three bytes.
+    /// Reads a signed 3-byte little-endian integer.
     pub fn eat_i24_le(&mut self) -> i32
         requires { 3 ≤ length self.old.0.now }
         ensures value { result ≡ little_signed 3 self.old.0.now }
@@ -87,7 +87,7 @@ impl ParseBuf<'_> {
         value
     }
 
-    /// A signed number of three bytes, or None where fewer are left.
+    /// Reads a signed 3-byte little-endian integer, or returns None if fewer bytes remain.
     pub fn checked_eat_i24_le(&mut self) -> Option<i32>
         ensures some { IfSome result
             (λ v. Eats (little_signed 3) 3 v self.old.0.now self.new.0.now) }
@@ -99,7 +99,7 @@ impl ParseBuf<'_> {
         Some(self.eat_i24_le())
     }
 
-    /// An unsigned number of four bytes.
+    /// Reads an unsigned 4-byte little-endian integer.
     pub fn eat_u32_le(&mut self) -> u32
         requires { 4 ≤ length self.old.0.now }
         ensures value { result ≡ little_number 4 self.old.0.now }
@@ -110,7 +110,7 @@ impl ParseBuf<'_> {
         value
     }
 
-    /// An unsigned number of four bytes, or None where fewer are left.
+    /// Reads an unsigned 4-byte little-endian integer, or returns None if fewer bytes remain.
     pub fn checked_eat_u32_le(&mut self) -> Option<u32>
         ensures some { IfSome result
             (λ v. Eats (little_number 4) 4 v self.old.0.now self.new.0.now) }
@@ -122,7 +122,7 @@ impl ParseBuf<'_> {
         Some(self.eat_u32_le())
     }
 
-    /// A signed number of four bytes.
+    /// Reads a signed 4-byte little-endian integer.
     pub fn eat_i32_le(&mut self) -> i32
         requires { 4 ≤ length self.old.0.now }
         ensures value { result ≡ little_signed 4 self.old.0.now }
@@ -131,7 +131,7 @@ impl ParseBuf<'_> {
         self.eat_u32_le().cast_signed()
     }
 
-    /// A signed number of four bytes, or None where fewer are left.
+    /// Reads a signed 4-byte little-endian integer, or returns None if fewer bytes remain.
     pub fn checked_eat_i32_le(&mut self) -> Option<i32>
         ensures some { IfSome result
             (λ v. Eats (little_signed 4) 4 v self.old.0.now self.new.0.now) }
@@ -143,7 +143,7 @@ impl ParseBuf<'_> {
         Some(self.eat_i32_le())
     }
 
-    /// An unsigned number of five bytes.
+    /// Reads an unsigned 5-byte little-endian integer.
     pub fn eat_u40_le(&mut self) -> u64
         requires { 5 ≤ length self.old.0.now }
         ensures value { result ≡ little_number 5 self.old.0.now }
@@ -154,7 +154,7 @@ impl ParseBuf<'_> {
         value
     }
 
-    /// An unsigned number of five bytes, or None where fewer are left.
+    /// Reads an unsigned 5-byte little-endian integer, or returns None if fewer bytes remain.
     pub fn checked_eat_u40_le(&mut self) -> Option<u64>
         ensures some { IfSome result
             (λ v. Eats (little_number 5) 5 v self.old.0.now self.new.0.now) }
@@ -166,7 +166,7 @@ impl ParseBuf<'_> {
         Some(self.eat_u40_le())
     }
 
-    /// A signed number of five bytes.
+    /// Reads a signed 5-byte little-endian integer.
     pub fn eat_i40_le(&mut self) -> i64
         requires { 5 ≤ length self.old.0.now }
         ensures value { result ≡ little_signed 5 self.old.0.now }
@@ -177,7 +177,7 @@ impl ParseBuf<'_> {
         value
     }
 
-    /// A signed number of five bytes, or None where fewer are left.
+    /// Reads a signed 5-byte little-endian integer, or returns None if fewer bytes remain.
     pub fn checked_eat_i40_le(&mut self) -> Option<i64>
         ensures some { IfSome result
             (λ v. Eats (little_signed 5) 5 v self.old.0.now self.new.0.now) }
@@ -189,7 +189,7 @@ impl ParseBuf<'_> {
         Some(self.eat_i40_le())
     }
 
-    /// An unsigned number of six bytes.
+    /// Reads an unsigned 6-byte little-endian integer.
     pub fn eat_u48_le(&mut self) -> u64
         requires { 6 ≤ length self.old.0.now }
         ensures value { result ≡ little_number 6 self.old.0.now }
@@ -200,7 +200,7 @@ impl ParseBuf<'_> {
         value
     }
 
-    /// An unsigned number of six bytes, or None where fewer are left.
+    /// Reads an unsigned 6-byte little-endian integer, or returns None if fewer bytes remain.
     pub fn checked_eat_u48_le(&mut self) -> Option<u64>
         ensures some { IfSome result
             (λ v. Eats (little_number 6) 6 v self.old.0.now self.new.0.now) }
@@ -212,7 +212,7 @@ impl ParseBuf<'_> {
         Some(self.eat_u48_le())
     }
 
-    /// A signed number of six bytes.
+    /// Reads a signed 6-byte little-endian integer.
     pub fn eat_i48_le(&mut self) -> i64
         requires { 6 ≤ length self.old.0.now }
         ensures value { result ≡ little_signed 6 self.old.0.now }
@@ -223,7 +223,7 @@ impl ParseBuf<'_> {
         value
     }
 
-    /// A signed number of six bytes, or None where fewer are left.
+    /// Reads a signed 6-byte little-endian integer, or returns None if fewer bytes remain.
     pub fn checked_eat_i48_le(&mut self) -> Option<i64>
         ensures some { IfSome result
             (λ v. Eats (little_signed 6) 6 v self.old.0.now self.new.0.now) }
@@ -235,7 +235,7 @@ impl ParseBuf<'_> {
         Some(self.eat_i48_le())
     }
 
-    /// An unsigned number of seven bytes.
+    /// Reads an unsigned 7-byte little-endian integer.
     pub fn eat_u56_le(&mut self) -> u64
         requires { 7 ≤ length self.old.0.now }
         ensures value { result ≡ little_number 7 self.old.0.now }
@@ -246,7 +246,7 @@ impl ParseBuf<'_> {
         value
     }
 
-    /// An unsigned number of seven bytes, or None where fewer are left.
+    /// Reads an unsigned 7-byte little-endian integer, or returns None if fewer bytes remain.
     pub fn checked_eat_u56_le(&mut self) -> Option<u64>
         ensures some { IfSome result
             (λ v. Eats (little_number 7) 7 v self.old.0.now self.new.0.now) }
@@ -258,7 +258,7 @@ impl ParseBuf<'_> {
         Some(self.eat_u56_le())
     }
 
-    /// A signed number of seven bytes.
+    /// Reads a signed 7-byte little-endian integer.
     pub fn eat_i56_le(&mut self) -> i64
         requires { 7 ≤ length self.old.0.now }
         ensures value { result ≡ little_signed 7 self.old.0.now }
@@ -269,7 +269,7 @@ impl ParseBuf<'_> {
         value
     }
 
-    /// A signed number of seven bytes, or None where fewer are left.
+    /// Reads a signed 7-byte little-endian integer, or returns None if fewer bytes remain.
     pub fn checked_eat_i56_le(&mut self) -> Option<i64>
         ensures some { IfSome result
             (λ v. Eats (little_signed 7) 7 v self.old.0.now self.new.0.now) }
@@ -281,7 +281,7 @@ impl ParseBuf<'_> {
         Some(self.eat_i56_le())
     }
 
-    /// An unsigned number of eight bytes.
+    /// Reads an unsigned 8-byte little-endian integer.
     pub fn eat_u64_le(&mut self) -> u64
         requires { 8 ≤ length self.old.0.now }
         ensures value { result ≡ little_number 8 self.old.0.now }
@@ -292,7 +292,7 @@ impl ParseBuf<'_> {
         value
     }
 
-    /// An unsigned number of eight bytes, or None where fewer are left.
+    /// Reads an unsigned 8-byte little-endian integer, or returns None if fewer bytes remain.
     pub fn checked_eat_u64_le(&mut self) -> Option<u64>
         ensures some { IfSome result
             (λ v. Eats (little_number 8) 8 v self.old.0.now self.new.0.now) }
@@ -304,7 +304,7 @@ impl ParseBuf<'_> {
         Some(self.eat_u64_le())
     }
 
-    /// A signed number of eight bytes.
+    /// Reads a signed 8-byte little-endian integer.
     pub fn eat_i64_le(&mut self) -> i64
         requires { 8 ≤ length self.old.0.now }
         ensures value { result ≡ little_signed 8 self.old.0.now }
@@ -313,7 +313,7 @@ impl ParseBuf<'_> {
         self.eat_u64_le().cast_signed()
     }
 
-    /// A signed number of eight bytes, or None where fewer are left.
+    /// Reads a signed 8-byte little-endian integer, or returns None if fewer bytes remain.
     pub fn checked_eat_i64_le(&mut self) -> Option<i64>
         ensures some { IfSome result
             (λ v. Eats (little_signed 8) 8 v self.old.0.now self.new.0.now) }
@@ -325,7 +325,7 @@ impl ParseBuf<'_> {
         Some(self.eat_i64_le())
     }
 
-    /// An unsigned number of sixteen bytes.
+    /// Reads an unsigned 16-byte little-endian integer.
     pub fn eat_u128_le(&mut self) -> u128
         requires { 16 ≤ length self.old.0.now }
         ensures value { result ≡ little_number 16 self.old.0.now }
@@ -336,7 +336,7 @@ impl ParseBuf<'_> {
         value
     }
 
-    /// An unsigned number of sixteen bytes, or None where fewer are left.
+    /// Reads an unsigned 16-byte little-endian integer, or returns None if fewer bytes remain.
     pub fn checked_eat_u128_le(&mut self) -> Option<u128>
         ensures some { IfSome result
             (λ v. Eats (little_number 16) 16 v self.old.0.now self.new.0.now) }
@@ -348,7 +348,7 @@ impl ParseBuf<'_> {
         Some(self.eat_u128_le())
     }
 
-    /// A signed number of sixteen bytes.
+    /// Reads a signed 16-byte little-endian integer.
     pub fn eat_i128_le(&mut self) -> i128
         requires { 16 ≤ length self.old.0.now }
         ensures value { result ≡ little_signed 16 self.old.0.now }
@@ -357,7 +357,7 @@ impl ParseBuf<'_> {
         self.eat_u128_le().cast_signed()
     }
 
-    /// A signed number of sixteen bytes, or None where fewer are left.
+    /// Reads a signed 16-byte little-endian integer, or returns None if fewer bytes remain.
     pub fn checked_eat_i128_le(&mut self) -> Option<i128>
         ensures some { IfSome result
             (λ v. Eats (little_signed 16) 16 v self.old.0.now self.new.0.now) }

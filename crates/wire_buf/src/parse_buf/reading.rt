@@ -1,4 +1,4 @@
-//! A `ParseBuf` as a reader.
+//! `io::Read` for a `ParseBuf`.
 
 ghost use Rattle.std.specs.Prelude.{◌≡◌, ◌++◌, Some, Ok, IfOk, length, take, drop, min};
 ghost use Rattle.std.specs.Io.{ReadsAtMost};
@@ -8,7 +8,7 @@ use super::ParseBuf;
 use std::io;
 use std::io::Read;
 
-/// Reads what is left, in front order: as many bytes as there are and fit. It never fails.
+/// Reads the next bytes: as many as remain and fit. It never fails.
 impl Read for ParseBuf<'_> {
     ghost remaining = { λ buf. Some buf.0.now };
 

@@ -1,7 +1,7 @@
-//! Strings: behind a count of their bytes, or up to a zero.
+//! Strings with a length prefix, and strings that a zero byte ends.
 
 ghost use Rattle.std.specs.Prelude.{◌≡◌, IfSome, IfNone};
-ghost use Rattle.wire_buf.specs.Spelling.{Reads, Lacks, BeginsWith, Alone};
+ghost use Rattle.wire_buf.specs.Encoding.{Reads, Lacks, BeginsWith, Alone};
 ghost use Rattle.wire_buf.specs.Numbers.{IsLenencString, IsShortString, IsLongString};
 ghost use Rattle.wire_buf.specs.Eating.{TakesToZero};
 
@@ -9,7 +9,7 @@ use super::ParseBuf;
 use memchr::memchr;
 
 impl<'a> ParseBuf<'a> {
-    /// A length-encoded string, which is known to stand there.
+    /// Reads a length-encoded string. The buffer must begin with one.
     pub fn eat_lenenc_str(&mut self) -> &'a [u8]
         requires { BeginsWith (Alone IsLenencString) self.old.0.now }
         ensures { Reads (Alone IsLenencString) result.now self.old.0.now self.new.0.now }
@@ -17,8 +17,8 @@ impl<'a> ParseBuf<'a> {
         self.checked_eat_lenenc_str().unwrap()
     }
 
-    /// A string behind its length as a length-encoded integer, or None where bytes are missing or
-    /// the length is ill-formed.
+    /// Reads a length-encoded string (its length as a length-encoded integer, then its bytes), or returns
+    /// None if bytes are missing or the length is ill-formed.
     pub fn checked_eat_lenenc_str(&mut self) -> Option<&'a [u8]>
         ensures some { IfSome result
             (λ s. Reads (Alone IsLenencString) s.now self.old.0.now self.new.0.now) }
@@ -32,7 +32,7 @@ impl<'a> ParseBuf<'a> {
         Some(bytes)
     }
 
-    /// A string behind its length in one byte, which is known to stand there.
+    /// Reads a string whose length is its first byte. The buffer must begin with one.
     pub fn eat_u8_str(&mut self) -> &'a [u8]
         requires { BeginsWith (Alone IsShortString) self.old.0.now }
         ensures { Reads (Alone IsShortString) result.now self.old.0.now self.new.0.now }
@@ -40,7 +40,7 @@ impl<'a> ParseBuf<'a> {
         self.checked_eat_u8_str().unwrap()
     }
 
-    /// A string behind its length in one byte, or None where bytes are missing.
+    /// Reads a string whose length is its first byte, or returns None if bytes are missing.
     pub fn checked_eat_u8_str(&mut self) -> Option<&'a [u8]>
         ensures some { IfSome result
             (λ s. Reads (Alone IsShortString) s.now self.old.0.now self.new.0.now) }
@@ -54,7 +54,7 @@ impl<'a> ParseBuf<'a> {
         Some(bytes)
     }
 
-    /// A string behind its length in four bytes, which is known to stand there.
+    /// Reads a string with a 4-byte little-endian length before it. The buffer must begin with one.
     pub fn eat_u32_str(&mut self) -> &'a [u8]
         requires { BeginsWith (Alone IsLongString) self.old.0.now }
         ensures { Reads (Alone IsLongString) result.now self.old.0.now self.new.0.now }
@@ -62,7 +62,7 @@ impl<'a> ParseBuf<'a> {
         self.checked_eat_u32_str().unwrap()
     }
 
-    /// A string behind its length in four bytes, or None where bytes are missing.
+    /// Reads a string with a 4-byte little-endian length before it, or returns None if bytes are missing.
     pub fn checked_eat_u32_str(&mut self) -> Option<&'a [u8]>
         ensures some { IfSome result
             (λ s. Reads (Alone IsLongString) s.now self.old.0.now self.new.0.now) }
@@ -76,7 +76,8 @@ impl<'a> ParseBuf<'a> {
         Some(bytes)
     }
 
-    /// The bytes before the first zero, which is eaten too; all bytes where there is no zero.
+    /// Returns the bytes before the first zero byte, which is skipped; all remaining bytes if there is no
+    /// zero.
     pub fn eat_null_str(&mut self) -> &'a [u8]
         ensures { TakesToZero result.now self.old.0.now self.new.0.now }
     {

@@ -2,7 +2,7 @@ use Rattle.std.proofs.Common.{◌≡◌, ◌≤◌, ◌-◌, length, drop}
 use Rattle.crc32.specs.Checksums.{after_bytes}
 use Rattle.crc32.proofs.register.register_after.Given as goal
 
--- what is left leads to the same register
+-- the remaining bytes lead to the same register
 abbrev pub invariant-loop-at : goal.invariant-loop-at
 invariant-loop-at l = record {
   in_range : l.at ≤ length l.bytes;

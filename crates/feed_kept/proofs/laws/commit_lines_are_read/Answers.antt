@@ -5,4 +5,4 @@ pub returns-clause-read : goal.returns-clause-read
 returns-clause-read c = commit_in-commit_line
 
 pub returns-clause-only : goal.returns-clause-only
-returns-clause-only c = λ line place e. let h = commit_in-some line place e in (h.fits, h.is)
+returns-clause-only c = λ line position e. let h = commit_in-some line position e in (h.fits, h.is)

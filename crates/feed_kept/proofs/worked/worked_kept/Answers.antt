@@ -47,13 +47,13 @@ pub returns-clause-too_great : goal.returns-clause-too_great
 unfolding digits lines commit_in kept_back kept
 returns-clause-too_great c = refl
 
-pub returns-clause-torn : goal.returns-clause-torn
+pub returns-clause-truncated : goal.returns-clause-truncated
 unfolding digits lines commit_in kept_back kept
-returns-clause-torn c = refl
+returns-clause-truncated c = refl
 
-pub returns-clause-torn_behind_another : goal.returns-clause-torn_behind_another
+pub returns-clause-truncated_after_another : goal.returns-clause-truncated_after_another
 unfolding digits lines commit_in kept_back kept
-returns-clause-torn_behind_another c = refl
+returns-clause-truncated_after_another c = refl
 
 pub returns-clause-more_in_the_line : goal.returns-clause-more_in_the_line
 unfolding digits lines commit_in kept_back kept

@@ -1,13 +1,13 @@
 use Rattle.std.proofs.Common.{rules, ◌≡◌, Some, None}
-use Rattle.wire_buf.proofs.SpellingLemmas.{IfErr-of_same}
+use Rattle.wire_buf.proofs.EncodingLemmas.{IfErr-of_same}
 use Rattle.rows_cells.specs.ImageViews.{image_shape}
 use Rattle.rows_cells.specs.RowViews.{second_shape}
-use Rattle.feed_rules.proofs.RowLineLemmas.{one_image, first_refused, second_put, second_not_put}
+use Rattle.feed_rules.proofs.RowLineLemmas.{one_image, first_failed, second_put, second_not_put}
 use Rattle.feed_rules.proofs.lines.put_images.Goals as goal
 
 pub returns-in_err-rest-clause-err : goal.returns-in_err-rest-clause-err
 returns-in_err-rest-clause-err g c =
-    IfErr-of_same _ _ _ c.from_residual.ensures (first_refused (image_shape c.args.plan.first) (second_shape c.args.plan.second) c.args.bytes.now _ c.in_err-rest.ensures.err)
+    IfErr-of_same _ _ _ c.from_residual.ensures (first_failed (image_shape c.args.plan.first) (second_shape c.args.plan.second) c.args.bytes.now _ c.in_err-rest.ensures.err)
 
 pub returns-in_default-clause-ok : goal.returns-in_default-clause-ok
 returns-in_default-clause-ok g c =

@@ -1,8 +1,8 @@
 use Rattle.std.proofs.Common.{rules, arith, refl, ◌≡◌, ◌<◌, length}
-use Rattle.wire_buf.proofs.SpellingLemmas.{IfErr-of_same}
+use Rattle.wire_buf.proofs.EncodingLemmas.{IfErr-of_same}
 use Rattle.rows_cells.specs.RowViews.{row_shape}
 use Rattle.feed_text.specs.Buffers.{text_in}
-use Rattle.feed_rules.proofs.RowLineLemmas.{none_put, more_put, all_put, lines_refused}
+use Rattle.feed_rules.proofs.RowLineLemmas.{none_put, more_put, all_put, lines_failed}
 use Rattle.feed_rules.proofs.lines.put_lines.Goals as goal
 
 pub loop-rest-init : goal.loop-rest-init
@@ -18,7 +18,7 @@ pub returns-in_err-rest-clause-err : goal.returns-in_err-rest-clause-err
 returns-in_err-rest-clause-err g c =
     let some : 0 < length c.loop-rest.rest.now = search (arith, rules) in
     IfErr-of_same _ _ _ c.from_residual-in_err-rest.ensures
-    (lines_refused (row_shape c.args.plan) c.args.start.now c.args.rows_data.now (text_in c.args.text.now) c.loop-rest.rest.now (text_in c.loop-rest.text) _ some c.loop-rest.invariant c.in_err-rest.ensures.err)
+    (lines_failed (row_shape c.args.plan) c.args.start.now c.args.rows_data.now (text_in c.args.text.now) c.loop-rest.rest.now (text_in c.loop-rest.text) _ some c.loop-rest.invariant c.in_err-rest.ensures.err)
 
 pub returns-clause-ok : goal.returns-clause-ok
 returns-clause-ok g c =

@@ -4,7 +4,7 @@ use Rattle.feed_text.specs.Buffers.{text_in}
 use Rattle.feed_rules.proofs.RowLineLemmas.{IsUnderway}
 use Rattle.feed_rules.proofs.lines.put_lines.Given as goal
 
--- the lines so far, and those of the rows that are left
+-- the lines so far, and those of the remaining rows
 abbrev pub invariant-loop-rest : goal.invariant-loop-rest
 invariant-loop-rest g l = IsUnderway (row_shape l.plan) l.start l.rows_data l.rest (text_in l.fn.text) (text_in l.text)
 

@@ -1,11 +1,11 @@
 use Rattle.std.proofs.Common.{rules, arith, refl, inl, ◌≤◌, ◌<◌, length}
-use Rattle.wire_buf.proofs.SpellingLemmas.{IfErr-of_same}
+use Rattle.wire_buf.proofs.EncodingLemmas.{IfErr-of_same}
 use Rattle.rows_cells.specs.RowViews.{row_shape}
-use Rattle.feed_rules.proofs.RowLineLemmas.{row_put, row_refused, row_empty, not_shorter}
+use Rattle.feed_rules.proofs.RowLineLemmas.{row_put, row_failed, row_empty, not_shorter}
 use Rattle.feed_rules.proofs.lines.put_row.Goals as goal
 
 pub returns-in_err-rest-clause-err : goal.returns-in_err-rest-clause-err
-returns-in_err-rest-clause-err g c = IfErr-of_same _ _ _ c.from_residual.ensures (row_refused (row_shape c.args.plan) c.args.bytes.now _ c.in_err-rest.ensures.err)
+returns-in_err-rest-clause-err g c = IfErr-of_same _ _ _ c.from_residual.ensures (row_failed (row_shape c.args.plan) c.args.bytes.now _ c.in_err-rest.ensures.err)
 
 pub returns-then-rest-bytes-clause-err : goal.returns-then-rest-bytes-clause-err
 returns-then-rest-bytes-clause-err g c =

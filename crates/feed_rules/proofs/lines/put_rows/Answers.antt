@@ -5,7 +5,7 @@ use Rattle.rows_events.specs.EventShapes.{event_shapes}
 use Rattle.rows_events.specs.RowPairs.{planned_table}
 use Rattle.rows_events.specs.Views.{body_of}
 use Rattle.feed_text.specs.Buffers.{text_in}
-use Rattle.feed_rules.proofs.RowLineLemmas.{no_rows, lines_put, lines_unput, columns_refused}
+use Rattle.feed_rules.proofs.RowLineLemmas.{no_rows, lines_put, lines_unput, columns_failed}
 use Rattle.feed_rules.proofs.lines.put_rows.Goals as goal
 
 pub returns-then-is_empty-clause-ok : goal.returns-then-is_empty-clause-ok
@@ -16,7 +16,7 @@ returns-then-is_empty-clause-ok g c =
 pub returns-in-Err-clause-err : goal.returns-in-Err-clause-err
 returns-in-Err-clause-err g c =
     let some : 0 < length (body_of c.args.event.now).rows_data = search (arith, rules) in
-    columns_refused (body_of c.args.event.now) (table_plan c.args.plan.now) c.in-Err.fault _ c.row_verdict.ensures some
+    columns_failed (body_of c.args.event.now) (table_plan c.args.plan.now) c.in-Err.fault _ c.row_verdict.ensures some
     (c.in-Err.ensures (planned_table c.args.plan.now) (body_of c.args.event.now) (body_of c.args.event.now).rows_data c.rows_by-rows.ensures)
 
 pub returns-clause-ok : goal.returns-clause-ok

@@ -1,5 +1,5 @@
 use Rattle.std.proofs.Common.{arith}
-use Rattle.feed_streams.specs.declared.form.PayloadForm.TheVariants.{Plain, SemiSync}
+use Rattle.feed_streams.specs.declared.format.PayloadFormat.TheVariants.{Plain, SemiSync}
 use Rattle.feed_streams.specs.Streams.{payload_of}
 use Rattle.feed_serving.specs.Serving.{closing_payload}
 use Rattle.feed_serving.proofs.RequestLemmas.{framing-length}

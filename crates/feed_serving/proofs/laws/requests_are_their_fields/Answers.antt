@@ -11,4 +11,4 @@ pub returns-clause-answered : goal.returns-clause-answered
 returns-clause-answered c = answered
 
 pub returns-clause-of_the_file : goal.returns-clause-of_the_file
-returns-clause-of_the_file c = λ r form limit place server name b h. subst (λ (a : Answer). IsOfTheFile a.outcome) (sym (answered r form limit place server name b h)) (answer-of-file r form limit b place)
+returns-clause-of_the_file c = λ r format limit position server name b h. subst (λ (a : Answer). IsOfTheFile a.outcome) (sym (answered r format limit position server name b h)) (answer-of-file r format limit b position)

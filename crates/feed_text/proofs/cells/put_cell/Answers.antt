@@ -1,23 +1,23 @@
 use Rattle.std.proofs.Common.{refl}
 use Rattle.std.proofs.lemmas.Result.{on_ok_weaker, IfErr-weaker}
 use Rattle.feed_text.specs.CellText.{kept_text}
-use Rattle.feed_text.proofs.CellLemmas.{appends, kept_value, kept_tree, kept_refused, kept_diffs, kept_diffs_refused}
+use Rattle.feed_text.proofs.CellLemmas.{appends, kept_value, kept_tree, kept_failed, kept_diffs, kept_diffs_failed}
 use Rattle.feed_text.proofs.cells.put_cell.Goals as goal
 
 pub returns-in-Value-clause-ok : goal.returns-in-Value-clause-ok
 returns-in-Value-clause-ok g c =
-    on_ok_weaker c.put_value_cell.result (λ e. appends c.args.place (kept_text c.args.value.now) _ _ _ (kept_value _ _ c.in-Value.is) e) c.put_value_cell.ensures.ok
+    on_ok_weaker c.put_value_cell.result (λ e. appends c.args.column (kept_text c.args.value.now) _ _ _ (kept_value _ _ c.in-Value.is) e) c.put_value_cell.ensures.ok
 
 pub returns-in-Ok-clause-ok : goal.returns-in-Ok-clause-ok
 returns-in-Ok-clause-ok g c =
-    on_ok_weaker c.put_tree_cell.result (λ e. appends c.args.place (kept_text c.args.value.now) _ _ _ (kept_tree _ _ _ c.in-Jsonb.is c.in-Ok.ensures) e) c.put_tree_cell.ensures.ok
+    on_ok_weaker c.put_tree_cell.result (λ e. appends c.args.column (kept_text c.args.value.now) _ _ _ (kept_tree _ _ _ c.in-Jsonb.is c.in-Ok.ensures) e) c.put_tree_cell.ensures.ok
 
 pub returns-in-Err-clause-err : goal.returns-in-Err-clause-err
-returns-in-Err-clause-err g c = (kept_refused c.args.place _ _ _ c.in-Jsonb.is c.in-Err.ensures, refl)
+returns-in-Err-clause-err g c = (kept_failed c.args.column _ _ _ c.in-Jsonb.is c.in-Err.ensures, refl)
 
 pub returns-in-JsonDiff-clause-ok : goal.returns-in-JsonDiff-clause-ok
 returns-in-JsonDiff-clause-ok g c = on_ok_weaker c.put_diffs_cell.result (λ e. rw (kept_diffs _ _ c.in-JsonDiff.is, ← c.deref.ensures.value) e) c.put_diffs_cell.ensures.ok
 
 pub returns-in-JsonDiff-clause-err : goal.returns-in-JsonDiff-clause-err
 returns-in-JsonDiff-clause-err g c =
-    IfErr-weaker c.put_diffs_cell.result _ _ (λ e p. kept_diffs_refused c.args.place _ _ _ _ e c.in-JsonDiff.is (rw (← c.deref.ensures.value) p)) c.put_diffs_cell.ensures.err
+    IfErr-weaker c.put_diffs_cell.result _ _ (λ e p. kept_diffs_failed c.args.column _ _ _ _ e c.in-JsonDiff.is (rw (← c.deref.ensures.value) p)) c.put_diffs_cell.ensures.err

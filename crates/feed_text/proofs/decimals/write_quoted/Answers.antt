@@ -1,8 +1,8 @@
 use Rattle.std.proofs.Common.{arith, ap, rules}
 use Rattle.std.specs.Option.{option_map}
-use Rattle.wire_buf.specs.Spelling.{AreBytes}
+use Rattle.wire_buf.specs.Encoding.{AreBytes}
 use Rattle.feed_writers.specs.Quoting.{quoted}
-use Rattle.feed_text.proofs.DecimalTextLemmas.{packed_left, written_quoted, front_left, quoted_none}
+use Rattle.feed_text.proofs.DecimalTextLemmas.{packed_left, written_quoted, prefix_left, quoted_none}
 use Rattle.feed_text.proofs.decimals.write_quoted.Goals as goal
 
 pub returns-in-Some : goal.returns-in-Some
@@ -23,4 +23,4 @@ returns-in-Some c =
 pub returns-in-None : goal.returns-in-None
 returns-in-None c =
     let p = c.in-None.ensures in
-    (quoted_none c.args.precision c.args.scale c.args.bytes.now p.0, front_left c.args.text.now c.put_decimal_text.new.text c.args.at (search rules) (search rules) p.1)
+    (quoted_none c.args.precision c.args.scale c.args.bytes.now p.0, prefix_left c.args.text.now c.put_decimal_text.new.text c.args.at (search rules) (search rules) p.1)

@@ -7,11 +7,11 @@ use Rattle.feed_text.specs.DiffText.{diff_texts}
 use Rattle.feed_text.proofs.DocumentLemmas.{led}
 use Rattle.feed_text.proofs.diffs.append_diffs.Given as goal
 
--- what is written and what is left to write is all; what has no text among what is left has none among all; and what stood there stands there
+-- the text so far and the remaining updates give the whole text; if a remaining update has no text, all of them have none; and the text before is unchanged
 abbrev pub invariant-loop-diff : goal.invariant-loop-diff
 invariant-loop-diff g l = record {
   written : (ts : List (List ℕ)) → diff_texts (map diff_view (drop l.diff-index l.diffs)) ≡ Ok ts
       → (all : List (List ℕ)) × (diff_texts (map diff_view l.diffs) ≡ Ok all) × (l.out.items ++ led l.separator ts ≡ (l.fn.out.items ++ codes "diff[") ++ join_with_byte 44 all);
-  refused : (e : RowsError) → Parses (λ (ts : List (List ℕ)). ts) (Err e) (diff_texts (map diff_view (drop l.diff-index l.diffs))) → Parses (λ (ts : List (List ℕ)). ts) (Err e) (diff_texts (map diff_view l.diffs));
+  failed : (e : RowsError) → Parses (λ (ts : List (List ℕ)). ts) (Err e) (diff_texts (map diff_view (drop l.diff-index l.diffs))) → Parses (λ (ts : List (List ℕ)). ts) (Err e) (diff_texts (map diff_view l.diffs));
   kept : take (length l.fn.out.items) l.out.items ≡ l.fn.out.items;
 }

@@ -6,7 +6,7 @@ use Rattle.rows_jsonb.specs.JsonbViews.{jsonb_value}
 use Rattle.feed_text.specs.Buffers.{text_in}
 use Rattle.feed_text.specs.KeyOrder.{AreInOrder}
 use Rattle.feed_text.proofs.QuoteLemmas.{kept_more, kept_twice}
-use Rattle.feed_text.proofs.DirectLemmas.{count_is, kept_behind, scalar_as_tree, scalar_kept}
+use Rattle.feed_text.proofs.DirectLemmas.{count_is, kept_after, scalar_as_tree, scalar_kept}
 use Rattle.feed_text.proofs.OrderLemmas.{take_more}
 use Rattle.feed_text.proofs.ContainerLemmas.{keys_of, no_items_yet, one_item_more, all_items, array_written, no_members_yet, one_member_more, all_members, object_written, member_is}
 use Rattle.feed_text.proofs.direct.+direct.Goals as goal
@@ -32,7 +32,7 @@ write_value-returns g t c = record {
 pub write_items-items-init : goal.write_items-items-init
 write_items-items-init g t c = record {
   so_far = no_items_yet c.args.depth (jsonb_value c.args.array.now) c.args.budget.now (text_in c.put.new.self) (text_in c.put.new.self) refl;
-  kept = kept_behind (text_in c.args.out.now) (text_in c.put.new.self) _ c.in_ok-put.ensures.ok;
+  kept = kept_after (text_in c.args.out.now) (text_in c.put.new.self) _ c.in_ok-put.ensures.ok;
 }
 
 pub write_items-items-preserved : goal.write_items-items-preserved
@@ -63,7 +63,7 @@ write_items-returns g t c =
 pub write_members-members-init : goal.write_members-members-init
 write_members-members-init g t c = record {
   so_far = no_members_yet c.args.depth (jsonb_value c.args.object.now) c.args.budget.now (text_in c.put.new.self) (text_in c.put.new.self) refl;
-  kept = kept_behind (text_in c.args.out.now) (text_in c.put.new.self) _ c.in_ok-put.ensures.ok;
+  kept = kept_after (text_in c.args.out.now) (text_in c.put.new.self) _ c.in_ok-put.ensures.ok;
 }
 
 pub write_members-members-preserved : goal.write_members-members-preserved
@@ -96,7 +96,7 @@ write_members-returns g t c =
 pub write_member-returns : goal.write_member-returns
 write_member-returns g t c =
     let s = jsonb_value c.args.object.now in
-    let keyed = kept_behind (text_in c.args.out.now) (text_in c.append_string.new.out) _ c.in_ok-append_string.ensures.ok in record {
+    let keyed = kept_after (text_in c.args.out.now) (text_in c.append_string.new.out) _ c.in_ok-append_string.ensures.ok in record {
       ok = on_ok_weaker c.write_value.result (λ w. member_is c.args.depth s (jsonb_value c.in_ok-value.value) c.args.pos c.args.budget.now c.write_value.new.budget (text_in c.args.out.now) _ _ _ _ _ c.in_ok-key.ensures c.value_raw.ensures c.in_ok-append_string.ensures.utf8 c.in_ok-append_string.ensures.ok c.in_ok-put.ensures.ok c.in_ok-value.ensures w) c.write_value.ensures.ok;
       kept = kept_twice (text_in c.args.out.now) _ _ (kept_more _ _ _ _ keyed c.in_ok-put.ensures.ok) c.write_value.ensures.kept;
     }

@@ -55,9 +55,9 @@ append_members-loop-key-preserved g t c =
     let keyed = c.in_ok-quote.ensures.ok ∙ ap (λ b. c.extend_from_slice.new.self.items ++ quoted b) c.as_bytes.ensures.value in
     let new = member_written _ _ _ _ _ _ keyed c.in_ok-push-2.ensures.items c.in_ok-append_document.ensures.ok in
     let separated = kept_more c.args.out.now.items _ _ _ l.invariant.kept c.in_ok-extend_from_slice.ensures.items in
-    let behind_key = kept_more c.args.out.now.items _ _ _ separated c.in_ok-quote.ensures.ok in record {
+    let after_key = kept_more c.args.out.now.items _ _ _ separated c.in_ok-quote.ensures.ok in record {
       written = one_more _ _ _ _ _ _ _ _ _ c.in_ok-extend_from_slice.ensures.items new (search rules) left l.invariant.written;
-      kept = kept_twice c.args.out.now.items _ _ (kept_more _ _ _ _ behind_key c.in_ok-push-2.ensures.items) c.append_document.ensures.kept;
+      kept = kept_twice c.args.out.now.items _ _ (kept_more _ _ _ _ after_key c.in_ok-push-2.ensures.items) c.append_document.ensures.kept;
     }
 
 pub append_members-returns-clause-ok : goal.append_members-returns-clause-ok

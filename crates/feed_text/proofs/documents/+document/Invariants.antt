@@ -5,7 +5,7 @@ use Rattle.feed_text.specs.JsonText.{item_texts, member_texts}
 use Rattle.feed_text.proofs.DocumentLemmas.{led}
 use Rattle.feed_text.proofs.documents.+document.Given as goal
 
--- what is written and what is left to write is all, and what stood there stands there
+-- the text so far and the remaining elements give the whole text, and the text before is unchanged
 abbrev pub invariant-append_items-loop-item : goal.invariant-append_items-loop-item
 invariant-append_items-loop-item g l = record {
   written : l.out.items ++ led l.separator (item_texts (items_view (drop l.item-index l.item-items))) ≡ (l.fn.out.items ++ 91 ∷ []) ++ join_with_byte 44 (item_texts (items_view l.item-items));

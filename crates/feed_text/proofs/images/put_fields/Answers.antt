@@ -1,5 +1,5 @@
 use Rattle.std.proofs.Common.{arith, ap, length}
-use Rattle.feed_text.proofs.ImageTextLemmas.{none_written, field_written, front_stays}
+use Rattle.feed_text.proofs.ImageTextLemmas.{none_written, field_written, prefix_stays}
 use Rattle.feed_text.proofs.images.put_fields.Goals as goal
 use Rattle.feed_text.proofs.images.put_fields.Goals.{in-Some+in_default-put_field, in_default}
 
@@ -25,7 +25,7 @@ put_field-requires c =
     omega (arith, room, some, c.put_label-start.ensures.most)
 
 pub loop-field-smaller : goal.loop-field-smaller
-loop-field-smaller c = let one = c.pass_field.ensures.1 in omega (arith, one)
+loop-field-smaller c = let one = c.skip_field.ensures.1 in omega (arith, one)
 
 pub loop-field-preserved : goal.loop-field-preserved
 loop-field-preserved c =
@@ -33,9 +33,9 @@ loop-field-preserved c =
     let most = w.most in
     let room = c.loop-field.invariant.room in
     let some = c.in-Some.ensures.some.some in
-    let one = c.pass_field.ensures.1 in
+    let one = c.skip_field.ensures.1 in
     record {
-      writes = field_written c.args.cells c.loop-field.left c.pass_field.new.self c.in-Some.field c.args.at c.loop-field.end c.put_label-start.result c.in-Some-put_field.after c.args.text.now c.loop-field.text c.put_label-start.new.text c.put_field.new.text c.in-Some-put_field.rest.now c.loop-field.invariant.writes c.in-Some.ensures.some c.put_label-start.ensures.text w c.pass_field.ensures (omega (arith, room, some, most, c.put_label-start.ensures.most));
+      writes = field_written c.args.cells c.loop-field.left c.skip_field.new.self c.in-Some.field c.args.at c.loop-field.end c.put_label-start.result c.in-Some-put_field.after c.args.text.now c.loop-field.text c.put_label-start.new.text c.put_field.new.text c.in-Some-put_field.rest.now c.loop-field.invariant.writes c.in-Some.ensures.some c.put_label-start.ensures.text w c.skip_field.ensures (omega (arith, room, some, most, c.put_label-start.ensures.most));
       room = omega (arith, room, one, most, c.put_label-start.ensures.most);
     }
 
@@ -44,5 +44,5 @@ returns c =
     elim c.match-next_field.branch [
       | in_default w ↦ rw w.text-is c.loop-field.invariant.writes
       | in-Some+in_default-put_field w ↦
-          rw w.text-is (front_stays c.args.cells c.loop-field.left c.args.at c.loop-field.end w.put_label-start.result w.in-Some.field.place c.args.text.now c.loop-field.text w.put_label-start.new.text w.put_field.new.text c.loop-field.invariant.writes w.put_label-start.ensures.from w.put_label-start.ensures.text w.in_default-put_field.ensures (let within = c.loop-field.invariant.writes.within in omega (arith, within, ap length w.text-is)))
+          rw w.text-is (prefix_stays c.args.cells c.loop-field.left c.args.at c.loop-field.end w.put_label-start.result w.in-Some.field.column c.args.text.now c.loop-field.text w.put_label-start.new.text w.put_field.new.text c.loop-field.invariant.writes w.put_label-start.ensures.from w.put_label-start.ensures.text w.in_default-put_field.ensures (let within = c.loop-field.invariant.writes.within in omega (arith, within, ap length w.text-is)))
     ]

@@ -1,6 +1,6 @@
 use Rattle.std.proofs.Common.{arith, ap, sym, ◌∙◌, ◌++◌, List, ℕ, take}
 use Rattle.std.specs.Option.{option_map}
-use Rattle.wire_buf.specs.Spelling.{AreBytes}
+use Rattle.wire_buf.specs.Encoding.{AreBytes}
 use Rattle.feed_writers.specs.Quoting.{quoted}
 use Rattle.feed_text.specs.DecimalText.{numbers_text}
 use Rattle.feed_text.proofs.DecimalTextLemmas.{packed_left, plain_quoted}

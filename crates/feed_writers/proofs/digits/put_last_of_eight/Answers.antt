@@ -1,13 +1,13 @@
 use Rattle.std.proofs.Common.{◌≡◌, length, arith, rules}
-use Rattle.feed_writers.proofs.DigitLemmas.{front_counts, small_digits, below_eight}
+use Rattle.feed_writers.proofs.DigitLemmas.{prefix_counts, small_digits, below_eight}
 use Rattle.feed_writers.proofs.digits.put_last_of_eight.Goals as goal
 
-pub put_eight-requires-clause-small : goal.put_eight-requires-clause-small
-put_eight-requires-clause-small c = below_eight c.args.number c.args.count c.requires.few c.requires.small
+pub put_eight_bytes-requires-clause-small : goal.put_eight_bytes-requires-clause-small
+put_eight_bytes-requires-clause-small c = below_eight c.args.number c.args.count c.requires.few c.requires.small
 
 pub returns-clause-text : goal.returns-clause-text
 returns-clause-text c =
-    let digits : length c.put_eight.new.text ≡ 8 = search rules in
-    let piece : length c.last_in_front.result ≡ 8 = search rules in
-    front_counts c.args.at c.args.count c.put_bytes.result c.put_eight.result c.args.text.now c.put_bytes.new.text c.put_eight.new.text _ c.last_in_front.result _ (omega (arith, c.requires.room)) c.requires.few digits
-    c.put_eight.ensures.end c.put_eight.ensures.text (small_digits c.args.number c.args.count c.requires.some c.requires.few c.requires.small) c.last_in_front.ensures c.put_bytes.ensures.end piece c.put_bytes.ensures.text
+    let digits : length c.put_eight_bytes.new.text ≡ 8 = search rules in
+    let piece : length c.last_bytes_first.result ≡ 8 = search rules in
+    prefix_counts c.args.at c.args.count c.put_bytes.result c.put_eight_bytes.result c.args.text.now c.put_bytes.new.text c.put_eight_bytes.new.text _ c.last_bytes_first.result _ (omega (arith, c.requires.room)) c.requires.few digits
+    c.put_eight_bytes.ensures.end c.put_eight_bytes.ensures.text (small_digits c.args.number c.args.count c.requires.some c.requires.few c.requires.small) c.last_bytes_first.ensures c.put_bytes.ensures.end piece c.put_bytes.ensures.text

@@ -1,12 +1,12 @@
 use Rattle.std.proofs.Common.{ℕ, ◌++◌, take, ap, ◌∙◌, arith}
-use Rattle.rows_times.specs.TimeTexts.{padded}
+use Rattle.rows_times.specs.TimeTexts.{padded_decimal}
 use Rattle.feed_writers.proofs.DigitLemmas.{padded_long, zeros_more, zeros_done}
 use Rattle.feed_writers.proofs.digits.put_padded.Goals as goal
 
 pub returns-then-count-width-clause-text : goal.returns-then-count-width-clause-text
 returns-then-count-width-clause-text c =
     padded_long _ _ c.args.width c.from-number.result c.short_digit_count-count.result c.short_digit_count-count.ensures.value c.if-count-width.true c.put_counted.ensures.text
-    ∙ ap (λ (n : ℕ). take c.args.at c.args.text.now ++ padded c.args.width n) c.from-number.ensures
+    ∙ ap (λ (n : ℕ). take c.args.at c.args.text.now ++ padded_decimal c.args.width n) c.from-number.ensures
 
 pub loop-digit-preserved : goal.loop-digit-preserved
 loop-digit-preserved c =
@@ -21,4 +21,4 @@ pub returns-clause-text : goal.returns-clause-text
 returns-clause-text c =
     let h = c.loop-digit.invariant in
     zeros_done _ _ _ c.args.width c.from-number.result c.short_digit_count-count.result c.loop-digit.digit c.short_digit_count-count.ensures.value (grind arith) h.text c.put_counted-2.ensures.text
-    ∙ ap (λ (n : ℕ). take c.args.at c.args.text.now ++ padded c.args.width n) c.from-number.ensures
+    ∙ ap (λ (n : ℕ). take c.args.at c.args.text.now ++ padded_decimal c.args.width n) c.from-number.ensures

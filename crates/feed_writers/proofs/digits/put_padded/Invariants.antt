@@ -1,7 +1,7 @@
 use Rattle.std.proofs.Common.{◌≡◌, ◌+◌, ◌-◌, ◌≤◌, ◌++◌, take, replicate}
 use Rattle.feed_writers.proofs.digits.put_padded.Given as goal
 
--- the zeros so far
+-- the zeros written so far
 abbrev pub invariant-loop-digit : goal.invariant-loop-digit
 invariant-loop-digit l = record {
   low : l.count ≤ l.digit;

@@ -1,5 +1,5 @@
 use Rattle.std.proofs.Common.{◌≡◌, ◌-◌, ◌*◌, ◌/◌, ◌%◌, ◌++◌, ℕ, take, arith, ap, ◌∙◌}
-use Rattle.rows_times.specs.TimeTexts.{padded}
+use Rattle.rows_times.specs.TimeTexts.{padded_decimal}
 use Rattle.feed_writers.proofs.DigitLemmas.{count_three, decimal_three, pushed_then}
 use Rattle.feed_writers.proofs.digits.put_three.Goals as goal
 
@@ -9,4 +9,4 @@ returns-clause-end c = omega (arith, count_three c.args.number c.requires.long c
 pub returns-clause-text : goal.returns-clause-text
 returns-clause-text c =
     let last : c.args.number - 100 * (c.args.number / 100) ≡ c.args.number % 100 = omega arith in
-    pushed_then _ _ _ _ _ _ c.put_byte-end.ensures.text (c.put_two.ensures.text ∙ ap (λ (n : ℕ). take c.put_byte-end.result c.put_byte-end.new.text ++ padded 2 n) last) (decimal_three c.args.number c.requires.long c.requires.small)
+    pushed_then _ _ _ _ _ _ c.put_byte-end.ensures.text (c.put_two.ensures.text ∙ ap (λ (n : ℕ). take c.put_byte-end.result c.put_byte-end.new.text ++ padded_decimal 2 n) last) (decimal_three c.args.number c.requires.long c.requires.small)

@@ -3,7 +3,7 @@ use Rattle.std.specs.Prelude.{take_while}
 use Rattle.feed_writers.specs.Quoting.{is_plain_byte}
 use Rattle.feed_writers.proofs.plain.plain_len.Given as goal
 
--- those that were passed, and those of what is left
+-- the bytes passed, and the count for the remaining bytes
 abbrev pub invariant-loop-rest : goal.invariant-loop-rest
 invariant-loop-rest l = record {
   few : length l.rest ≤ length l.bytes;

@@ -3,7 +3,7 @@ use Rattle.std.specs.List.{flat_map}
 use Rattle.feed_writers.specs.Quoting.{quoted_byte}
 use Rattle.feed_writers.proofs.quoted.put_each.Given as goal
 
--- the bytes so far
+-- the bytes written so far
 abbrev pub invariant-loop-byte : goal.invariant-loop-byte
 invariant-loop-byte l = record {
   most : l.end ≤ l.at + 3 * l.byte-index;

@@ -6,5 +6,5 @@ use Rattle.rows_decimal.proofs.append.append_glyphs.Given as goal
 abbrev pub invariant-loop-digit : goal.invariant-loop-digit
 invariant-loop-digit g l = record {
   text : l.out.items ≡ l.initial.out.items ++ glyphs (take l.digit-index l.digits);
-  kept : take (length l.initial.out.items) l.out.items ≡ l.initial.out.items;
+  normalized : take (length l.initial.out.items) l.out.items ≡ l.initial.out.items;
 }

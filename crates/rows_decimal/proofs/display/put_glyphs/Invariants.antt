@@ -4,7 +4,7 @@ use Rattle.rows_decimal.specs.Digits.{AreDigits}
 use Rattle.rows_decimal.proofs.DisplayLemmas.{Shows}
 use Rattle.rows_decimal.proofs.display.put_glyphs.Given as goal
 
--- the characters of the digits that are not left were written
+-- the characters of all digits but the rest were written
 abbrev pub invariant-loop-rest : goal.invariant-loop-rest
 invariant-loop-rest g l = AreDigits l.rest × (IsFlush l.initial.f → Shows g.W.Write.write_str_gives l.initial.f l.digits l.rest l.f)
 

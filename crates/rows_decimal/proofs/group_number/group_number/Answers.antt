@@ -1,8 +1,8 @@
 use Rattle.std.proofs.Common.{◌≡◌, length, arith}
 use Rattle.byteorder.specs.Endian.{big_number}
-use Rattle.wire_buf.specs.Spelling.{AreBytes}
+use Rattle.wire_buf.specs.Encoding.{AreBytes}
 use Rattle.rows_decimal.specs.Digits.{signed}
-use Rattle.rows_decimal.proofs.TurnLemmas.{minus_number, plus_number, high_number, low_number}
+use Rattle.rows_decimal.proofs.FlipBackLemmas.{minus_number, plus_number, high_number, low_number}
 use Rattle.rows_decimal.proofs.group_number.group_number.Goals as goal
 use Rattle.rows_decimal.proofs.group_number.group_number.Goals.{then-negative, else-negative}
 
@@ -11,8 +11,8 @@ returns-then-number-highest c =
     let bytes = c.args.bytes.now in
     let are : AreBytes bytes = λ k. omega (arith, c.type_inv.bytes k) in
     let number : c.if-negative.number ≡ big_number (length bytes) (signed c.args.negative bytes) = elim c.if-negative.branch [
-      | then-negative w ↦ minus_number c.args.negative bytes c.number_of-packed.result c.if-negative.number c.requires are w.if-negative.true c.number_of-packed.ensures w.number-is
-      | else-negative w ↦ plus_number c.args.negative bytes c.number_of-packed.result c.if-negative.number w.if-negative.false c.number_of-packed.ensures w.number-is
+      | then-negative w ↦ minus_number c.args.negative bytes c.bytes_number-packed.result c.if-negative.number c.requires are w.if-negative.true c.bytes_number-packed.ensures w.number-is
+      | else-negative w ↦ plus_number c.args.negative bytes c.bytes_number-packed.result c.if-negative.number w.if-negative.false c.bytes_number-packed.ensures w.number-is
     ] in
     high_number c.args.negative c.args.top bytes c.if-negative.number c.requires are c.if-not-top.false number c.if-number-highest.true
 
@@ -21,7 +21,7 @@ returns-else-number-highest c =
     let bytes = c.args.bytes.now in
     let are : AreBytes bytes = λ k. omega (arith, c.type_inv.bytes k) in
     let number : c.if-negative.number ≡ big_number (length bytes) (signed c.args.negative bytes) = elim c.if-negative.branch [
-      | then-negative w ↦ minus_number c.args.negative bytes c.number_of-packed.result c.if-negative.number c.requires are w.if-negative.true c.number_of-packed.ensures w.number-is
-      | else-negative w ↦ plus_number c.args.negative bytes c.number_of-packed.result c.if-negative.number w.if-negative.false c.number_of-packed.ensures w.number-is
+      | then-negative w ↦ minus_number c.args.negative bytes c.bytes_number-packed.result c.if-negative.number c.requires are w.if-negative.true c.bytes_number-packed.ensures w.number-is
+      | else-negative w ↦ plus_number c.args.negative bytes c.bytes_number-packed.result c.if-negative.number w.if-negative.false c.bytes_number-packed.ensures w.number-is
     ] in
     low_number c.args.negative c.args.top bytes c.if-negative.number c.requires are c.if-not-top.false number (omega arith)

@@ -1,5 +1,5 @@
 use Rattle.std.proofs.Common.{◌≡◌, length, rules, arith, inl, inr, ◌<◌, ◌%◌, ◌⊎◌}
-use Rattle.rows_decimal.proofs.GroupFrontLemmas.{splits_before, splits_after, nine_or_all}
+use Rattle.rows_decimal.proofs.FirstGroupLemmas.{splits_before, splits_after, nine_or_all}
 use Rattle.rows_decimal.proofs.groups.split_group.Goals as goal
 use Rattle.rows_decimal.proofs.groups.split_group.Goals.{then-left-eq0, else-left-eq0}
 

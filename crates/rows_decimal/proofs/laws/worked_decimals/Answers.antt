@@ -23,20 +23,20 @@ pub returns-clause-negative_zero : goal.returns-clause-negative_zero
 unfolding computed
 returns-clause-negative_zero c = refl
 
-pub returns-clause-hundred_refused : goal.returns-clause-hundred_refused
-returns-clause-hundred_refused c = no_hundred
+pub returns-clause-hundred_failed : goal.returns-clause-hundred_failed
+returns-clause-hundred_failed c = no_hundred
 
-pub returns-clause-exponent_refused : goal.returns-clause-exponent_refused
+pub returns-clause-exponent_failed : goal.returns-clause-exponent_failed
 unfolding computed
-returns-clause-exponent_refused c = refl
+returns-clause-exponent_failed c = refl
 
-pub returns-clause-point_alone_refused : goal.returns-clause-point_alone_refused
+pub returns-clause-point_alone_failed : goal.returns-clause-point_alone_failed
 unfolding computed
-returns-clause-point_alone_refused c = refl
+returns-clause-point_alone_failed c = refl
 
-pub returns-clause-two_points_refused : goal.returns-clause-two_points_refused
+pub returns-clause-two_points_failed : goal.returns-clause-two_points_failed
 unfolding computed
-returns-clause-two_points_refused c = refl
+returns-clause-two_points_failed c = refl
 
 pub returns-clause-negative_zero_text : goal.returns-clause-negative_zero_text
 unfolding computed

@@ -34,18 +34,18 @@ pub returns-clause-no_digits_text : goal.returns-clause-no_digits_text
 unfolding computed
 returns-clause-no_digits_text c = refl
 
-pub returns-clause-hundred_refused : goal.returns-clause-hundred_refused
+pub returns-clause-hundred_failed : goal.returns-clause-hundred_failed
 unfolding computed
-returns-clause-hundred_refused c = refl
+returns-clause-hundred_failed c = refl
 
-pub returns-clause-short_refused : goal.returns-clause-short_refused
+pub returns-clause-short_failed : goal.returns-clause-short_failed
 unfolding computed
-returns-clause-short_refused c = refl
+returns-clause-short_failed c = refl
 
-pub returns-clause-long_refused : goal.returns-clause-long_refused
+pub returns-clause-long_failed : goal.returns-clause-long_failed
 unfolding computed
-returns-clause-long_refused c = refl
+returns-clause-long_failed c = refl
 
-pub returns-clause-scale_refused : goal.returns-clause-scale_refused
+pub returns-clause-scale_failed : goal.returns-clause-scale_failed
 unfolding computed
-returns-clause-scale_refused c = refl
+returns-clause-scale_failed c = refl

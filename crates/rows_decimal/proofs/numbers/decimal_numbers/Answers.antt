@@ -1,5 +1,5 @@
 use Rattle.std.proofs.Common.{◌≤◌, ◌-◌, arith, sym, refl, ◌∙◌}
-use Rattle.rows_decimal.proofs.TurnLemmas.{number_of_turned}
+use Rattle.rows_decimal.proofs.FlipBackLemmas.{number_of_turned}
 use Rattle.rows_decimal.proofs.UnpackedLemmas.{unpacked_past, unpacked_other}
 use Rattle.rows_decimal.proofs.WriteLemmas.{unpacked_parts, group_fits, group_past}
 use Rattle.rows_decimal.proofs.NumberLemmas.{numbers_are, before_missing, after_missing, few_after}

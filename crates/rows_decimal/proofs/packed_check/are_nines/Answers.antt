@@ -1,6 +1,6 @@
 use Rattle.std.proofs.Common.{arith, refl, sym, ap}
 use Rattle.std.specs.Option.{is_some}
-use Rattle.rows_decimal.proofs.TurnLemmas.{number_nine}
+use Rattle.rows_decimal.proofs.FlipBackLemmas.{number_nine}
 use Rattle.rows_decimal.proofs.WriteLemmas.{group_fits, group_past, nines_none_of}
 use Rattle.rows_decimal.proofs.CheckLemmas.{no_nines, nines_more, all_nines}
 use Rattle.rows_decimal.proofs.packed_check.are_nines.Goals as goal

@@ -1,17 +1,17 @@
 use Rattle.std.proofs.Common.{◌≤◌, arith, refl, sym, ap, ◌∙◌}
 use Rattle.std.specs.Option.{is_some}
-use Rattle.rows_decimal.specs.Unpacked.{text_of}
+use Rattle.rows_decimal.specs.Unpacked.{optional_text}
 use Rattle.rows_decimal.proofs.UnpackedLemmas.{unpacked_past, unpacked_other}
 use Rattle.rows_decimal.proofs.WriteLemmas.{unpacked_parts}
 use Rattle.rows_decimal.proofs.CheckLemmas.{there, missing, whole_missing, fraction_decides}
 use Rattle.rows_decimal.proofs.packed_check.packs_decimal.Goals as goal
 
 pub returns-then-scale-precision : goal.returns-then-scale-precision
-returns-then-scale-precision c = ap is_some (sym (ap text_of (unpacked_past c.args.precision c.args.scale c.args.bytes.now c.if-scale-precision.true)))
+returns-then-scale-precision c = ap is_some (sym (ap optional_text (unpacked_past c.args.precision c.args.scale c.args.bytes.now c.if-scale-precision.true)))
 
 pub returns-then-bytes-decimal_bin_size : goal.returns-then-bytes-decimal_bin_size
 returns-then-bytes-decimal_bin_size c =
-    ap is_some (sym (ap text_of (unpacked_other c.args.precision c.args.scale c.args.bytes.now (λ e. c.if-bytes-decimal_bin_size.true (e ∙ sym c.decimal_bin_size.ensures)))))
+    ap is_some (sym (ap optional_text (unpacked_other c.args.precision c.args.scale c.args.bytes.now (λ e. c.if-bytes-decimal_bin_size.true (e ∙ sym c.decimal_bin_size.ensures)))))
 
 pub returns-then-not-are_before : goal.returns-then-not-are_before
 returns-then-not-are_before c =

@@ -1,14 +1,14 @@
 use Rattle.std.proofs.Common.{◌≤◌, ◌-◌, arith, refl, sym, ap, ◌∙◌}
-use Rattle.rows_decimal.specs.Unpacked.{text_of}
+use Rattle.rows_decimal.specs.Unpacked.{optional_text}
 use Rattle.rows_decimal.proofs.UnpackedLemmas.{unpacked_past, unpacked_other}
 use Rattle.rows_decimal.proofs.WriteLemmas.{unpacked_parts, text_none_before, puts_is}
 use Rattle.rows_decimal.proofs.packed_text.put_decimal_text.Goals as goal
 
 pub returns-then-scale-precision : goal.returns-then-scale-precision
-returns-then-scale-precision c = (ap text_of (unpacked_past c.args.precision c.args.scale c.args.bytes.now c.if-scale-precision.true), refl)
+returns-then-scale-precision c = (ap optional_text (unpacked_past c.args.precision c.args.scale c.args.bytes.now c.if-scale-precision.true), refl)
 
 pub returns-then-bytes-decimal_bin_size : goal.returns-then-bytes-decimal_bin_size
-returns-then-bytes-decimal_bin_size c = (ap text_of (unpacked_other c.args.precision c.args.scale c.args.bytes.now (λ e. c.if-bytes-decimal_bin_size.true (e ∙ sym c.decimal_bin_size.ensures))), refl)
+returns-then-bytes-decimal_bin_size c = (ap optional_text (unpacked_other c.args.precision c.args.scale c.args.bytes.now (λ e. c.if-bytes-decimal_bin_size.true (e ∙ sym c.decimal_bin_size.ensures))), refl)
 
 pub returns-in-None : goal.returns-in-None
 returns-in-None c =

@@ -3,7 +3,7 @@ use Rattle.rows_decimal.specs.Digits.{AreDigits, group_bytes}
 use Rattle.rows_decimal.specs.Steps.{sides_bytes}
 use Rattle.rows_decimal.proofs.packing.put_groups.Given as goal
 
--- what is written, the group that was begun and those behind it are all
+-- the bytes written, the current group and those after it are all bytes
 abbrev pub invariant-loop-group : goal.invariant-loop-group
 invariant-loop-group l = record {
   few : length l.group ≤ 9;

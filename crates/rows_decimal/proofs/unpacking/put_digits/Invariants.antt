@@ -1,10 +1,10 @@
 use Rattle.std.proofs.Common.{length}
-use Rattle.rows_decimal.proofs.TakingLemmas.{Fills}
+use Rattle.rows_decimal.proofs.UnpackDigitsLemmas.{Fills}
 use Rattle.rows_decimal.proofs.unpacking.put_digits.Given as goal
 
--- the digits of the places from `at` on are written
+-- the digits from `at` on are written
 abbrev pub invariant-loop-at : goal.invariant-loop-at
-invariant-loop-at l = Fills l.number (length l.initial.places) l.at l.left l.places
+invariant-loop-at l = Fills l.number (length l.initial.positions) l.at l.left l.positions
 
 abbrev pub decreases-loop-at : goal.decreases-loop-at
 decreases-loop-at l = l.at

@@ -18,9 +18,9 @@ pub loop-rest-preserved : goal.loop-rest-preserved
 loop-rest-preserved c =
     let h = c.loop-rest.invariant in
     let read = sym c.in-Ok.ensures in
-    let front = map diff_view c.loop-rest.diffs.items in
+    let split_diff = map diff_view c.loop-rest.diffs.items in
     let x : Diff × List ℕ = (diff_view c.in-Ok.diff, c.in-Ok.after.now) in
-    let m = one_more diff_at front h.0 c.loop-rest.rest.now x (some_left c.loop-rest.rest.now c.is_empty.result c.is_empty.ensures c.loop-rest-test.true) h.1 read (diff-shrinks c.loop-rest.rest.now x.0 x.1 read) in
+    let m = one_more diff_at split_diff h.0 c.loop-rest.rest.now x (some_left c.loop-rest.rest.now c.is_empty.result c.is_empty.ensures c.loop-rest-test.true) h.1 read (diff-shrinks c.loop-rest.rest.now x.0 x.1 read) in
     (m.0, m.1, rw (c.in_ok-push-in-Ok.ensures.items, map-append diff_view c.loop-rest.diffs.items (c.in-Ok.diff ∷ [])) (sym m.2 ∙ h.2))
 
 pub returns-clause-ok : goal.returns-clause-ok

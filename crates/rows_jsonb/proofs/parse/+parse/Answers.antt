@@ -1,11 +1,11 @@
 use Rattle.std.proofs.Common.{◌≡◌, suc, ◌-◌, ◌+◌, sym, ap, ◌∙◌, arith, string_bytes}
 use Rattle.std.specs.declared.result.Result.TheVariants.{Ok}
 use Rattle.rows_jsonb.specs.JsonTrees.{array, object, put, no_members}
-use Rattle.rows_jsonb.specs.JsonbValues.{elem_in, key_of, count_in}
-use Rattle.rows_jsonb.specs.DocumentTrees.{items, members, tree_of, utf8}
+use Rattle.rows_jsonb.specs.JsonbValues.{elem_in, object_key, count_in}
+use Rattle.rows_jsonb.specs.DocumentTrees.{items, member_trees, tree_of, utf8}
 use Rattle.rows_jsonb.specs.JsonTreeViews.{view, items_view, members_view}
 use Rattle.rows_jsonb.specs.JsonbViews.{jsonb_value}
-use Rattle.rows_jsonb.proofs.Building.{none_left, exits, exits_memory, fails_refused, fails_one, takes_one, fails_as_found, fails_from, array_tree, object_tree, other_tree, flat_tree, none_behind, none_behind_members, behind_items, behind_members, items_turn, items_no_entry, items_fail, items_end, members_turn, members_no_key, members_no_entry, members_no_text, members_fail, members_end}
+use Rattle.rows_jsonb.proofs.Building.{none_left, exits, exits_memory, fails_failed, fails_one, takes_one, fails_as_found, fails_from, array_tree, object_tree, other_tree, flat_tree, none_after, none_after_members, after_items, after_members, items_turn, items_no_entry, items_fail, items_end, members_turn, members_no_key, members_no_entry, members_no_text, members_fail, members_end}
 use Rattle.rows_jsonb.proofs.DomLemmas.{view-Scalar, view-Array, view-Object, members_view-insert_entry}
 use Rattle.rows_jsonb.proofs.parse.+parse.Goals as goal
 
@@ -14,7 +14,7 @@ parse_in-returns-then-budget-eq0 t c = none_left _ _ _ c.if-budget-eq0.true
 
 pub parse_in-returns-in_err-leaf : goal.parse_in-returns-in_err-leaf
 parse_in-returns-in_err-leaf t c =
-    exits view _ _ _ _ _ c.from_residual.ensures (rw (flat_tree c.args.depth (jsonb_value c.args.value.now) c.if-depth-eq0.true) (fails_refused _ _ _ c.in_err-leaf.ensures))
+    exits view _ _ _ _ _ c.from_residual.ensures (rw (flat_tree c.args.depth (jsonb_value c.args.value.now) c.if-depth-eq0.true) (fails_failed _ _ _ c.in_err-leaf.ensures))
 
 pub parse_in-returns-then-depth-eq0 : goal.parse_in-returns-then-depth-eq0
 parse_in-returns-then-depth-eq0 t c = record {
@@ -44,7 +44,7 @@ parse_in-returns-then-is_object t c =
 pub parse_in-returns-in_err-leaf-2 : goal.parse_in-returns-in_err-leaf-2
 parse_in-returns-in_err-leaf-2 t c =
     exits view _ _ _ _ _ c.from_residual-in_err-leaf-2.ensures
-    (rw (other_tree c.args.depth (c.args.depth - 1) (jsonb_value c.args.value.now) (omega arith) (sym c.is_array.ensures ∙ c.if-is_array.false) (sym c.is_object.ensures ∙ c.if-is_object.false)) (fails_refused _ _ _ c.in_err-leaf-2.ensures))
+    (rw (other_tree c.args.depth (c.args.depth - 1) (jsonb_value c.args.value.now) (omega arith) (sym c.is_array.ensures ∙ c.if-is_array.false) (sym c.is_object.ensures ∙ c.if-is_object.false)) (fails_failed _ _ _ c.in_err-leaf-2.ensures))
 
 pub parse_in-returns : goal.parse_in-returns
 parse_in-returns t c = record {
@@ -59,7 +59,7 @@ pub parse_items-items-init : goal.parse_items-items-init
 parse_items-items-init t c =
     let s = jsonb_value c.args.array.now in
     let all = items (tree_of c.args.depth) (elem_in s) 0 (count_in s) in
-    (0, none_behind all ∙ ap (λ ds. behind_items ds 0 all) (sym c.new-found.ensures.items) ∙ ap (λ k. behind_items c.new-found.result.items 0 (items (tree_of c.args.depth) (elem_in s) 0 k)) (omega arith), omega arith)
+    (0, none_after all ∙ ap (λ ds. after_items ds 0 all) (sym c.new-found.ensures.items) ∙ ap (λ k. after_items c.new-found.result.items 0 (items (tree_of c.args.depth) (elem_in s) 0 k)) (omega arith), omega arith)
 
 pub parse_items-returns-in_err-value : goal.parse_items-returns-in_err-value
 parse_items-returns-in_err-value t c =
@@ -88,7 +88,7 @@ parse_items-items-preserved t c =
     let d = c.in_ok-item.item in (
       l.invariant.0 + taken.count,
       l.invariant.1 ∙ items_turn (tree_of c.args.depth) (elem_in s) l.found.items d l.invariant.0 taken.count l.pos (count_in s - l.pos) left (jsonb_value c.in_ok-value.value) more (sym c.in_ok-value.ensures) taken.found_is
-          ∙ ap (λ ds. behind_items ds (l.invariant.0 + taken.count) (items (tree_of c.args.depth) (elem_in s) (l.pos + 1) left)) (sym c.in_ok-push.ensures.items),
+          ∙ ap (λ ds. after_items ds (l.invariant.0 + taken.count) (items (tree_of c.args.depth) (elem_in s) (l.pos + 1) left)) (sym c.in_ok-push.ensures.items),
       omega (arith, taken.taken, l.invariant.2),
     )
 
@@ -105,10 +105,10 @@ parse_items-returns t c =
 pub parse_members-members-init : goal.parse_members-members-init
 parse_members-members-init t c =
     let s = jsonb_value c.args.object.now in
-    let all = members (tree_of c.args.depth) (key_of s) (elem_in s) 0 (count_in s) no_members in (
+    let all = member_trees (tree_of c.args.depth) (object_key s) (elem_in s) 0 (count_in s) no_members in (
       0,
-      none_behind_members all ∙ ap (λ es. behind_members 0 (members (tree_of c.args.depth) (key_of s) (elem_in s) 0 (count_in s) (members_view es))) (sym c.new-found.ensures.empty)
-          ∙ ap (λ k. behind_members 0 (members (tree_of c.args.depth) (key_of s) (elem_in s) 0 k (members_view c.new-found.result.entries))) (omega arith),
+      none_after_members all ∙ ap (λ es. after_members 0 (member_trees (tree_of c.args.depth) (object_key s) (elem_in s) 0 (count_in s) (members_view es))) (sym c.new-found.ensures.empty)
+          ∙ ap (λ k. after_members 0 (member_trees (tree_of c.args.depth) (object_key s) (elem_in s) 0 k (members_view c.new-found.result.entries))) (omega arith),
       omega arith,
     )
 
@@ -117,29 +117,29 @@ parse_members-returns-in_err-bytes t c =
     let l = c.members in
     let s = jsonb_value c.args.object.now in
     exits (λ m. members_view m.entries) _ _ _ _ _ c.from_residual.ensures
-    (fails_as_found _ _ _ (l.invariant.1 ∙ members_no_key (tree_of c.args.depth) (key_of s) (elem_in s) (members_view l.found.entries) l.invariant.0 l.pos (count_in s - l.pos) (count_in s - l.pos - 1) _ (omega arith) (sym c.in_err-bytes.ensures)))
+    (fails_as_found _ _ _ (l.invariant.1 ∙ members_no_key (tree_of c.args.depth) (object_key s) (elem_in s) (members_view l.found.entries) l.invariant.0 l.pos (count_in s - l.pos) (count_in s - l.pos - 1) _ (omega arith) (sym c.in_err-bytes.ensures)))
 
 pub parse_members-returns-in_err-value : goal.parse_members-returns-in_err-value
 parse_members-returns-in_err-value t c =
     let l = c.members in
     let s = jsonb_value c.args.object.now in
     exits (λ m. members_view m.entries) _ _ _ _ _ c.from_residual-in_err-value.ensures
-    (fails_as_found _ _ _ (l.invariant.1 ∙ members_no_entry (tree_of c.args.depth) (key_of s) (elem_in s) (members_view l.found.entries) c.in_ok-bytes.bytes.now l.invariant.0 l.pos (count_in s - l.pos) (count_in s - l.pos - 1) _ (omega arith) (sym c.in_ok-bytes.ensures) (sym c.in_err-value.ensures)))
+    (fails_as_found _ _ _ (l.invariant.1 ∙ members_no_entry (tree_of c.args.depth) (object_key s) (elem_in s) (members_view l.found.entries) c.in_ok-bytes.bytes.now l.invariant.0 l.pos (count_in s - l.pos) (count_in s - l.pos - 1) _ (omega arith) (sym c.in_ok-bytes.ensures) (sym c.in_err-value.ensures)))
 
 pub parse_members-returns-in_err-name : goal.parse_members-returns-in_err-name
 parse_members-returns-in_err-name t c =
     let l = c.members in
     let s = jsonb_value c.args.object.now in
     exits (λ m. members_view m.entries) _ _ _ _ _ c.from_residual-in_err-name.ensures
-    (fails_from _ _ (utf8 c.in_ok-bytes.bytes.now) _ c.in_err-name.ensures (λ refused. l.invariant.1
-    ∙ members_no_text (tree_of c.args.depth) (key_of s) (elem_in s) (members_view l.found.entries) c.in_ok-bytes.bytes.now l.invariant.0 l.pos (count_in s - l.pos) (count_in s - l.pos - 1) (jsonb_value c.in_ok-value.value) _ (omega arith) (sym c.in_ok-bytes.ensures) (sym c.in_ok-value.ensures) refused))
+    (fails_from _ _ (utf8 c.in_ok-bytes.bytes.now) _ c.in_err-name.ensures (λ failed. l.invariant.1
+    ∙ members_no_text (tree_of c.args.depth) (object_key s) (elem_in s) (members_view l.found.entries) c.in_ok-bytes.bytes.now l.invariant.0 l.pos (count_in s - l.pos) (count_in s - l.pos - 1) (jsonb_value c.in_ok-value.value) _ (omega arith) (sym c.in_ok-bytes.ensures) (sym c.in_ok-value.ensures) failed))
 
 pub parse_members-returns-in_err-member : goal.parse_members-returns-in_err-member
 parse_members-returns-in_err-member t c =
     let l = c.members in
     let s = jsonb_value c.args.object.now in
     exits (λ m. members_view m.entries) _ _ _ _ _ c.from_residual-in_err-member.ensures
-    (rw l.invariant.1 (members_fail (tree_of c.args.depth) (key_of s) (elem_in s) (members_view l.found.entries) c.in_ok-bytes.bytes.now (string_bytes c.in_ok-name.name) l.invariant.0 l.pos (count_in s - l.pos) (count_in s - l.pos - 1) l.budget _ (jsonb_value c.in_ok-value.value) _ (omega arith) (sym c.in_ok-bytes.ensures) (sym c.in_ok-value.ensures) c.in_ok-name.ensures l.invariant.2 c.in_err-member.ensures))
+    (rw l.invariant.1 (members_fail (tree_of c.args.depth) (object_key s) (elem_in s) (members_view l.found.entries) c.in_ok-bytes.bytes.now (string_bytes c.in_ok-name.name) l.invariant.0 l.pos (count_in s - l.pos) (count_in s - l.pos - 1) l.budget _ (jsonb_value c.in_ok-value.value) _ (omega arith) (sym c.in_ok-bytes.ensures) (sym c.in_ok-value.ensures) c.in_ok-name.ensures l.invariant.2 c.in_err-member.ensures))
 
 pub parse_members-returns-in_err-insert : goal.parse_members-returns-in_err-insert
 parse_members-returns-in_err-insert t c = exits_memory (λ m. members_view m.entries) _ _ _ _ c.from_residual-in_err-insert.ensures
@@ -156,8 +156,8 @@ parse_members-members-preserved t c =
     let inserted : members_view c.insert.new.self.entries ≡ put (string_bytes c.in_ok-name.name) (view d) old =
     ap members_view c.in_ok-insert.ensures.entries ∙ members_view-insert_entry l.found.entries c.in_ok-name.name d in (
       l.invariant.0 + taken.count,
-      l.invariant.1 ∙ members_turn (tree_of c.args.depth) (key_of s) (elem_in s) old (view d) c.in_ok-bytes.bytes.now (string_bytes c.in_ok-name.name) l.invariant.0 taken.count l.pos (count_in s - l.pos) left (jsonb_value c.in_ok-value.value) more (sym c.in_ok-bytes.ensures) (sym c.in_ok-value.ensures) c.in_ok-name.ensures taken.found_is
-          ∙ ap (λ ms. behind_members (l.invariant.0 + taken.count) (members (tree_of c.args.depth) (key_of s) (elem_in s) (l.pos + 1) left ms)) (sym inserted),
+      l.invariant.1 ∙ members_turn (tree_of c.args.depth) (object_key s) (elem_in s) old (view d) c.in_ok-bytes.bytes.now (string_bytes c.in_ok-name.name) l.invariant.0 taken.count l.pos (count_in s - l.pos) left (jsonb_value c.in_ok-value.value) more (sym c.in_ok-bytes.ensures) (sym c.in_ok-value.ensures) c.in_ok-name.ensures taken.found_is
+          ∙ ap (λ ms. after_members (l.invariant.0 + taken.count) (member_trees (tree_of c.args.depth) (object_key s) (elem_in s) (l.pos + 1) left ms)) (sym inserted),
       omega (arith, taken.taken, l.invariant.2),
     )
 
@@ -167,6 +167,6 @@ parse_members-returns t c =
     let s = jsonb_value c.args.object.now in
     record {
       count = l.invariant.0;
-      found_is = l.invariant.1 ∙ members_end (tree_of c.args.depth) (key_of s) (elem_in s) (members_view l.found.entries) l.invariant.0 l.pos (count_in s - l.pos) (omega arith);
+      found_is = l.invariant.1 ∙ members_end (tree_of c.args.depth) (object_key s) (elem_in s) (members_view l.found.entries) l.invariant.0 l.pos (count_in s - l.pos) (omega arith);
       taken = l.invariant.2;
     }

@@ -1,10 +1,10 @@
 use Rattle.std.proofs.Common.{◌≡◌, ℕ, ◌+◌, ◌*◌, ◌-◌}
 use Rattle.rows_jsonb.specs.JsonTrees.{no_members}
-use Rattle.rows_jsonb.specs.JsonbValues.{elem_in, key_of, count_in}
-use Rattle.rows_jsonb.specs.DocumentTrees.{items, members, tree_of}
+use Rattle.rows_jsonb.specs.JsonbValues.{elem_in, object_key, count_in}
+use Rattle.rows_jsonb.specs.DocumentTrees.{items, member_trees, tree_of}
 use Rattle.rows_jsonb.specs.JsonTreeViews.{members_view}
 use Rattle.rows_jsonb.specs.JsonbViews.{jsonb_value}
-use Rattle.rows_jsonb.proofs.Building.{behind_items, behind_members}
+use Rattle.rows_jsonb.proofs.Building.{after_items, after_members}
 use Rattle.rows_jsonb.proofs.parse.+parse.Given as goal
 
 abbrev pub decreases-parse_in : goal.decreases-parse_in
@@ -19,11 +19,11 @@ decreases-parse_members l = 2 * l.depth + 1
 abbrev pub invariant-parse_items-items : goal.invariant-parse_items-items
 invariant-parse_items-items l =
     (used : ℕ)
-    × (items (tree_of l.depth) (elem_in (jsonb_value l.array)) 0 (count_in (jsonb_value l.array)) ≡ behind_items l.found.items used (items (tree_of l.depth) (elem_in (jsonb_value l.array)) l.pos (count_in (jsonb_value l.array) - l.pos)))
+    × (items (tree_of l.depth) (elem_in (jsonb_value l.array)) 0 (count_in (jsonb_value l.array)) ≡ after_items l.found.items used (items (tree_of l.depth) (elem_in (jsonb_value l.array)) l.pos (count_in (jsonb_value l.array) - l.pos)))
     × (used + l.budget ≡ l.initial.budget)
 
 abbrev pub invariant-parse_members-members : goal.invariant-parse_members-members
 invariant-parse_members-members l =
     (used : ℕ)
-    × (members (tree_of l.depth) (key_of (jsonb_value l.object)) (elem_in (jsonb_value l.object)) 0 (count_in (jsonb_value l.object)) no_members ≡ behind_members used (members (tree_of l.depth) (key_of (jsonb_value l.object)) (elem_in (jsonb_value l.object)) l.pos (count_in (jsonb_value l.object) - l.pos) (members_view l.found.entries)))
+    × (member_trees (tree_of l.depth) (object_key (jsonb_value l.object)) (elem_in (jsonb_value l.object)) 0 (count_in (jsonb_value l.object)) no_members ≡ after_members used (member_trees (tree_of l.depth) (object_key (jsonb_value l.object)) (elem_in (jsonb_value l.object)) l.pos (count_in (jsonb_value l.object) - l.pos) (members_view l.found.entries)))
     × (used + l.budget ≡ l.initial.budget)

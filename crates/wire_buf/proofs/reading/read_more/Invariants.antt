@@ -1,7 +1,7 @@
 use Rattle.wire_buf.proofs.TransferLemmas.{GathersSome}
 use Rattle.wire_buf.proofs.reading.read_more.Given as goal
 
--- what was taken so far, of the bytes that are not left to take
+-- the bytes that were taken so far: n less those left to take
 abbrev pub invariant-loop-left : goal.invariant-loop-left
 invariant-loop-left g l =
     GathersSome (g.R.Read.remaining l.initial.reader) (g.R.Read.remaining l.reader) l.n l.left l.initial.out.items l.out.items

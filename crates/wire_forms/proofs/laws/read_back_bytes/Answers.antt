@@ -9,7 +9,7 @@ returns-clause-ok g c =
     let bytes = w.bytes in
     let joined = c.deref.ensures.value ∙ w.appended ∙ ap (λ (l : List ℕ). l ++ bytes) c.new-bytes.ensures.items ∙ sym (append-nil bytes) in
     c.in_ok-items.ensures.items_if_clones_equal (λ x y e. e)
-    ∙ (c.in_ok-read.ensures.ok.only kept [] (record { bytes = bytes; joined = joined; is = rw c.requires.context (w.spells [] c.requires.alone) })).1
+    ∙ (c.in_ok-read.ensures.ok.only kept [] (record { bytes = bytes; joined = joined; is = rw c.requires.context (w.encodes [] c.requires.alone) })).1
 
 pub returns-in_err-read-clause-err : goal.returns-in_err-read-clause-err
 returns-in_err-read-clause-err g c =
@@ -17,4 +17,4 @@ returns-in_err-read-clause-err g c =
     let kept = g.T.BytesRepr.kept c.args.text.now in
     let bytes = w.bytes in
     let joined = c.deref.ensures.value ∙ w.appended ∙ ap (λ (l : List ℕ). l ++ bytes) c.new-bytes.ensures.items ∙ sym (append-nil bytes) in
-    absurd (c.in_err-read.ensures.err.0 kept [] (record { bytes = bytes; joined = joined; is = rw c.requires.context (w.spells [] c.requires.alone) }))
+    absurd (c.in_err-read.ensures.err.0 kept [] (record { bytes = bytes; joined = joined; is = rw c.requires.context (w.encodes [] c.requires.alone) }))

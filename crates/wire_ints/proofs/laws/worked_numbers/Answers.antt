@@ -1,18 +1,18 @@
 use Rattle.std.proofs.Common.{refl, arith}
-use Rattle.wire_buf.specs.Numbers.{lenenc_spelling, two}
-use Rattle.wire_ints.specs.Sevens.{sevens_spelling, last, more}
-use Rattle.wire_ints.specs.TrailingOnes.{varlen_uint_len, varlen_uint_spelling}
+use Rattle.wire_buf.specs.Numbers.{lenenc_encoded, two}
+use Rattle.wire_ints.specs.Sevens.{sevens_encoded, last, more}
+use Rattle.wire_ints.specs.TrailingOnes.{varlen_uint_len, varlen_uint_encoded}
 use Rattle.wire_ints.proofs.laws.worked_numbers.Goals as goal
 
 pub returns-clause-three_bytes : goal.returns-clause-three_bytes
-unfolding lenenc_spelling
+unfolding lenenc_encoded
 returns-clause-three_bytes c = refl
 
 pub returns-clause-longer : goal.returns-clause-longer
 returns-clause-longer c = two (record { size = refl; value_is = refl })
 
 pub returns-clause-seven_bits : goal.returns-clause-seven_bits
-unfolding sevens_spelling
+unfolding sevens_encoded
 returns-clause-seven_bits c = refl
 
 pub returns-clause-greatest : goal.returns-clause-greatest
@@ -22,9 +22,9 @@ returns-clause-greatest c = record {
 }
 
 pub returns-clause-one_byte : goal.returns-clause-one_byte
-unfolding varlen_uint_spelling varlen_uint_len
+unfolding varlen_uint_encoded varlen_uint_len
 returns-clause-one_byte c = refl
 
 pub returns-clause-two_bytes : goal.returns-clause-two_bytes
-unfolding varlen_uint_spelling varlen_uint_len
+unfolding varlen_uint_encoded varlen_uint_len
 returns-clause-two_bytes c = refl

@@ -1,7 +1,7 @@
 use Rattle.std.proofs.Common.{◌≡◌, ◌+◌, ◌*◌, ◌++◌, ℕ, take, drop, List, refl, ap, ◌∙◌, sym, arith, append_assoc}
 use Rattle.std.proofs.lemmas.List.{append-nil}
-use Rattle.wire_packets.specs.Framing.{longest, chunk, chunks, slice_of}
-use Rattle.wire_packets.proofs.FramingLemmas.{chunks_none, chunks_more, next_slice, behind_slice, same_chunk}
+use Rattle.wire_packets.specs.Framing.{max_chunk_len, chunk, chunks, slice_of}
+use Rattle.wire_packets.proofs.FramingLemmas.{chunks_none, chunks_more, next_slice, after_slice, same_chunk}
 use Rattle.wire_packets.proofs.framing.packet_to_chunks.Goals as goal
 
 pub loop-i-init : goal.loop-i-init
@@ -14,18 +14,18 @@ loop-i-init c = record {
 
 pub loop-i-preserved : goal.loop-i-preserved
 loop-i-preserved c =
-    let front : c.split_at.result.0.now ≡ slice_of longest c.args.src.now c.loop-i.i =
-    c.split_at.ensures.front ∙ ap (λ (n : ℕ). take n c.loop-i.rest.now) c.min.ensures ∙ next_slice longest c.loop-i.i c.args.src.now c.loop-i.rest.now c.loop-i.invariant.rest in
-    let back : c.split_at.result.1.now ≡ drop ((c.loop-i.i + 1) * longest) c.args.src.now =
-    c.split_at.ensures.back ∙ ap (λ (n : ℕ). drop n c.loop-i.rest.now) c.min.ensures ∙ behind_slice longest c.loop-i.i c.args.src.now c.loop-i.rest.now c.loop-i.invariant.rest in
-    let head : chunk c.loop-i.number (slice_of longest c.args.src.now c.loop-i.i) ≡ chunk (c.args.id + c.loop-i.i) (slice_of longest c.args.src.now c.loop-i.i) =
-    same_chunk c.loop-i.number (c.args.id + c.loop-i.i) (slice_of longest c.args.src.now c.loop-i.i) c.loop-i.invariant.number in
+    let prefix : c.split_at.result.0.now ≡ slice_of max_chunk_len c.args.src.now c.loop-i.i =
+    c.split_at.ensures.front ∙ ap (λ (n : ℕ). take n c.loop-i.rest.now) c.min.ensures ∙ next_slice max_chunk_len c.loop-i.i c.args.src.now c.loop-i.rest.now c.loop-i.invariant.rest in
+    let back : c.split_at.result.1.now ≡ drop ((c.loop-i.i + 1) * max_chunk_len) c.args.src.now =
+    c.split_at.ensures.back ∙ ap (λ (n : ℕ). drop n c.loop-i.rest.now) c.min.ensures ∙ after_slice max_chunk_len c.loop-i.i c.args.src.now c.loop-i.rest.now c.loop-i.invariant.rest in
+    let head : chunk c.loop-i.number (slice_of max_chunk_len c.args.src.now c.loop-i.i) ≡ chunk (c.args.id + c.loop-i.i) (slice_of max_chunk_len c.args.src.now c.loop-i.i) =
+    same_chunk c.loop-i.number (c.args.id + c.loop-i.i) (slice_of max_chunk_len c.args.src.now c.loop-i.i) c.loop-i.invariant.number in
     record {
       rest = back;
       number = omega arith;
       written = c.put_chunk.ensures.chunk ∙ ap (λ (t : List ℕ). t ++ chunk c.loop-i.number c.split_at.result.0.now) c.loop-i.invariant.written
-          ∙ append_assoc c.args.dst.now.items (chunks longest c.args.id c.loop-i.i c.args.src.now) (chunk c.loop-i.number c.split_at.result.0.now)
-          ∙ ap (λ (t : List ℕ). c.args.dst.now.items ++ (chunks longest c.args.id c.loop-i.i c.args.src.now ++ t)) (ap (λ (t : List ℕ). chunk c.loop-i.number t) front ∙ head)
-          ∙ ap (λ (t : List ℕ). c.args.dst.now.items ++ t) (sym (chunks_more longest c.args.id c.loop-i.i c.args.src.now));
+          ∙ append_assoc c.args.dst.now.items (chunks max_chunk_len c.args.id c.loop-i.i c.args.src.now) (chunk c.loop-i.number c.split_at.result.0.now)
+          ∙ ap (λ (t : List ℕ). c.args.dst.now.items ++ (chunks max_chunk_len c.args.id c.loop-i.i c.args.src.now ++ t)) (ap (λ (t : List ℕ). chunk c.loop-i.number t) prefix ∙ head)
+          ∙ ap (λ (t : List ℕ). c.args.dst.now.items ++ t) (sym (chunks_more max_chunk_len c.args.id c.loop-i.i c.args.src.now));
       room = omega (arith, c.put_chunk.ensures.spare, c.split_at.ensures.front_len, c.split_at.ensures.back_len, c.loop-i.invariant.room, c.min.ensures);
     }

@@ -1,5 +1,5 @@
 use Rattle.std.proofs.Common.{refl}
-use Rattle.wire_packets.specs.Framing.{chunks, slice_of, framings, number_after}
+use Rattle.wire_packets.specs.Framing.{chunks, slice_of, framings, sequence_id_after}
 use Rattle.wire_packets.specs.Packets.{payload_in, packets_in, full_run}
 use Rattle.wire_packets.proofs.laws.worked_framings.Goals as goal
 
@@ -20,11 +20,11 @@ unfolding packets_in payload_in chunks slice_of
 returns-clause-packets_of_pieces c = refl
 
 pub returns-clause-no_fault : goal.returns-clause-no_fault
-unfolding packets_in payload_in chunks slice_of full_run framings number_after
+unfolding packets_in payload_in chunks slice_of full_run framings sequence_id_after
 returns-clause-no_fault c = refl
 
 pub returns-clause-too_large : goal.returns-clause-too_large
-unfolding packets_in payload_in chunks slice_of full_run framings number_after
+unfolding packets_in payload_in chunks slice_of full_run framings sequence_id_after
 returns-clause-too_large c = refl
 
 pub returns-clause-no_packet : goal.returns-clause-no_packet
@@ -32,5 +32,5 @@ unfolding packets_in payload_in chunks slice_of
 returns-clause-no_packet c = refl
 
 pub returns-clause-out_of_number : goal.returns-clause-out_of_number
-unfolding packets_in payload_in chunks slice_of full_run framings number_after
+unfolding packets_in payload_in chunks slice_of full_run framings sequence_id_after
 returns-clause-out_of_number c = refl

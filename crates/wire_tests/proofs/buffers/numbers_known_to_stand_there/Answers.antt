@@ -16,6 +16,6 @@ eat_lenenc_str-requires g c = record {
   begins = record {
     bytes = 2 ∷ 97 ∷ 98 ∷ [];
     joined = refl;
-    is = record { front = 2 ∷ []; front_is = one {v = 2} (omega arith); joined = refl };
+    is = record { prefix = 2 ∷ []; prefix_is = one {v = 2} (omega arith); joined = refl };
   };
 }

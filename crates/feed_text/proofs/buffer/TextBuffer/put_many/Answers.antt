@@ -1,14 +1,14 @@
 use Rattle.std.proofs.Common.{rules}
 use Rattle.feed_text.specs.Buffers.{text_in}
 use Rattle.feed_text.proofs.QuoteLemmas.{kept_more}
-use Rattle.feed_text.proofs.BufferLemmas.{front_quoted, all_quoted}
+use Rattle.feed_text.proofs.BufferLemmas.{prefix_quoted, all_quoted}
 use Rattle.feed_text.proofs.buffer.TextBuffer.put_many.Goals as goal
 
 pub loop-rest-preserved : goal.loop-rest-preserved
 loop-rest-preserved g c =
     let h = c.loop-rest.invariant in
     record {
-      written = front_quoted _ (text_in c.loop-rest.self) _ c.loop-rest.rest.now _ _ _ h.written c.split_at.ensures.front c.split_at.ensures.back c.in_ok-put_piece.ensures.ok;
+      written = prefix_quoted _ (text_in c.loop-rest.self) _ c.loop-rest.rest.now _ _ _ h.written c.split_at.ensures.front c.split_at.ensures.back c.in_ok-put_piece.ensures.ok;
       kept = kept_more _ (text_in c.loop-rest.self) _ _ h.kept c.in_ok-put_piece.ensures.ok;
     }
 

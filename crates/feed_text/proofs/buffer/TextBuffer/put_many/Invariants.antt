@@ -4,7 +4,7 @@ use Rattle.feed_writers.specs.Quoting.{quoted_byte}
 use Rattle.feed_text.specs.Buffers.{text_in}
 use Rattle.feed_text.proofs.buffer.TextBuffer.put_many.Given as goal
 
--- what is written and what is left to write is all, and what stood there stands there
+-- the text so far and the remaining bytes give the whole text, and the text before is unchanged
 abbrev pub invariant-loop-rest : goal.invariant-loop-rest
 invariant-loop-rest g l = record {
   written : text_in l.self ++ flat_map quoted_byte l.rest ≡ text_in l.fn.self ++ flat_map quoted_byte l.bytes;

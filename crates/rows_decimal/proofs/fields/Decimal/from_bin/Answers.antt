@@ -1,5 +1,5 @@
 use Rattle.std.proofs.Common.{inr, arith, refl, sym, ◌∙◌}
-use Rattle.wire_buf.specs.Spelling.{AreBytes}
+use Rattle.wire_buf.specs.Encoding.{AreBytes}
 use Rattle.rows_decimal.proofs.UnpackedLemmas.{unpacked_past, unpacked_other, slice_ok, slice_err}
 use Rattle.rows_decimal.proofs.fields.Decimal.from_bin.Goals as goal
 

@@ -1,6 +1,6 @@
 use Rattle.std.proofs.Common.{◌≡◌}
 use Rattle.wire_buf.specs.declared.fault.WireFault.TheVariants.{Memory}
-use Rattle.wire_buf.proofs.SpellingLemmas.{IfErr-of_part}
+use Rattle.wire_buf.proofs.EncodingLemmas.{IfErr-of_part}
 use Rattle.rows_events.proofs.FieldLemmas.{extra_reads, size_lacks, data_lacks}
 use Rattle.rows_events.proofs.extra_data.ExtraDataMyDeserialize.deserialize.Goals as goal
 

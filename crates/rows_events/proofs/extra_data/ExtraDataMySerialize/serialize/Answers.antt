@@ -2,13 +2,13 @@ use Rattle.std.proofs.Common.{◌≡◌, ◌≤◌, ◌+◌, length, take, arith
 use Rattle.std.proofs.lemmas.List.{take_all}
 use Rattle.std.proofs.lemmas.Result.{on_ok_weaker}
 use Rattle.wire_ints.specs.Bits.{map_if}
-use Rattle.wire_forms.specs.RawTexts.{text_of}
+use Rattle.wire_forms.specs.RawTexts.{raw_string}
 use Rattle.rows_events.proofs.FieldLemmas.{extra_written}
 use Rattle.rows_events.proofs.extra_data.ExtraDataMySerialize.serialize.Goals as goal
 
 pub returns-clause-ok : goal.returns-clause-ok
 returns-clause-ok g c =
-    let kept = text_of c.args.self.now.0 in
+    let kept = raw_string c.args.self.now.0 in
     let few : length kept ≤ 65533 = omega arith in
     let all : take 65533 kept ≡ kept = take_all _ _ few in
     let size : c.new-size.result.0 ≡ length kept + 2 = omega arith in

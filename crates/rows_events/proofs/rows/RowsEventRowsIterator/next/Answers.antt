@@ -13,16 +13,16 @@ returns-in-Err-clause-steps c = λ t r bytes at.
 pub returns-in-Ok-clause-steps : goal.returns-in-Ok-clause-steps
 returns-in-Ok-clause-steps c = λ t r bytes at.
     let m = c.in_default.ensures.makes t r bytes at in
-    let f = c.in-Ok.ensures.front t r bytes m.1 in
+    let f = c.in-Ok.ensures.prefix t r bytes m.1 in
     record {
       cells = f.cells;
       rest = c.in-Ok.rest.now;
       read = f.read;
       pair_is = f.pair_is;
-      behind = record { table_is = m.1.table_is; event_is = m.1.event_is; made = m.1.made; rest_is = refl };
+      after = record { table_is = m.1.table_is; event_is = m.1.event_is; made = m.1.made; rest_is = refl };
     }
 
-pub returns-in-Err-read_front-clause-steps : goal.returns-in-Err-read_front-clause-steps
-returns-in-Err-read_front-clause-steps c = λ t r bytes at.
+pub returns-in-Err-read_next-clause-steps : goal.returns-in-Err-read_next-clause-steps
+returns-in-Err-read_next-clause-steps c = λ t r bytes at.
     let m = c.in_default.ensures.makes t r bytes at in
-    (c.in-Err-read_front.ensures.front t r bytes m.1, record { table_is = m.1.table_is; event_is = m.1.event_is; made = m.1.made; rest_is = refl })
+    (c.in-Err-read_next.ensures.prefix t r bytes m.1, record { table_is = m.1.table_is; event_is = m.1.event_is; made = m.1.made; rest_is = refl })

@@ -3,7 +3,7 @@ use Rattle.rows_jsonb.proofs.fields.JsonbStringMySerialize.serialize.Goals as go
 
 pub returns-clause-ok : goal.returns-clause-ok
 returns-clause-ok g c =
-    on_ok_weaker c.serialize.result (λ h. record { bytes = h.bytes; is = h.is; appended = h.appended; spells = h.spells; least = h.least }) c.serialize.ensures.ok
+    on_ok_weaker c.serialize.result (λ h. record { bytes = h.bytes; is = h.is; appended = h.appended; encodes = h.encodes; least = h.least }) c.serialize.ensures.ok
 
 pub returns-clause-err : goal.returns-clause-err
 returns-clause-err g c =

@@ -1,6 +1,6 @@
 use Rattle.std.proofs.Common.{arith}
 use Rattle.std.proofs.lemmas.List.{length-take}
-use Rattle.wire_forms.specs.RawTexts.{text_of}
+use Rattle.wire_forms.specs.RawTexts.{raw_string}
 use Rattle.rows_meta.specs.TableMaps.{written_map}
 use Rattle.rows_meta.specs.MapViews.{map_of}
 use Rattle.rows_meta.proofs.LengthLemmas.{map_length, len_from_length}
@@ -9,8 +9,8 @@ use Rattle.rows_meta.proofs.table_map.TableMapEvent.len.Goals as goal
 pub returns : goal.returns
 returns c =
     let t = c.args.self.now in
-    let database = length-take 255 (text_of t.database) in
-    let table = length-take 255 (text_of t.table) in
+    let database = length-take 255 (raw_string t.database) in
+    let table = length-take 255 (raw_string t.table) in
     let said = rw (c.column_types_raw-columns.ensures, c.metadata_raw-metadata.ensures, c.null_bitmask.ensures, c.optional_metadata_raw.ensures) at c.event_len.ensures in
     let columns = rw c.column_types_raw-columns.ensures at c.lenenc_int_len.ensures in
     let metadata = rw c.metadata_raw-metadata.ensures at c.lenenc_int_len-2.ensures in

@@ -13,14 +13,14 @@ returns-in-End-clause-steps c =
 pub returns-in-Fault-clause-steps : goal.returns-in-Fault-clause-steps
 returns-in-Fault-clause-steps c =
     let it = c.args.self.now in
-    rw c.in-Fault.is (sym (fault-first it.default (entries_left it.behind) it.index c.in-Fault.fault), λ k. fault-then it.default (entries_left it.behind) it.index c.in-Fault.fault (next_index it.index) k)
+    rw c.in-Fault.is (sym (fault-first it.default (entries_left it.following) it.index c.in-Fault.fault), λ k. fault-then it.default (entries_left it.following) it.index c.in-Fault.fault (next_index it.index) k)
 
 pub returns-in-Plain-clause-steps : goal.returns-in-Plain-clause-steps
 returns-in-Plain-clause-steps c =
     let it = c.args.self.now in
     rw c.in-Plain.is (
-      sym (plain-first it.default (entries_left it.behind) it.index c.in-Plain.charset),
-      λ k. ap (λ (entries : List (Reading CharsetEntry)). charset_after it.default entries (next_index it.index) k) (sym c.take_entry-self.ensures) ∙ plain-then it.default (entries_left it.behind) it.index c.in-Plain.charset k,
+      sym (plain-first it.default (entries_left it.following) it.index c.in-Plain.charset),
+      λ k. ap (λ (entries : List (Reading CharsetEntry)). charset_after it.default entries (next_index it.index) k) (sym c.take_entry-self.ensures) ∙ plain-then it.default (entries_left it.following) it.index c.in-Plain.charset k,
     )
 
 pub returns-then-column-index-clause-steps : goal.returns-then-column-index-clause-steps
@@ -28,8 +28,8 @@ returns-then-column-index-clause-steps c =
     let it = c.args.self.now in
     let at = c.in-OfColumn in
     rw at.is (
-      c.default_charset-then-column-index.ensures ∙ sym (other-first it.default (entries_left it.behind) it.index at.column at.charset c.if-column-index.true),
-      λ k. other-then it.default (entries_left it.behind) it.index at.column at.charset k c.if-column-index.true,
+      c.default_charset-then-column-index.ensures ∙ sym (other-first it.default (entries_left it.following) it.index at.column at.charset c.if-column-index.true),
+      λ k. other-then it.default (entries_left it.following) it.index at.column at.charset k c.if-column-index.true,
     )
 
 pub returns-else-column-index-clause-steps : goal.returns-else-column-index-clause-steps
@@ -37,6 +37,6 @@ returns-else-column-index-clause-steps c =
     let it = c.args.self.now in
     let at = c.in-OfColumn in
     rw at.is (
-      sym (same-first it.default (entries_left it.behind) it.index at.column at.charset c.if-column-index.false),
-      λ k. ap (λ (entries : List (Reading CharsetEntry)). charset_after it.default entries (next_index it.index) k) (sym c.take_entry-self-in-OfColumn.ensures) ∙ same-then it.default (entries_left it.behind) it.index at.column at.charset k c.if-column-index.false,
+      sym (same-first it.default (entries_left it.following) it.index at.column at.charset c.if-column-index.false),
+      λ k. ap (λ (entries : List (Reading CharsetEntry)). charset_after it.default entries (next_index it.index) k) (sym c.take_entry-self-in-OfColumn.ensures) ∙ same-then it.default (entries_left it.following) it.index at.column at.charset k c.if-column-index.false,
     )

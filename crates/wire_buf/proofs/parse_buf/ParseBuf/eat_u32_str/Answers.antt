@@ -1,4 +1,4 @@
-use Rattle.wire_buf.proofs.SpellingLemmas.{is_some_unless_lacks}
+use Rattle.wire_buf.proofs.EncodingLemmas.{is_some_unless_lacks}
 use Rattle.wire_buf.proofs.parse_buf.ParseBuf.eat_u32_str.Goals as goal
 
 pub unwrap-requires : goal.unwrap-requires

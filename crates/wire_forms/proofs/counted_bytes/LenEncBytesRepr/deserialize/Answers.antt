@@ -1,11 +1,11 @@
 use Rattle.wire_buf.proofs.StringLemmas.{Reads-counted}
 use Rattle.wire_buf.specs.Numbers.{IsLenenc}
 use Rattle.wire_ints.specs.Faults.{lenenc_fault}
-use Rattle.wire_forms.proofs.TextLemmas.{count_refused, count_short}
+use Rattle.wire_forms.proofs.TextLemmas.{count_failed, count_short}
 use Rattle.wire_forms.proofs.counted_bytes.LenEncBytesRepr.deserialize.Goals as goal
 
 pub returns-in_err-length-clause-err : goal.returns-in_err-length-clause-err
-returns-in_err-length-clause-err c = count_refused IsLenenc lenenc_fault _ _ _ c.from_residual.ensures c.in_err-length.ensures.err
+returns-in_err-length-clause-err c = count_failed IsLenenc lenenc_fault _ _ _ c.from_residual.ensures c.in_err-length.ensures.err
 
 pub returns-in_default-clause-err : goal.returns-in_default-clause-err
 returns-in_default-clause-err c =

@@ -1,9 +1,9 @@
 use Rattle.std.proofs.Common.{◌≢◌, inr, sym, ◌∙◌}
-use Rattle.wire_buf.specs.Spelling.{Alone}
+use Rattle.wire_buf.specs.Encoding.{Alone}
 use Rattle.wire_buf.specs.Numbers.{IsLittle}
 use Rattle.wire_buf.proofs.NumberLemmas.{little_reads}
 use Rattle.wire_buf.specs.declared.fault.WireFault.TheVariants.{Eof}
-use Rattle.wire_forms.proofs.FieldLemmas.{unknown_stands, constant_reads, constant_lacks}
+use Rattle.wire_forms.proofs.FieldLemmas.{unknown_begins, constant_reads, constant_lacks}
 use Rattle.wire_forms.proofs.fixed.ConstU32MyDeserialize.deserialize.Goals as goal
 
 pub returns-clause-ok : goal.returns-clause-ok
@@ -18,5 +18,5 @@ returns-then-eat_u32_le-clause-err g c =
 
 pub returns-then-eat_u32_le-clause-why : goal.returns-then-eat_u32_le-clause-why
 returns-then-eat_u32_le-clause-why g c =
-    unknown_stands (λ n. n ≢ g.row.VALUE) (IsLittle 4) (λ x. Eof) c.eat_u32_le.result _ _
+    unknown_begins (λ n. n ≢ g.row.VALUE) (IsLittle 4) (λ x. Eof) c.eat_u32_le.result _ _
     (little_reads 4 _ _ _ c.requires c.eat_u32_le.ensures.value c.eat_u32_le.ensures.rest) c.if-eat_u32_le.true

@@ -1,6 +1,6 @@
 use Rattle.std.proofs.Common.{◌≡◌, sym}
 use Rattle.wire_buf.specs.declared.fault.WireFault.TheVariants.{Memory}
-use Rattle.wire_buf.proofs.SpellingLemmas.{Reads-is, IfErr-of_lack}
+use Rattle.wire_buf.proofs.EncodingLemmas.{Reads-is, IfErr-of_lack}
 use Rattle.wire_forms.proofs.flags.RawFlagsMyDeserialize.deserialize.Goals as goal
 
 pub returns-in_err-bits-clause-err : goal.returns-in_err-bits-clause-err

@@ -1,7 +1,7 @@
 use Rattle.std.proofs.Common.{◌≡◌, sym, ap}
 use Rattle.std.specs.Cow.{cow_slice_items}
 use Rattle.wire_buf.specs.declared.fault.WireFault.TheVariants.{Memory}
-use Rattle.wire_buf.proofs.SpellingLemmas.{Reads-is, IfErr-of_lack}
+use Rattle.wire_buf.proofs.EncodingLemmas.{Reads-is, IfErr-of_lack}
 use Rattle.wire_forms.proofs.raw_bytes.RawBytesMyDeserialize.deserialize.Goals as goal
 
 pub returns-in_err-text-clause-err : goal.returns-in_err-text-clause-err

@@ -5,6 +5,6 @@ use Rattle.wire_ints.proofs.buf_mut_ext.BufMutExt.put_u8_str.Goals as goal
 
 pub returns-clause-ok : goal.returns-clause-ok
 returns-clause-ok g c =
-    let size : length c.cut-text.result.now ≤ 255 = c.cut-text.ensures.size in
-    on_ok_weaker _ (λ appended. counted_writes 1 c.cut-text.result.now _ _ _ c.cut-text.ensures.value (omega (arith, size))
-    (appended ∙ ap (λ l. g.Self.BufMut.written c.args.self.now ++ (l ++ c.cut-text.result.now)) (byte_counted (length c.cut-text.result.now) size))) c.put_both.ensures.ok
+    let size : length c.truncated-text.result.now ≤ 255 = c.truncated-text.ensures.size in
+    on_ok_weaker _ (λ appended. counted_writes 1 c.truncated-text.result.now _ _ _ c.truncated-text.ensures.value (omega (arith, size))
+    (appended ∙ ap (λ l. g.Self.BufMut.written c.args.self.now ++ (l ++ c.truncated-text.result.now)) (byte_counted (length c.truncated-text.result.now) size))) c.put_both.ensures.ok

@@ -1,5 +1,5 @@
 use Rattle.std.proofs.Common.{ap}
-use Rattle.wire_buf.proofs.SpellingLemmas.{Reads-fixed}
+use Rattle.wire_buf.proofs.EncodingLemmas.{Reads-fixed}
 use Rattle.wire_ints.proofs.fixed.FixedIntRepr.deserialize.Goals as goal
 
 pub returns-clause-ok : goal.returns-clause-ok

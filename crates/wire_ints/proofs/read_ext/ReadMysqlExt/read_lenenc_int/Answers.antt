@@ -1,5 +1,5 @@
 use Rattle.std.proofs.Common.{arith, sym, ◌∙◌, refl}
-use Rattle.wire_buf.specs.Spelling.{Alone}
+use Rattle.wire_buf.specs.Encoding.{Alone}
 use Rattle.wire_buf.specs.Numbers.{IsLenenc, two, three, eight}
 use Rattle.wire_ints.specs.Streams.{FailsFrom}
 use Rattle.wire_ints.proofs.LenencStreamLemmas.{single, reads_one, reads_tail, two_short, three_short, eight_short, fails_bad, fails_tail, IfErr-same}

@@ -3,7 +3,7 @@ use Rattle.wire_ints.proofs.SevenLemmas.{varlen_reads, varlen_lacks, varlen_lack
 use Rattle.wire_ints.proofs.varlen.VarLenIntRepr.deserialize.Goals as goal
 
 pub returns-in_default-clause-err : goal.returns-in_default-clause-err
-returns-in_default-clause-err c = (varlen_lacks _ (sym c.in_default.ensures), c.fault_of.ensures)
+returns-in_default-clause-err c = (varlen_lacks _ (sym c.in_default.ensures), c.missing_fault.ensures)
 
 pub returns-then-value-gt4294967295-clause-err : goal.returns-then-value-gt4294967295-clause-err
 returns-then-value-gt4294967295-clause-err c =

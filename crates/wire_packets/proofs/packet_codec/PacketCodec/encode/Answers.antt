@@ -1,4 +1,4 @@
-use Rattle.wire_packets.proofs.StandingLemmas.{before_streams}
+use Rattle.wire_packets.proofs.CodecStateLemmas.{before_streams}
 use Rattle.wire_packets.proofs.packet_codec.PacketCodec.encode.Goals as goal
 
 pub returns-then-src-self-clause-before : goal.returns-then-src-self-clause-before

@@ -1,4 +1,4 @@
-use Rattle.wire_packets.proofs.StandingLemmas.{before_streams}
+use Rattle.wire_packets.proofs.CodecStateLemmas.{before_streams}
 use Rattle.wire_packets.proofs.packet_codec.PacketCodec.reset_seq_id.Goals as goal
 
 pub returns-clause-before : goal.returns-clause-before

@@ -1,5 +1,5 @@
 use Rattle.std.proofs.Common.{refl}
-use Rattle.wire_packets.proofs.StandingLemmas.{before_streams}
+use Rattle.wire_packets.proofs.CodecStateLemmas.{before_streams}
 use Rattle.wire_packets.proofs.packet_codec.PacketCodec.with_number.Goals as goal
 
 pub returns-clause-before : goal.returns-clause-before

@@ -1,6 +1,6 @@
 use Rattle.std.proofs.Common.{sym, ap}
 use Rattle.std.specs.Cow.{cow_slice_items}
-use Rattle.wire_buf.proofs.SpellingLemmas.{Reads-is}
+use Rattle.wire_buf.proofs.EncodingLemmas.{Reads-is}
 use Rattle.wire_seqs.proofs.raw_seq.RawSeqMyDeserialize.deserialize.Goals as goal
 
 pub returns-clause-ok : goal.returns-clause-ok

@@ -1,0 +1,251 @@
+//! The body of an event of any type: read by its type, made owned, and written again. The `Debug` text shows all fields.
+
+use events_data::EventData;
+use events_frames::{BinlogCtx, EventError, FormatDescriptionEvent};
+use events_tests::samples::{
+    BEGIN_LOAD, FULL, INCIDENT, INTVAR, LOAD, QUERY, RAND, ROTATE, UNSIGNED, UPDATE, XID,
+};
+use events_tests::worked::{DESCRIPTION, INSERT, TABLE_MAP};
+use rows_consts::{BinlogVersion, EventType};
+use std::alloc::Global;
+use wire_buf::MySerialize;
+
+/// The body of an event of the type, if the format description lists no post-header lengths.
+fn read<'a>(
+    alloc: Global,
+    in_force: &'a FormatDescriptionEvent<'a>,
+    event_type: EventType,
+    body: &'a [u8],
+) -> Result<EventData<'a>, EventError> {
+    EventData::read(
+        alloc,
+        event_type,
+        BinlogCtx::new(body.len(), in_force, 0),
+        body,
+    )
+}
+
+/// Whether the event is written as the bytes, and `len` returns their number.
+fn is_written(alloc: Global, event: &EventData<'_>, bytes: &[u8]) -> bool {
+    let mut out = Vec::new(alloc);
+    event.serialize(&mut out).is_ok() && out.as_slice() == bytes && event.len() == bytes.len()
+}
+
+/// The `Debug` text of the event, if it is written as the bytes.
+fn text_of(alloc: Global, event: EventData<'_>, bytes: &[u8]) -> Option<String> {
+    let text = if is_written(alloc, &event, bytes) {
+        format!(in alloc; "{event:?}").ok()
+    } else {
+        None
+    };
+    drop(event);
+    text
+}
+
+/// The same for the event with bytes of its own.
+fn owned_text(alloc: Global, event: EventData<'_>, bytes: &[u8]) -> Option<String> {
+    match event.into_owned(alloc) {
+        Ok(owned) => text_of(alloc, owned, bytes),
+        Err(_) => None,
+    }
+}
+
+/// The `Debug` text of the event of the type with these bytes, if it is written as them; with bytes of its own, if it should be.
+fn text(alloc: Global, event_type: EventType, is_owned: bool, body: &[u8]) -> Option<String> {
+    let in_force = FormatDescriptionEvent::new(BinlogVersion::Version4);
+    match read(alloc, &in_force, event_type, body) {
+        Ok(event) => {
+            if is_owned {
+                owned_text(alloc, event, body)
+            } else {
+                text_of(alloc, event, body)
+            }
+        }
+        Err(_) => None,
+    }
+}
+
+/// Whether the body is read as an event whose `Debug` text begins so, and written as it was read; and whether the event has the
+/// same text when it is owned.
+fn is_kept(alloc: Global, event_type: EventType, start: &str, body: &[u8]) -> bool {
+    match (
+        text(alloc, event_type, false, body),
+        text(alloc, event_type, true, body),
+    ) {
+        (Some(text), Some(owned)) => text.starts_with(start) && text == owned,
+        _ => false,
+    }
+}
+
+#[test]
+fn events_of_plain_types(rt: HostRuntime) {
+    let alloc = rt.alloc();
+    assert!(rt;
+        is_kept(
+            alloc,
+            EventType::ROTATE_EVENT,
+            "RotateEvent(RotateEvent {",
+            ROTATE
+        ) && is_kept(
+            alloc,
+            EventType::INTVAR_EVENT,
+            "IntvarEvent(IntvarEvent {",
+            INTVAR
+        ) && is_kept(alloc, EventType::RAND_EVENT, "RandEvent(RandEvent {", RAND)
+            && is_kept(
+                alloc,
+                EventType::USER_VAR_EVENT,
+                "UserVarEvent(UserVarEvent {",
+                UNSIGNED
+            )
+            && is_kept(alloc, EventType::XID_EVENT, "XidEvent(XidEvent {", XID)
+            && is_kept(
+                alloc,
+                EventType::BEGIN_LOAD_QUERY_EVENT,
+                "BeginLoadQueryEvent(BeginLoadQueryEvent {",
+                BEGIN_LOAD
+            )
+            && is_kept(
+                alloc,
+                EventType::INCIDENT_EVENT,
+                "IncidentEvent(IncidentEvent {",
+                INCIDENT
+            )
+            && is_kept(
+                alloc,
+                EventType::ROWS_QUERY_EVENT,
+                "RowsQueryEvent(RowsQueryEvent {",
+                b"\0select 1"
+            )
+    );
+}
+
+#[test]
+fn events_of_other_types(rt: HostRuntime) {
+    let alloc = rt.alloc();
+    assert!(rt;
+        is_kept(
+            alloc,
+            EventType::FORMAT_DESCRIPTION_EVENT,
+            "FormatDescriptionEvent(FormatDescriptionEvent {",
+            &DESCRIPTION[19..76]
+        ) && is_kept(
+            alloc,
+            EventType::QUERY_EVENT,
+            "QueryEvent(QueryEvent {",
+            QUERY
+        ) && is_kept(
+            alloc,
+            EventType::EXECUTE_LOAD_QUERY_EVENT,
+            "ExecuteLoadQueryEvent(ExecuteLoadQueryEvent {",
+            LOAD
+        ) && is_kept(
+            alloc,
+            EventType::TABLE_MAP_EVENT,
+            "TableMapEvent(TableMapEvent {",
+            &TABLE_MAP[19..]
+        ) && is_kept(alloc, EventType::GTID_EVENT, "GtidEvent(GtidEvent {", FULL)
+            && is_kept(
+                alloc,
+                EventType::ANONYMOUS_GTID_EVENT,
+                "AnonymousGtidEvent(AnonymousGtidEvent(GtidEvent {",
+                FULL
+            )
+    );
+}
+
+// An event of version 1 has no extra data.
+#[test]
+fn events_of_rows_types(rt: HostRuntime) {
+    let alloc = rt.alloc();
+    let one = b"\x07\0\0\0\0\0\x01\0\x01\x01row";
+    let two = b"\x07\0\0\0\0\0\x01\0\x01\x01\x01rows";
+    assert!(rt;
+        is_kept(
+            alloc,
+            EventType::WRITE_ROWS_EVENT,
+            "RowsEvent(WriteRowsEvent(",
+            &INSERT[19..]
+        ) && is_kept(
+            alloc,
+            EventType::UPDATE_ROWS_EVENT,
+            "RowsEvent(UpdateRowsEvent(",
+            UPDATE
+        ) && is_kept(
+            alloc,
+            EventType::DELETE_ROWS_EVENT,
+            "RowsEvent(DeleteRowsEvent(",
+            &INSERT[19..]
+        ) && is_kept(
+            alloc,
+            EventType::PARTIAL_UPDATE_ROWS_EVENT,
+            "RowsEvent(PartialUpdateRowsEvent(",
+            UPDATE
+        ) && is_kept(
+            alloc,
+            EventType::WRITE_ROWS_EVENT_V1,
+            "RowsEvent(WriteRowsEventV1(",
+            one
+        ) && is_kept(
+            alloc,
+            EventType::UPDATE_ROWS_EVENT_V1,
+            "RowsEvent(UpdateRowsEventV1(",
+            two
+        ) && is_kept(
+            alloc,
+            EventType::DELETE_ROWS_EVENT_V1,
+            "RowsEvent(DeleteRowsEventV1(",
+            one
+        )
+    );
+}
+
+/// Whether the body of an event of the type stays unparsed bytes, whatever these are.
+fn is_raw(alloc: Global, event_type: EventType, start: &str) -> bool {
+    is_kept(alloc, event_type, start, b"\xffany bytes") && is_kept(alloc, event_type, start, b"")
+}
+
+#[test]
+fn events_without_a_encoding(rt: HostRuntime) {
+    let alloc = rt.alloc();
+    assert!(rt;
+        is_raw(alloc, EventType::UNKNOWN_EVENT, "Raw(UNKNOWN_EVENT,")
+            && is_raw(alloc, EventType::STOP_EVENT, "Raw(STOP_EVENT,")
+            && is_raw(alloc, EventType::HEARTBEAT_EVENT, "Raw(HEARTBEAT_EVENT,")
+            && is_raw(
+                alloc,
+                EventType::PREVIOUS_GTIDS_EVENT,
+                "Raw(PREVIOUS_GTIDS_EVENT,"
+            )
+            && is_raw(
+                alloc,
+                EventType::TRANSACTION_PAYLOAD_EVENT,
+                "Raw(TRANSACTION_PAYLOAD_EVENT,"
+            )
+            && is_raw(
+                alloc,
+                EventType::PRE_GA_WRITE_ROWS_EVENT,
+                "Raw(PRE_GA_WRITE_ROWS_EVENT,"
+            )
+    );
+}
+
+/// Why the body of an event of the type can't be read, or None if it can.
+fn read_error(alloc: Global, event_type: EventType, body: &[u8]) -> Option<EventError> {
+    let in_force = FormatDescriptionEvent::new(BinlogVersion::Version4);
+    read(alloc, &in_force, event_type, body).err()
+}
+
+#[test]
+fn events_failed_by_their_type(rt: HostRuntime) {
+    let alloc = rt.alloc();
+    assert!(rt;
+        read_error(alloc, EventType::XID_EVENT, &XID[..7]) == Some(EventError::EndOfBody)
+            && read_error(alloc, EventType::XID_EVENT, &[0; 9]) == Some(EventError::RemainingBytes)
+            && read_error(alloc, EventType::GTID_EVENT, &FULL[..24]) == Some(EventError::EndOfBody)
+            && read_error(alloc, EventType::FORMAT_DESCRIPTION_EVENT, &[0; 57])
+                == Some(EventError::Invalid)
+            && read_error(alloc, EventType::DELETE_ROWS_EVENT, &UPDATE[..10])
+                == Some(EventError::EndOfBody)
+    );
+}

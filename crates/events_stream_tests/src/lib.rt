@@ -1,0 +1,13 @@
+//! Tests of events of any type, files and streams: a file for each subject.
+#![tactic(auto)]
+
+#[cfg(test)]
+mod event_data;
+#[cfg(test)]
+mod example;
+#[cfg(test)]
+mod files;
+#[cfg(test)]
+mod owned_events;
+#[cfg(test)]
+mod readers;
