@@ -74,18 +74,25 @@ fn report_to_stdout<P: Print, R: Read + Drop>(rt: &P, alloc: Global, reader: R) 
 }
 
 /// Opens a file for reading. The error is `Memory` or `Open`.
+fn open_file<P: Files>(rt: &P, path: &str) -> Result<P::File, &'static str> {
+    match File::open(rt, path) {
+        Ok(file) => Ok(file),
+        Err(error) if error.kind() == ErrorKind::OutOfMemory => Err("Memory"),
+        Err(_) => Err("Open"),
+    }
+}
+
+/// Opens a file for reading through a buffer. The error is `Memory` or `Open`.
 fn open<P: Files>(rt: &P, alloc: Global, path: &str) -> Result<BufReader<P::File>, &'static str> {
-    let file = match File::open(rt, path) {
-        Ok(file) => file,
-        Err(error) if error.kind() == ErrorKind::OutOfMemory => return Err("Memory"),
-        Err(_) => return Err("Open"),
-    };
-    BufReader::with_capacity(alloc, BUFFER_LEN, file).map_err(|_| "Memory")
+    match open_file(rt, path) {
+        Ok(file) => BufReader::with_capacity(alloc, BUFFER_LEN, file).map_err(|_| "Memory"),
+        Err(name) => Err(name),
+    }
 }
 
 /// Reports a file.
 fn report_file<P: Print + Eprint + Files>(rt: &P, alloc: Global, path: &str) -> ExitCode {
-    match open(rt, alloc, path) {
+    match open_file(rt, path) {
         Ok(reader) => end_with(rt, report_to_stdout(rt, alloc, reader)),
         Err(name) => fail(rt, name),
     }

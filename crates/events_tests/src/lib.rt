@@ -28,6 +28,8 @@ mod queries;
 mod rows_by_type;
 pub mod samples;
 #[cfg(test)]
+mod sources;
+#[cfg(test)]
 mod status_vars;
 #[cfg(test)]
 mod user_vars;

@@ -38,7 +38,7 @@ impl Write for Full {
     }
 }
 
-/// A reader that records how many bytes were requested from it in all.
+/// A reader that gives one byte at a time, and records how many were requested from it in all.
 #[derive(Drop)]
 struct Asked<'a> {
     bytes: &'a [u8],
@@ -48,8 +48,9 @@ struct Asked<'a> {
 
 impl Read for Asked<'_> {
     fn read(&mut self, buf: &mut [u8]) -> io::Result<usize> {
-        self.asked.set(self.given.saturating_add(buf.len()));
-        let taken = self.bytes.read(buf)?;
+        let len = buf.len().min(1);
+        self.asked.set(self.given.saturating_add(len));
+        let taken = self.bytes.read(&mut buf[..len])?;
         self.given = self.given.saturating_add(taken);
         Ok(taken)
     }

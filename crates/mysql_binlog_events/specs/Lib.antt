@@ -21,6 +21,7 @@ pub use Rattle.events_frames.specs.Contexts
 pub use Rattle.events_frames.specs.EventParts
 pub use Rattle.events_frames.specs.Events
 pub use Rattle.events_frames.specs.Frames
+pub use Rattle.events_frames.specs.Sources
 pub use Rattle.events_frames.specs.Checksums
 pub use Rattle.events_gtids.specs.Stamps
 pub use Rattle.events_gtids.specs.OptionalFields

@@ -16,8 +16,8 @@ pub use events_bodies::{
 pub use events_data::{BodyFormat, EventData};
 pub use events_frames::{
     BinlogCtx, BinlogEvent, BinlogEventFooter, BinlogEventHeader, BinlogFileHeader, BinlogStruct,
-    EventError, EventParts, FormatDescriptionEvent, NextFrame, calc_checksum, gather, next_frame,
-    read_body, read_struct,
+    EventError, EventParts, EventSource, FormatDescriptionEvent, NextFrame, calc_checksum, gather,
+    next_frame, read_body, read_struct,
 };
 pub use events_gtids::{AnonymousGtidEvent, GtidEvent};
 pub use events_queries::{
