@@ -5,7 +5,7 @@ use Rattle.feed_writers.specs.declared.escapes.TheConstants.{DIGITS}
 use Rattle.feed_writers.specs.Quoting.{escape}
 
 -- the digit in the table
-glyph_at : (d : ℕ) → d < 16 → slice_index DIGITS d ≡ digit_glyph false d
+pub glyph_at : (d : ℕ) → d < 16 → slice_index DIGITS d ≡ digit_glyph false d
 glyph_at d h = grind arith
 
 pub hex_is : (base one two : List ℕ) (b high low : ℕ) → b < 256 → high ≡ b / 16 → low ≡ b % 16 → one ≡ base ++ slice_index DIGITS high ∷ [] → two ≡ one ++ slice_index DIGITS low ∷ []

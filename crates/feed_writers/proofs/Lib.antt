@@ -3,3 +3,4 @@ pub mod PlainLemmas
 pub mod EscapeLemmas
 pub mod QuotedLemmas
 pub mod ColumnLabelLemmas
+pub mod BlockLemmas

@@ -14,7 +14,7 @@ use Rattle.feed_writers.specs.Quoting.{is_plain_byte}
 use Rattle.feed_writers.specs.PlainBytes.{IsPlainPrefix}
 
 -- ---- a fact for each number below n, by computation
-abbrev upto : (ℕ → Bool) → ℕ → Bool
+abbrev pub upto : (ℕ → Bool) → ℕ → Bool
 upto p zero = true
 upto p (suc n) = p n && upto p n
 
@@ -22,7 +22,7 @@ both : (a b : Bool) → T (a && b) → T a × T b
 both true b h = (tt, h)
 both false b h = absurd h
 
-upto_sound : (p : ℕ → Bool) (n : ℕ) → T (upto p n) → (i : ℕ) → i < n → T (p i)
+pub upto_sound : (p : ℕ → Bool) (n : ℕ) → T (upto p n) → (i : ℕ) → i < n → T (p i)
 upto_sound p zero h i lt = absurd (not-suc-le-zero lt)
 upto_sound p (suc n) h i lt = go (upto_sound p n (both (p n) (upto p n) h).1 i) (cases_order i n)
   where
@@ -45,7 +45,7 @@ same_is false true h = absurd h
 abbrev hit : ℕ → ℕ → ℕ
 hit a b = cond (eqb a b) 255 0
 
-abbrev below : ℕ → ℕ → ℕ
+abbrev pub below : ℕ → ℕ → ℕ
 below a b = cond (ltb a b) 255 0
 
 zip2-map : (f g : ℕ → ℕ) (xs : List ℕ) → zip2 bit_or (map f xs) (map g xs) ≡ map (λ x. bit_or (f x) (g x)) xs
@@ -63,13 +63,8 @@ each_byte : (f : ℕ → ℕ) (p : ℕ → Bool) → T (upto (λ x. same (top 7 
 each_byte f p all [] fits = refl
 each_byte f p all (x ∷ xs) fits = ap₂ (λ a b. a ∷ b) (same_is _ _ (upto_sound (λ y. same (top 7 (f y)) (p y)) 256 all x fits.0.fits)) (each_byte f p all xs fits.1)
 
-masked : (f : ℕ → ℕ) (p : ℕ → Bool) (v z : List ℕ) → length v ≤ 64 → Each1 (Fits w8) v → z ≡ map f v → T (upto (λ x. same (top 7 (f x)) (p x)) 256)
-    → mask_l (map (top 7) z) % 2 ^ 64 ≡ mask_l (map p v)
-masked f p v z short fits e all =
-    ap (λ l. mask_l l % 2 ^ 64) (ap (map (top 7)) e ∙ each_byte f p all v fits) ∙ mask_l-mod (map p v) 64 (omega (arith, length-map v p))
-
 -- ---- plain bytes
-abbrev is_stop : ℕ → Bool
+abbrev pub is_stop : ℕ → Bool
 is_stop x = not (is_plain_byte x)
 
 no_stop : (b : Bool) → not (not b) ≡ true → b ≡ true
@@ -95,18 +90,22 @@ plain_from_mask d n room none k q =
     ap is_plain_byte (sym (get_or-take n d k 0 q)) ∙ all_plain (chunk 0 n d) (leading_from_mask_l is_stop (chunk 0 n d) none) k (omega arith)
 
 -- the four tests of a vector of n lanes, as the code makes them
-pub stops_from_lanes : (d : List ℕ) (n : ℕ) → n ≤ length d → n ≤ 64 → ((k : ℕ) → Fits w8 (get_or d k 0))
-    → mask_l (map (top 7) (zip2 bit_or (zip2 bit_or (zip2 bit_or (zip2 hit (chunk 0 n d) (replicate n 39)) (zip2 hit (chunk 0 n d) (replicate n 92))) (zip2 below (chunk 0 n d) (replicate n 32))) (zip2 below (replicate n 126) (chunk 0 n d)))) % 2 ^ 64
-    ≡ mask_l (map is_stop (chunk 0 n d))
+abbrev pub tests_of : List ℕ → ℕ → List Bool
+tests_of v n = map (top 7) (zip2 bit_or (zip2 bit_or (zip2 bit_or (zip2 hit v (replicate n 39)) (zip2 hit v (replicate n 92))) (zip2 below v (replicate n 32))) (zip2 below (replicate n 126) v))
+
+pub stops_by_lane : (v : List ℕ) (n : ℕ) → length v ≡ n → Each1 (Fits w8) v → tests_of v n ≡ map is_stop v
+stops_by_lane v n long fits =
+    let above : zip2 below (replicate n 126) v ≡ map (below 126) v = ap (λ k. zip2 below (replicate k 126) v) (sym long) ∙ splat_left below 126 v in
+    let all = either _ _ v (either _ _ v (either _ _ v (zip2_splat hit v n 39 long) (zip2_splat hit v n 92 long)) (zip2_splat below v n 32 long)) above in
+    ap (map (top 7)) all ∙ each_byte _ is_stop tt v fits
+
+pub stops_from_lanes : (d : List ℕ) (n : ℕ) → n ≤ length d → n ≤ 64 → ((k : ℕ) → Fits w8 (get_or d k 0)) → mask_l (tests_of (chunk 0 n d) n) % 2 ^ 64 ≡ mask_l (map is_stop (chunk 0 n d))
 stops_from_lanes d n room few fits =
     let v = chunk 0 n d in
     let long = length-chunk 0 n d (omega (arith, room)) in
-    let above : zip2 below (replicate n 126) v ≡ map (below 126) v = ap (λ k. zip2 below (replicate k 126) v) (sym long) ∙ splat_left below 126 v in
-    masked _ is_stop v _ (omega arith) (chunk-fits w8 0 n d fits) (either _ _ v (either _ _ v (either _ _ v (zip2_splat hit v n 39 long) (zip2_splat hit v n 92 long)) (zip2_splat below v n 32 long)) above) tt
+    ap (λ l. mask_l l % 2 ^ 64) (stops_by_lane v n long (chunk-fits w8 0 n d fits)) ∙ mask_l-mod (map is_stop v) 64 (omega (arith, length-map v is_stop, long))
 
-pub plain_from_lanes : (d : List ℕ) (n : ℕ) → n ≤ length d → n ≤ 64 → ((k : ℕ) → Fits w8 (get_or d k 0))
-    → OnTrue (mask_l (map (top 7) (zip2 bit_or (zip2 bit_or (zip2 bit_or (zip2 hit (chunk 0 n d) (replicate n 39)) (zip2 hit (chunk 0 n d) (replicate n 92))) (zip2 below (chunk 0 n d) (replicate n 32))) (zip2 below (replicate n 126) (chunk 0 n d)))) % 2 ^ 64 == 0)
-    (IsPlainPrefix d n)
+pub plain_from_lanes : (d : List ℕ) (n : ℕ) → n ≤ length d → n ≤ 64 → ((k : ℕ) → Fits w8 (get_or d k 0)) → OnTrue (mask_l (tests_of (chunk 0 n d) n) % 2 ^ 64 == 0) (IsPlainPrefix d n)
 plain_from_lanes d n room few fits = on_true _ _ (λ e. plain_from_mask d n room (sym (stops_from_lanes d n room few fits) ∙ eqb-true _ 0 e))
 
 one_up : (n : ℕ) → 1 + n ≡ suc n

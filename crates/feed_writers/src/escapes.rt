@@ -8,7 +8,7 @@ ghost use Rattle.feed_writers.specs.Quoting.{escape};
 use crate::digits::put_byte;
 
 /// The lower case hexadecimal digits.
-static DIGITS: [u8; 16] = *b"0123456789abcdef";
+pub(crate) static DIGITS: [u8; 16] = *b"0123456789abcdef";
 
 /// Writes a backslash and the two hexadecimal digits of a byte.
 #[inline(always)]

@@ -4,6 +4,7 @@
 //! bytes after it aren't text yet, and it may overwrite them. The specifications of the texts are in `specs/`.
 #![tactic(auto)]
 
+mod blocks;
 mod column_labels;
 mod digits;
 mod escapes;

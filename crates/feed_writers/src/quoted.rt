@@ -1,12 +1,14 @@
-//! Quoted bytes, eight at a time.
+//! Quoted bytes, sixteen or eight at a time.
 
-ghost use Rattle.std.specs.Prelude.{◌≡◌, ◌≤◌, ◌<◌, ◌+◌, ◌*◌, ◌++◌, IfNone, IfSome, length, take, take_while, if◌then◌else◌};
+ghost use Rattle.std.specs.Prelude.{◌≡◌, ◌≤◌, ◌<◌, ◌+◌, ◌-◌, ◌*◌, ◌++◌, IfNone, IfSome, length, take, take_while, replicate, if◌then◌else◌};
 ghost use Rattle.std.specs.List.{flat_map};
 ghost use Rattle.feed_writers.specs.Quoting.{is_plain_byte, quoted, quoted_byte};
 
+use crate::blocks::{last_bytes, put_sixteen_bytes};
 use crate::digits::{put_byte, put_bytes};
 use crate::escapes::{put_escape, put_hex};
 use crate::plain::{are_eight_plain, are_four_plain, is_plain, sixteen_plain_len};
+use std::simd::prelude::*;
 
 /// Writes bytes in single quotes.
 #[inline(always)]
@@ -43,6 +45,53 @@ pub fn put_plain_quoted(text: &mut [u8], at: usize, bytes: &[u8], len: usize) ->
 /// Writes bytes as they are written between quotes.
 #[inline(always)]
 pub fn put_quoted_content(text: &mut [u8], at: usize, bytes: &[u8]) -> usize
+    requires { at + 3 * length bytes.now ≤ length text.old }
+    ensures most { result ≤ at + 3 * length bytes.now }
+    ensures text { take result text.new ≡ take at text.old ++ flat_map quoted_byte bytes.now }
+{
+    if bytes.len() >= 18 {
+        return put_long(text, at, bytes);
+    }
+    put_short(text, at, bytes)
+}
+
+/// Writes bytes as they are written between quotes, sixteen at a time. The last ones are padded to sixteen if there is room.
+#[inline(never)]
+fn put_long(text: &mut [u8], at: usize, bytes: &[u8]) -> usize
+    requires long { 16 ≤ length bytes.now }
+    requires room { at + 3 * length bytes.now ≤ length text.old }
+    ensures most { result ≤ at + 3 * length bytes.now }
+    ensures text { take result text.new ≡ take at text.old ++ flat_map quoted_byte bytes.now }
+{
+    let mut end = at;
+    let mut rest = bytes;
+    while rest.len() >= 18 {
+        end = put_sixteen_bytes(text, end, u8x16::from_slice(rest));
+        let (_, after) = rest.split_at(16);
+        rest = after;
+    }
+    if rest.len() <= 16 && text.len() - end >= 52 {
+        return put_padded_bytes(text, end, last_bytes(bytes, rest.len()), rest.len());
+    }
+    put_short(text, end, rest)
+}
+
+/// Writes the first `len` of sixteen bytes as they are written between quotes; spaces are after them.
+#[inline(always)]
+fn put_padded_bytes(text: &mut [u8], at: usize, padded: u8x16, len: usize) -> usize
+    requires few { len ≤ 16 }
+    requires room { at + 52 ≤ length text.old }
+    requires padded { padded ≡ take len padded ++ replicate (16 - len) 32 }
+    ensures most { result ≤ at + 3 * len }
+    ensures text { take result text.new ≡ take at text.old ++ flat_map quoted_byte (take len padded) }
+{
+    let end = put_sixteen_bytes(text, at, padded);
+    end - (16 - len)
+}
+
+/// Writes bytes as they are written between quotes, eight at a time.
+#[inline(always)]
+fn put_short(text: &mut [u8], at: usize, bytes: &[u8]) -> usize
     requires { at + 3 * length bytes.now ≤ length text.old }
     ensures most { result ≤ at + 3 * length bytes.now }
     ensures text { take result text.new ≡ take at text.old ++ flat_map quoted_byte bytes.now }

@@ -1,0 +1,141 @@
+//! Quoted bytes, sixteen at a time.
+
+ghost use Rattle.std.specs.Prelude.{◌≡◌, ◌≤◌, ◌<◌, ◌+◌, ◌-◌, ◌++◌, List, ℕ, length, map, take, drop, replicate};
+ghost use Rattle.std.specs.List.{flat_map};
+ghost use Rattle.feed_writers.specs.Quoting.{quoted_byte};
+ghost use Rattle.feed_writers.specs.Fields.{high_digit, low_digit, field_of, stops_in, AreParts};
+
+use crate::escapes::DIGITS;
+use std::simd::prelude::*;
+
+/// The offsets in four fields of what is written, by the bits of the bytes that need an escape.
+static WRITTEN: [[u8; 16]; 16] = [
+    [0, 4, 8, 12, 0, 0, 0, 0, 0, 0, 0, 0, 0, 0, 0, 0],
+    [0, 1, 2, 4, 8, 12, 0, 0, 0, 0, 0, 0, 0, 0, 0, 0],
+    [0, 4, 5, 6, 8, 12, 0, 0, 0, 0, 0, 0, 0, 0, 0, 0],
+    [0, 1, 2, 4, 5, 6, 8, 12, 0, 0, 0, 0, 0, 0, 0, 0],
+    [0, 4, 8, 9, 10, 12, 0, 0, 0, 0, 0, 0, 0, 0, 0, 0],
+    [0, 1, 2, 4, 8, 9, 10, 12, 0, 0, 0, 0, 0, 0, 0, 0],
+    [0, 4, 5, 6, 8, 9, 10, 12, 0, 0, 0, 0, 0, 0, 0, 0],
+    [0, 1, 2, 4, 5, 6, 8, 9, 10, 12, 0, 0, 0, 0, 0, 0],
+    [0, 4, 8, 12, 13, 14, 0, 0, 0, 0, 0, 0, 0, 0, 0, 0],
+    [0, 1, 2, 4, 8, 12, 13, 14, 0, 0, 0, 0, 0, 0, 0, 0],
+    [0, 4, 5, 6, 8, 12, 13, 14, 0, 0, 0, 0, 0, 0, 0, 0],
+    [0, 1, 2, 4, 5, 6, 8, 12, 13, 14, 0, 0, 0, 0, 0, 0],
+    [0, 4, 8, 9, 10, 12, 13, 14, 0, 0, 0, 0, 0, 0, 0, 0],
+    [0, 1, 2, 4, 8, 9, 10, 12, 13, 14, 0, 0, 0, 0, 0, 0],
+    [0, 4, 5, 6, 8, 9, 10, 12, 13, 14, 0, 0, 0, 0, 0, 0],
+    [0, 1, 2, 4, 5, 6, 8, 9, 10, 12, 13, 14, 0, 0, 0, 0],
+];
+
+/// The bytes of the first halves of two vectors, in turn.
+const LOWER: [usize; 16] = [0, 16, 1, 17, 2, 18, 3, 19, 4, 20, 5, 21, 6, 22, 7, 23];
+
+/// The bytes of their second halves, in turn.
+const UPPER: [usize; 16] = [8, 24, 9, 25, 10, 26, 11, 27, 12, 28, 13, 29, 14, 30, 15, 31];
+
+/// The pairs of bytes of their first halves, in turn.
+const LOWER_PAIRS: [usize; 16] = [0, 1, 16, 17, 2, 3, 18, 19, 4, 5, 20, 21, 6, 7, 22, 23];
+
+/// The pairs of bytes of their second halves, in turn.
+const UPPER_PAIRS: [usize; 16] = [8, 9, 24, 25, 10, 11, 26, 27, 12, 13, 28, 29, 14, 15, 30, 31];
+
+/// The offsets of sixteen bytes.
+static OFFSETS: [u8; 16] = [0, 1, 2, 3, 4, 5, 6, 7, 8, 9, 10, 11, 12, 13, 14, 15];
+
+/// The last `len` bytes, and spaces after them.
+#[inline(always)]
+pub(crate) fn last_bytes(bytes: &[u8], len: usize) -> u8x16
+    requires sixteen { 16 ≤ length bytes.now }
+    requires few { len ≤ 16 }
+    ensures { result ≡ drop (length bytes.now - len) bytes.now ++ replicate (16 - len) 32 }
+{
+    let last = u8x16::from_slice(&bytes[bytes.len() - 16..]);
+    let offsets = u8x16::from_array(OFFSETS);
+    let from = (offsets + u8x16::splat((16 - len) as u8)) & u8x16::splat(15);
+    let moved = last.swizzle_dyn_within::<16>(from);
+    offsets
+        .simd_lt(u8x16::splat(len as u8))
+        .select(moved, u8x16::splat(b' '))
+}
+
+/// Writes sixteen bytes as they are written between quotes. It may overwrite up to 52 bytes.
+#[inline(always)]
+pub(crate) fn put_sixteen_bytes(text: &mut [u8], at: usize, v: u8x16) -> usize
+    requires { at + 52 ≤ length text.old }
+    ensures most { result ≤ at + 48 }
+    ensures text { take result text.new ≡ take at text.old ++ flat_map quoted_byte v }
+{
+    let is_stop = v.simd_eq(u8x16::splat(b'\''))
+        | v.simd_eq(u8x16::splat(b'\\'))
+        | v.simd_lt(u8x16::splat(0x20))
+        | v.simd_gt(u8x16::splat(0x7e));
+    let stops = is_stop.to_bitmask();
+    if stops == 0 {
+        v.copy_to_slice(&mut text[at..]);
+        return at + 16;
+    }
+    let first = is_stop.select(u8x16::splat(b'\\'), v);
+    put_sixteen_fields(text, at, first, high_digits(v), low_digits(v), stops)
+}
+
+/// The first hexadecimal digit of each byte.
+#[inline(always)]
+fn high_digits(v: u8x16) -> u8x16
+    ensures { result ≡ map high_digit v }
+{
+    u8x16::from_array(DIGITS).swizzle_dyn_within::<16>(v >> u8x16::splat(4))
+}
+
+/// The last hexadecimal digit of each byte.
+#[inline(always)]
+fn low_digits(v: u8x16) -> u8x16
+    ensures { result ≡ map low_digit v }
+{
+    u8x16::from_array(DIGITS).swizzle_dyn_within::<16>(v & u8x16::splat(15))
+}
+
+/// Writes sixteen bytes as they are written between quotes, from their first characters, their digits and the bits of those
+/// that need an escape.
+#[inline(always)]
+fn put_sixteen_fields(
+    text: &mut [u8],
+    at: usize,
+    first: u8x16,
+    high: u8x16,
+    low: u8x16,
+    stops: u64,
+) -> usize
+    requires { at + 52 ≤ length text.old }
+    ensures most { result ≤ at + 48 }
+    ensures text { (bytes : List ℕ) → AreParts bytes first high low stops → take result text.new ≡ take at text.old ++ flat_map quoted_byte bytes }
+{
+    let heads = first.shuffle::<16>(high, LOWER);
+    let tails = low.shuffle::<16>(low, LOWER);
+    let one = heads.shuffle::<16>(tails, LOWER_PAIRS);
+    let two = heads.shuffle::<16>(tails, UPPER_PAIRS);
+    let end = put_four_fields(text, at, one, stops % 16);
+    let end = put_four_fields(text, end, two, stops / 16 % 16);
+    let heads = first.shuffle::<16>(high, UPPER);
+    let tails = low.shuffle::<16>(low, UPPER);
+    let three = heads.shuffle::<16>(tails, LOWER_PAIRS);
+    let four = heads.shuffle::<16>(tails, UPPER_PAIRS);
+    let end = put_four_fields(text, end, three, stops / 256 % 16);
+    put_four_fields(text, end, four, stops / 4096 % 16)
+}
+
+/// Writes four bytes as they are written between quotes, from their fields and the bits of those that need an escape.
+#[inline(always)]
+fn put_four_fields(text: &mut [u8], at: usize, fields: u8x16, stops: u64) -> usize
+    requires few { stops < 16 }
+    requires room { at + 16 ≤ length text.old }
+    ensures most { result ≤ at + 12 }
+    ensures text { (bytes : List ℕ) → length bytes ≡ 4 → fields ≡ flat_map field_of bytes → stops ≡ stops_in bytes
+        → take result text.new ≡ take at text.old ++ flat_map quoted_byte bytes }
+{
+    let written = u8x16::from_array(WRITTEN[stops as usize]);
+    fields
+        .swizzle_dyn_within::<16>(written)
+        .copy_to_slice(&mut text[at..]);
+    at + 4 + 2 * stops.count_ones() as usize
+}
