@@ -19,28 +19,30 @@ fn are_in_order(bits: &Bits<'_>) -> bool {
         && left.next().is_none()
 }
 
-#[test]
-fn bits_both_orders(rt: HostRuntime) {
+fn bits_both_orders() -> bool {
     let lowest = Bits::lowest(&[0x05], 3);
     let highest = Bits::highest(&[0xa0], 3);
-    assert!(rt;
-        are_at_their_indexes(&lowest)
-            && are_in_order(&lowest)
-            && are_at_their_indexes(&highest)
-            && are_in_order(&highest)
-    );
-    assert!(rt; highest.len() == 3 && !highest.is_empty() && highest.count_ones() == 2);
+    are_at_their_indexes(&lowest)
+        && are_in_order(&lowest)
+        && are_at_their_indexes(&highest)
+        && are_in_order(&highest)
+        && highest.len() == 3
+        && !highest.is_empty()
+        && highest.count_ones() == 2
 }
 
 // Only the bits that are counted are compared, in whichever order their bytes have them; the bits after them aren't.
-#[test]
-fn equal_bits(rt: HostRuntime) {
+fn equal_bits() -> bool {
     let lowest = Bits::lowest(&[0x05], 3);
-    assert!(rt;
-        lowest == Bits::highest(&[0xa0], 3)
-            && lowest == Bits::lowest(&[0xfd, 0xff], 3)
-            && lowest != Bits::lowest(&[0x07], 3)
-            && lowest != Bits::lowest(&[0x05], 4)
-            && Bits::lowest(&[], 0) == Bits::highest(&[0xff], 0)
-    );
+    lowest == Bits::highest(&[0xa0], 3)
+        && lowest == Bits::lowest(&[0xfd, 0xff], 3)
+        && lowest != Bits::lowest(&[0x07], 3)
+        && lowest != Bits::lowest(&[0x05], 4)
+        && Bits::lowest(&[], 0) == Bits::highest(&[0xff], 0)
+}
+
+#[test]
+fn bits(rt: HostRuntime) {
+    assert!(rt; bits_both_orders());
+    assert!(rt; equal_bits());
 }

@@ -4,7 +4,6 @@ use crate::devices::is_borrowed_text;
 use rows_values::{Column, Row, Value, new_row_raw};
 use std::alloc::{AllocError, Global};
 use std::rc::RcSlice;
-use std::test::Fail;
 use wire_consts::{ColumnFlags, ColumnType};
 
 /// A column whose names are one letter each, the last followed by a byte that isn't UTF-8.
@@ -33,7 +32,7 @@ fn has_its_fields(column: &Column) -> bool {
 }
 
 /// A row of bytes and a NULL, with the column.
-fn row(alloc: Global) -> Result<Row, Fail> {
+fn row(alloc: Global) -> Result<Row, AllocError> {
     let mut columns = Vec::new(alloc);
     columns.push(column(alloc)?)?;
     let mut values = Vec::new(alloc);
@@ -59,54 +58,68 @@ fn has_its_cells(row: &Row) -> bool {
         && row.as_ref(2).is_none()
 }
 
-#[test]
-fn fields_of_columns(rt: HostRuntime) -> Result<(), AllocError> {
-    assert!(rt; has_its_fields(&column(rt.alloc())?));
-    Ok(())
+fn fields_of_columns(alloc: Global) -> bool {
+    match column(alloc) {
+        Ok(column) => has_its_fields(&column),
+        Err(_) => false,
+    }
+}
+
+fn names_of_columns(alloc: Global) -> bool {
+    let Ok(column) = column(alloc) else {
+        return false;
+    };
+    is_borrowed_text(column.schema_str(alloc), "s")
+        && is_borrowed_text(column.table_str(alloc), "t")
+        && is_borrowed_text(column.org_table_str(alloc), "o")
+        && is_borrowed_text(column.name_str(alloc), "n\u{fffd}")
+}
+
+fn copies_of_columns(alloc: Global) -> bool {
+    let Ok(column) = column(alloc) else {
+        return false;
+    };
+    let Ok(copy) = column.clone(alloc) else {
+        return false;
+    };
+    copy == column && has_its_fields(&copy)
+}
+
+fn copies_of_values(alloc: Global) -> bool {
+    let Ok(bytes) = Vec::from_slice(alloc, b"x") else {
+        return false;
+    };
+    let value = Value::Bytes(bytes);
+    let Ok(copy) = value.clone(alloc) else {
+        return false;
+    };
+    copy == value && is_bytes(Some(&copy))
+}
+
+fn columns_and_rows(alloc: Global) -> bool {
+    match row(alloc) {
+        Ok(row) => has_its_cells(&row),
+        Err(_) => false,
+    }
+}
+
+fn copies_of_rows(alloc: Global) -> bool {
+    let Ok(row) = row(alloc) else {
+        return false;
+    };
+    let Ok(copy) = row.clone(alloc) else {
+        return false;
+    };
+    copy == row && has_its_cells(&copy) && copy.columns_ref() == row.columns_ref()
 }
 
 #[test]
-fn names_of_columns(rt: HostRuntime) -> Result<(), AllocError> {
+fn cases_of_columns_and_rows(rt: HostRuntime) {
     let alloc = rt.alloc();
-    let column = column(alloc)?;
-    assert!(rt;
-        is_borrowed_text(column.schema_str(alloc), "s")
-            && is_borrowed_text(column.table_str(alloc), "t")
-            && is_borrowed_text(column.org_table_str(alloc), "o")
-            && is_borrowed_text(column.name_str(alloc), "n\u{fffd}")
-    );
-    Ok(())
-}
-
-#[test]
-fn copies_of_columns(rt: HostRuntime) -> Result<(), AllocError> {
-    let alloc = rt.alloc();
-    let column = column(alloc)?;
-    let copy = column.clone(alloc)?;
-    assert!(rt; copy == column && has_its_fields(&copy));
-    Ok(())
-}
-
-#[test]
-fn copies_of_values(rt: HostRuntime) -> Result<(), AllocError> {
-    let alloc = rt.alloc();
-    let value = Value::Bytes(Vec::from_slice(alloc, b"x")?);
-    let copy = value.clone(alloc)?;
-    assert!(rt; copy == value && is_bytes(Some(&copy)));
-    Ok(())
-}
-
-#[test]
-fn columns_and_rows(rt: HostRuntime) -> Result<(), Fail> {
-    assert!(rt; has_its_cells(&row(rt.alloc())?));
-    Ok(())
-}
-
-#[test]
-fn copies_of_rows(rt: HostRuntime) -> Result<(), Fail> {
-    let alloc = rt.alloc();
-    let row = row(alloc)?;
-    let copy = row.clone(alloc)?;
-    assert!(rt; copy == row && has_its_cells(&copy) && copy.columns_ref() == row.columns_ref());
-    Ok(())
+    assert!(rt; fields_of_columns(alloc));
+    assert!(rt; names_of_columns(alloc));
+    assert!(rt; copies_of_columns(alloc));
+    assert!(rt; copies_of_values(alloc));
+    assert!(rt; columns_and_rows(alloc));
+    assert!(rt; copies_of_rows(alloc));
 }

@@ -2,9 +2,7 @@
 //! of `rows_cases`.
 
 use crate::devices::{FailingReader, NarrowWriter, is_text};
-use rows_decimal::{
-    DIG_BASE, DIG_PER_DEC, DIG_TO_BYTES, Decimal, POWERS_10, ParseDecimalError, decimal_bin_size,
-};
+use rows_decimal::{DIG_BASE, DIG_PER_DEC, DIG_TO_BYTES, Decimal, POWERS_10, decimal_bin_size};
 use rows_times::RowsError;
 use std::alloc::{AllocError, Global};
 use std::str;
@@ -18,20 +16,16 @@ fn is_shown(alloc: Global, decimal: Result<Decimal, AllocError>, shown: &str) ->
     }
 }
 
-#[test]
-fn zero(rt: HostRuntime) {
-    assert!(rt; is_shown(rt.alloc(), Decimal::zero(rt.alloc()), "0"));
+fn zero(alloc: Global) -> bool {
+    is_shown(alloc, Decimal::zero(alloc), "0")
 }
 
-#[test]
-fn flags_are_ignored(rt: HostRuntime) -> Result<(), ParseDecimalError> {
-    let alloc = rt.alloc();
-    let decimal = Decimal::from_str(alloc, "-01.50")?;
-    assert!(rt;
-        is_text(format!(in alloc; "{decimal:+012.1}"), "-1.50")
-            && is_text(format!(in alloc; "{decimal:*>9}|"), "-1.50|")
-    );
-    Ok(())
+fn flags_are_ignored(alloc: Global) -> bool {
+    let Ok(decimal) = Decimal::from_str(alloc, "-01.50") else {
+        return false;
+    };
+    is_text(format!(in alloc; "{decimal:+012.1}"), "-1.50")
+        && is_text(format!(in alloc; "{decimal:*>9}|"), "-1.50|")
 }
 
 /// `count` nines before and after a point.
@@ -69,37 +63,29 @@ fn takes_nines(alloc: Global, count: usize) -> bool {
     }
 }
 
-#[test]
-fn long_decimals(rt: HostRuntime) {
-    let alloc = rt.alloc();
-    assert!(rt;
-        takes_nines(alloc, 9)
-            && takes_nines(alloc, 65)
-            && takes_nines(alloc, 66)
-            && takes_nines(alloc, 200)
-    );
+fn long_decimals(alloc: Global) -> bool {
+    takes_nines(alloc, 9)
+        && takes_nines(alloc, 65)
+        && takes_nines(alloc, 66)
+        && takes_nines(alloc, 200)
 }
 
-#[test]
-fn named_numbers(rt: HostRuntime) {
-    assert!(rt;
-        DIG_PER_DEC == 9
-            && DIG_BASE == 1_000_000_000
-            && DIG_TO_BYTES == [0, 1, 1, 2, 2, 3, 3, 4, 4, 4]
-            && POWERS_10[0] == 1
-            && POWERS_10[5] == 100_000
-            && POWERS_10[9] == 1_000_000_000
-            && decimal_bin_size(14, 4) == 7
-    );
+fn named_numbers() -> bool {
+    DIG_PER_DEC == 9
+        && DIG_BASE == 1_000_000_000
+        && DIG_TO_BYTES == [0, 1, 1, 2, 2, 3, 3, 4, 4, 4]
+        && POWERS_10[0] == 1
+        && POWERS_10[5] == 100_000
+        && POWERS_10[9] == 1_000_000_000
+        && decimal_bin_size(14, 4) == 7
 }
 
-#[test]
-fn writers_that_fail(rt: HostRuntime) -> Result<(), ParseDecimalError> {
-    let alloc = rt.alloc();
+fn writers_that_fail(alloc: Global) -> bool {
     let mut narrow = NarrowWriter { room: 1 };
-    let decimal = Decimal::from_str(alloc, "0.50")?;
-    assert!(rt; decimal.write_bin(alloc, &mut narrow) == Err(WireFault::Write) && narrow.room == 0);
-    Ok(())
+    let Ok(decimal) = Decimal::from_str(alloc, "0.50") else {
+        return false;
+    };
+    decimal.write_bin(alloc, &mut narrow) == Err(WireFault::Write) && narrow.room == 0
 }
 
 /// Whether reading the decimal failed because of the reader.
@@ -110,7 +96,17 @@ fn is_unread(decimal: Result<Decimal, RowsError>) -> bool {
     }
 }
 
+fn readers_that_fail(alloc: Global) -> bool {
+    is_unread(Decimal::read_bin(alloc, &mut FailingReader, 4, 0, false))
+}
+
 #[test]
-fn readers_that_fail(rt: HostRuntime) {
-    assert!(rt; is_unread(Decimal::read_bin(rt.alloc(), &mut FailingReader, 4, 0, false)));
+fn decimals(rt: HostRuntime) {
+    let alloc = rt.alloc();
+    assert!(rt; zero(alloc));
+    assert!(rt; flags_are_ignored(alloc));
+    assert!(rt; long_decimals(alloc));
+    assert!(rt; named_numbers());
+    assert!(rt; writers_that_fail(alloc));
+    assert!(rt; readers_that_fail(alloc));
 }

@@ -42,45 +42,35 @@ fn are_equal(
 }
 
 // Events are equal if their fields are.
-#[test]
-fn equal_rows_events(rt: HostRuntime) {
-    let alloc = rt.alloc();
+fn equal_rows_events(alloc: Global) -> bool {
     let inserted = (RowsEventType::WriteRows, INSERTED);
-    assert!(rt;
-        are_equal(alloc, inserted, inserted) == Some(true)
-            && are_equal(alloc, inserted, (RowsEventType::WriteRows, WITHOUT_COLUMN)) == Some(false)
-            && are_equal(alloc, inserted, (RowsEventType::WriteRowsV1, INSERTED)) == Some(false)
-    );
+    are_equal(alloc, inserted, inserted) == Some(true)
+        && are_equal(alloc, inserted, (RowsEventType::WriteRows, WITHOUT_COLUMN)) == Some(false)
+        && are_equal(alloc, inserted, (RowsEventType::WriteRowsV1, INSERTED)) == Some(false)
 }
 
-#[test]
-fn types_and_images_of_rows_events(rt: HostRuntime) {
+fn types_and_images_of_rows_events() -> bool {
     let partial = RowsEventType::PartialUpdateRows.images();
     let updated = RowsEventType::UpdateRowsV1.images();
-    assert!(rt;
-        RowsEventType::of(EventType::QUERY_EVENT).is_none()
-            && RowsEventType::of(EventType::PRE_GA_DELETE_ROWS_EVENT).is_none()
-            && partial == RowImages::BeforeAndPartialAfter
-            && partial.has_before()
-            && partial.has_after()
-            && partial.has_partial_after()
-            && updated.has_before()
-            && updated.has_after()
-            && !updated.has_partial_after()
-            && !RowImages::Before.has_after()
-            && !RowImages::After.has_before()
-    );
+    RowsEventType::of(EventType::QUERY_EVENT).is_none()
+        && RowsEventType::of(EventType::PRE_GA_DELETE_ROWS_EVENT).is_none()
+        && partial == RowImages::BeforeAndPartialAfter
+        && partial.has_before()
+        && partial.has_after()
+        && partial.has_partial_after()
+        && updated.has_before()
+        && updated.has_after()
+        && !updated.has_partial_after()
+        && !RowImages::Before.has_after()
+        && !RowImages::After.has_before()
 }
 
 // Lengths are limited to the maximum length of an event.
-#[test]
-fn lengths_of_events(rt: HostRuntime) {
-    assert!(rt;
-        event_len(&[]) == 0
-            && event_len(&[4_294_967_270, 5]) == 4_294_967_275
-            && event_len(&[4_294_967_270, 7]) == MAX_EVENT_LEN
-            && event_len(&[usize::MAX, usize::MAX]) == 4_294_967_276
-    );
+fn lengths_of_events() -> bool {
+    event_len(&[]) == 0
+        && event_len(&[4_294_967_270, 5]) == 4_294_967_275
+        && event_len(&[4_294_967_270, 7]) == MAX_EVENT_LEN
+        && event_len(&[usize::MAX, usize::MAX]) == 4_294_967_276
 }
 
 /// Whether the bytes begin with this table id, for this post-header length, and this many bytes follow.
@@ -92,8 +82,15 @@ fn is_id(alloc: Global, post_header: usize, id: u64, left: usize) -> bool {
     }
 }
 
+fn table_ids(alloc: Global) -> bool {
+    is_id(alloc, 6, 4_294_967_295, 3) && is_id(alloc, 8, 8_589_934_591, 1)
+}
+
 #[test]
-fn table_ids(rt: HostRuntime) {
+fn equal_events(rt: HostRuntime) {
     let alloc = rt.alloc();
-    assert!(rt; is_id(alloc, 6, 4_294_967_295, 3) && is_id(alloc, 8, 8_589_934_591, 1));
+    assert!(rt; equal_rows_events(alloc));
+    assert!(rt; types_and_images_of_rows_events());
+    assert!(rt; lengths_of_events());
+    assert!(rt; table_ids(alloc));
 }

@@ -3,19 +3,21 @@
 use rows_times::{JsonbError, RowsError};
 use wire_buf::WireFault;
 
-#[test]
-fn faults_of_the_wire(rt: HostRuntime) {
-    assert!(rt;
-        RowsError::from(WireFault::Eof) == RowsError::EndOfBody
-            && RowsError::from(WireFault::BadNumber) == RowsError::UnknownNumber
-            && RowsError::from(WireFault::BadConst) == RowsError::UnknownNumber
-            && RowsError::from(WireFault::Memory) == RowsError::Memory
-            && RowsError::from(WireFault::Read) == RowsError::Read
-    );
+fn faults_of_the_wire() -> bool {
+    RowsError::from(WireFault::Eof) == RowsError::EndOfBody
+        && RowsError::from(WireFault::BadNumber) == RowsError::UnknownNumber
+        && RowsError::from(WireFault::BadConst) == RowsError::UnknownNumber
+        && RowsError::from(WireFault::Memory) == RowsError::Memory
+        && RowsError::from(WireFault::Read) == RowsError::Read
+}
+
+fn faults_of_documents() -> bool {
+    let fault = JsonbError::SizeOverflow;
+    RowsError::from(fault) == RowsError::Jsonb(Some(fault))
 }
 
 #[test]
-fn faults_of_documents(rt: HostRuntime) {
-    let fault = JsonbError::SizeOverflow;
-    assert!(rt; RowsError::from(fault) == RowsError::Jsonb(Some(fault)));
+fn faults(rt: HostRuntime) {
+    assert!(rt; faults_of_the_wire());
+    assert!(rt; faults_of_documents());
 }

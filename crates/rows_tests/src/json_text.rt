@@ -10,16 +10,12 @@ use rows_times::RowsError;
 use std::alloc::Global;
 
 // If a key isn't UTF-8, nothing is appended.
-#[test]
-fn a_key_that_is_no_text_is_not_put(rt: HostRuntime) {
-    let alloc = rt.alloc();
+fn a_key_that_is_no_text_is_not_put(alloc: Global) -> bool {
     let bytes = b"\x00\x01\x00\x0c\x00\x0b\x00\x01\x00\x04\x00\x00\xff";
     let mut out = TextBuffer::new(alloc);
-    assert!(rt;
-        out.put(b'a') == Ok(())
-            && out.put_cell(alloc, 7, CellRef::Json(bytes)) == Err(RowsError::Jsonb(None))
-            && out.as_slice() == b"a".as_slice()
-    );
+    out.put(b'a') == Ok(())
+        && out.put_cell(alloc, 7, CellRef::Json(bytes)) == Err(RowsError::Jsonb(None))
+        && out.as_slice() == b"a".as_slice()
 }
 
 /// The result of writing a document's text with this much memory.
@@ -52,17 +48,18 @@ fn is_written_or_failed(alloc: Global, document: &JsonDom, text: &[u8]) -> bool 
 }
 
 // Each size of memory runs out at a different allocation: the error is returned, and the bytes before are unchanged.
-#[test]
-fn out_of_memory_for_a_document(rt: HostRuntime) {
-    let alloc = rt.alloc();
+fn out_of_memory_for_a_document(alloc: Global) -> bool {
     let bytes =
         b"\x00\x02\x00\x1b\x00\x12\x00\x01\x00\x13\x00\x02\x00\x0c\x15\x00\x04\x01\x00zab\x05a'b'c";
-    assert!(rt;
-        match tree(alloc, bytes) {
-            Ok(document) => {
-                is_written_or_failed(alloc, &document, br"{'ab':true,'z':'a\27b\27c'}")
-            }
-            Err(_) => false,
-        }
-    );
+    match tree(alloc, bytes) {
+        Ok(document) => { is_written_or_failed(alloc, &document, br"{'ab':true,'z':'a\27b\27c'}") }
+        Err(_) => false,
+    }
+}
+
+#[test]
+fn json_text(rt: HostRuntime) {
+    let alloc = rt.alloc();
+    assert!(rt; a_key_that_is_no_text_is_not_put(alloc));
+    assert!(rt; out_of_memory_for_a_document(alloc));
 }

@@ -44,12 +44,9 @@ fn nested_gives(alloc: Global, n: usize, len: usize, fault: Option<RowsError>) -
     }
 }
 
-#[test]
-fn json_depth_limit(rt: HostRuntime) {
-    assert!(rt;
-        nested_gives(rt.alloc(), 100, 698, None)
-            && nested_gives(rt.alloc(), 101, 705, Some(RowsError::Jsonb(None)))
-    );
+fn json_depth_limit(alloc: Global) -> bool {
+    nested_gives(alloc, 100, 698, None)
+        && nested_gives(alloc, 101, 705, Some(RowsError::Jsonb(None)))
 }
 
 /// Whether a value is an array of two elements, and nothing else.
@@ -106,14 +103,12 @@ fn owns_elements(alloc: Global, value: Value<'_>) -> bool {
 }
 
 // An array of 1 and 2, and a byte after it.
-#[test]
-fn values_in_their_bytes(rt: HostRuntime) -> Result<(), RowsError> {
-    let alloc = rt.alloc();
+fn values_in_their_bytes(alloc: Global) -> bool {
     let mut buf = ParseBuf(b"\x02\x02\x00\x0a\x00\x05\x01\x00\x05\x02\x00z");
-    let value = buf.parse::<Value<'_>>(alloc, ())?;
-    assert!(rt; buf.0 == b"z".as_slice() && is_array_of_two(&value));
-    assert!(rt; owns_elements(alloc, value));
-    Ok(())
+    let Ok(value) = buf.parse::<Value<'_>>(alloc, ()) else {
+        return false;
+    };
+    buf.0 == b"z".as_slice() && is_array_of_two(&value) && owns_elements(alloc, value)
 }
 
 /// An object with the only member `a`, which is null.
@@ -130,26 +125,26 @@ fn is_key(key: Result<Option<ObjectKey<'_>>, RowsError>, wanted: Option<&[u8]>) 
     }
 }
 
-#[test]
-fn members_in_their_bytes(rt: HostRuntime) -> Result<(), RowsError> {
-    let alloc = rt.alloc();
-    let object = member_of_null(alloc)?;
-    assert!(rt; is_key(object.key_at(0), Some(b"a")) && is_key(object.key_at(1), None));
-    Ok(())
+fn members_in_their_bytes(alloc: Global) -> bool {
+    let Ok(object) = member_of_null(alloc) else {
+        return false;
+    };
+    is_key(object.key_at(0), Some(b"a")) && is_key(object.key_at(1), None)
 }
 
-#[test]
-fn owned_members(rt: HostRuntime) -> Result<(), RowsError> {
-    let alloc = rt.alloc();
-    let owned = member_of_null(alloc)?.into_owned(alloc)?;
-    assert!(rt; owned.element_count() == 1 && is_key(owned.key_at(0), Some(b"a")));
-    Ok(())
+fn owned_members(alloc: Global) -> bool {
+    let Ok(object) = member_of_null(alloc) else {
+        return false;
+    };
+    let Ok(owned) = object.into_owned(alloc) else {
+        return false;
+    };
+    owned.element_count() == 1 && is_key(owned.key_at(0), Some(b"a"))
 }
 
-#[test]
-fn keys(rt: HostRuntime) {
+fn keys(alloc: Global) -> bool {
     let key = ObjectKey::new(CowSlice::Borrowed(b"a"));
-    assert!(rt; key.value_raw() == b"a".as_slice() && is_borrowed_text(key.value(rt.alloc()), "a"));
+    key.value_raw() == b"a".as_slice() && is_borrowed_text(key.value(alloc), "a")
 }
 
 /// Whether `a` is the only key.
@@ -172,11 +167,11 @@ fn yields_member(object: &ComplexValue<'_, Small, Object>) -> bool {
     is_member(members.next()) && members.next().is_none()
 }
 
-#[test]
-fn iterators_of_containers(rt: HostRuntime) -> Result<(), RowsError> {
-    let object = member_of_null(rt.alloc())?;
-    assert!(rt; yields_key(&object) && yields_member(&object));
-    Ok(())
+fn iterators_of_containers(alloc: Global) -> bool {
+    let Ok(object) = member_of_null(alloc) else {
+        return false;
+    };
+    yields_key(&object) && yields_member(&object)
 }
 
 /// Whether the first element is an error, and the second is 2.
@@ -188,12 +183,12 @@ fn goes_on_after_an_error(array: &ComplexValue<'_, Small, Array>) -> bool {
         && is_number(elements.next().transpose(), None)
 }
 
-#[test]
-fn elements_after_an_error(rt: HostRuntime) -> Result<(), RowsError> {
+fn elements_after_an_error(alloc: Global) -> bool {
     let mut buf = ParseBuf(b"\x02\x00\x0a\x00\x0d\x00\x00\x05\x02\x00");
-    let array = buf.parse::<ComplexValue<'_, Small, Array>>(rt.alloc(), ())?;
-    assert!(rt; goes_on_after_an_error(&array));
-    Ok(())
+    let Ok(array) = buf.parse::<ComplexValue<'_, Small, Array>>(alloc, ()) else {
+        return false;
+    };
+    goes_on_after_an_error(&array)
 }
 
 /// Whether the string is written as these bytes.
@@ -216,24 +211,20 @@ fn owns_string(alloc: Global, string: JsonbString<'_>) -> bool {
     }
 }
 
-#[test]
-fn strings_in_their_bytes(rt: HostRuntime) -> Result<(), RowsError> {
-    let alloc = rt.alloc();
-    let string = ParseBuf(b"\x02ab").parse::<JsonbString<'_>>(alloc, ())?;
-    assert!(rt;
-        string == JsonbString::new(CowSlice::Borrowed(b"ab"))
-            && string.str_raw() == b"ab".as_slice()
-            && is_borrowed_text(string.str(alloc), "ab")
-            && is_written(alloc, &string, b"\x02ab")
-    );
-    assert!(rt; owns_string(alloc, string));
-    Ok(())
+fn strings_in_their_bytes(alloc: Global) -> bool {
+    let Ok(string) = ParseBuf(b"\x02ab").parse::<JsonbString<'_>>(alloc, ()) else {
+        return false;
+    };
+    string == JsonbString::new(CowSlice::Borrowed(b"ab"))
+        && string.str_raw() == b"ab".as_slice()
+        && is_borrowed_text(string.str(alloc), "ab")
+        && is_written(alloc, &string, b"\x02ab")
+        && owns_string(alloc, string)
 }
 
-#[test]
-fn string_of_too_few_bytes(rt: HostRuntime) {
-    let short = ParseBuf(b"\x03ab").parse::<JsonbString<'_>>(rt.alloc(), ());
-    assert!(rt; short.err() == Some(RowsError::Jsonb(None)));
+fn string_of_too_few_bytes(alloc: Global) -> bool {
+    let short = ParseBuf(b"\x03ab").parse::<JsonbString<'_>>(alloc, ());
+    short.err() == Some(RowsError::Jsonb(None))
 }
 
 /// Whether the owned opaque value has the column type and the bytes.
@@ -244,16 +235,12 @@ fn owns_opaque(alloc: Global, opaque: OpaqueValue<'_>) -> bool {
     }
 }
 
-#[test]
-fn strings_and_opaque_values(rt: HostRuntime) {
-    let alloc = rt.alloc();
+fn strings_and_opaque_values(alloc: Global) -> bool {
     let opaque = OpaqueValue::new(ColumnType::MYSQL_TYPE_BLOB, CowSlice::Borrowed(b"a\xff"));
-    assert!(rt;
-        opaque.value_type() == ColumnType::MYSQL_TYPE_BLOB
-            && opaque.data_raw() == b"a\xff".as_slice()
-            && is_borrowed_text(opaque.data(alloc), "a\u{fffd}")
-    );
-    assert!(rt; owns_opaque(alloc, opaque));
+    opaque.value_type() == ColumnType::MYSQL_TYPE_BLOB
+        && opaque.data_raw() == b"a\xff".as_slice()
+        && is_borrowed_text(opaque.data(alloc), "a\u{fffd}")
+        && owns_opaque(alloc, opaque)
 }
 
 /// Whether a value is the number 1.
@@ -281,14 +268,12 @@ fn owns_replacement(alloc: Global, diff: JsonDiff<'_>) -> bool {
 }
 
 // `$.a` is replaced by 1; the document's length counts one byte more than its value takes.
-#[test]
-fn changes_of_a_document(rt: HostRuntime) -> Result<(), RowsError> {
-    let alloc = rt.alloc();
+fn changes_of_a_document(alloc: Global) -> bool {
     let mut buf = ParseBuf(b"\x00\x03$.a\x04\x05\x01\x00\x00");
-    let diff = buf.parse::<JsonDiff<'_>>(alloc, ())?;
-    assert!(rt; buf.is_empty() && is_replacement(alloc, &diff));
-    assert!(rt; owns_replacement(alloc, diff));
-    Ok(())
+    let Ok(diff) = buf.parse::<JsonDiff<'_>>(alloc, ()) else {
+        return false;
+    };
+    buf.is_empty() && is_replacement(alloc, &diff) && owns_replacement(alloc, diff)
 }
 
 /// Whether the bytes begin with the diff, with one byte after it.
@@ -310,16 +295,12 @@ fn are_two(alloc: Global, bytes: &[u8]) -> bool {
     }
 }
 
-#[test]
-fn changes_in_their_bytes(rt: HostRuntime) {
-    let alloc = rt.alloc();
+fn changes_in_their_bytes(alloc: Global) -> bool {
     let two = b"\x00\x03$.a\x03\x05\x01\x00\x00\x03$.a\x03\x05\x01\x00".as_slice();
-    assert!(rt;
-        begins_with_diff(alloc, b"\x00\x03$.a\x03\x05\x01\x00z")
-            && are_two(alloc, two)
-            && check_json_diffs(two) == Ok(())
-            && check_json_diffs(&two[..17]) == Err(RowsError::Jsonb(None))
-    );
+    begins_with_diff(alloc, b"\x00\x03$.a\x03\x05\x01\x00z")
+        && are_two(alloc, two)
+        && check_json_diffs(two) == Ok(())
+        && check_json_diffs(&two[..17]) == Err(RowsError::Jsonb(None))
 }
 
 /// Whether the document is read, and its tree, built twice, is the number 2.
@@ -331,16 +312,15 @@ fn is_two(alloc: Global, bytes: &[u8]) -> bool {
     }
 }
 
-#[test]
-fn tree_of_a_kept_document(rt: HostRuntime) {
-    assert!(rt; is_two(rt.alloc(), b"\x05\x02\x00"));
+fn tree_of_a_kept_document(alloc: Global) -> bool {
+    is_two(alloc, b"\x05\x02\x00")
 }
 
-#[test]
-fn removal_from_a_document(rt: HostRuntime) -> Result<(), RowsError> {
-    let removal = ParseBuf(b"\x02\x03$.a").parse::<JsonDiff<'_>>(rt.alloc(), ())?;
-    assert!(rt; removal.operation() == JsonDiffOperation::REMOVE && removal.value().is_none());
-    Ok(())
+fn removal_from_a_document(alloc: Global) -> bool {
+    let Ok(removal) = ParseBuf(b"\x02\x03$.a").parse::<JsonDiff<'_>>(alloc, ()) else {
+        return false;
+    };
+    removal.operation() == JsonDiffOperation::REMOVE && removal.value().is_none()
 }
 
 /// Whether the byte is converted to a type of values and back, or to an error with the byte.
@@ -367,10 +347,34 @@ fn is_operation_or_failed(byte: u8) -> bool {
     }
 }
 
-#[test]
-fn numbers_of_types(rt: HostRuntime) {
+fn numbers_of_types() -> bool {
     for byte in 0..=u8::MAX {
-        assert!(rt; is_type_or_failed(byte));
-        assert!(rt; is_literal_or_failed(byte) && is_operation_or_failed(byte));
+        let is_known_or_failed = is_type_or_failed(byte)
+            && is_literal_or_failed(byte)
+            && is_operation_or_failed(byte);
+        if !is_known_or_failed {
+            return false;
+        }
     }
+    true
+}
+
+#[test]
+fn jsonb(rt: HostRuntime) {
+    let alloc = rt.alloc();
+    assert!(rt; json_depth_limit(alloc));
+    assert!(rt; values_in_their_bytes(alloc));
+    assert!(rt; members_in_their_bytes(alloc));
+    assert!(rt; owned_members(alloc));
+    assert!(rt; keys(alloc));
+    assert!(rt; iterators_of_containers(alloc));
+    assert!(rt; elements_after_an_error(alloc));
+    assert!(rt; strings_in_their_bytes(alloc));
+    assert!(rt; string_of_too_few_bytes(alloc));
+    assert!(rt; strings_and_opaque_values(alloc));
+    assert!(rt; changes_of_a_document(alloc));
+    assert!(rt; changes_in_their_bytes(alloc));
+    assert!(rt; tree_of_a_kept_document(alloc));
+    assert!(rt; removal_from_a_document(alloc));
+    assert!(rt; numbers_of_types());
 }

@@ -1,15 +1,13 @@
 //! Each law can be called, without effect.
 
-#[test]
-fn laws_of_constants(_rt: HostRuntime) {
+fn laws_of_constants() {
     rows_consts::laws::orders_are_of_numbers();
     rows_consts::laws::numbers_are_distinct();
     rows_consts::laws::transaction_numbers();
     rows_consts::laws::worked_numbers();
 }
 
-#[test]
-fn laws_of_values(_rt: HostRuntime) {
+fn laws_of_values() {
     rows_values::laws::equal_values_are_the_same();
     rows_values::laws::equal_columns_and_times_are_the_same();
     rows_values::laws::equal_rows_are_the_same();
@@ -17,15 +15,13 @@ fn laws_of_values(_rt: HostRuntime) {
     rows_values::laws::worked_bits();
 }
 
-#[test]
-fn laws_of_times(_rt: HostRuntime) {
+fn laws_of_times() {
     rows_times::laws::times_by_cases();
     rows_times::laws::packed_fields_are_read_back();
     rows_times::laws::worked_time();
 }
 
-#[test]
-fn laws_of_decimals(_rt: HostRuntime) {
+fn laws_of_decimals() {
     rows_decimal::laws::numbers_in_order();
     rows_decimal::laws::packed_bytes_are_uniquely_read();
     rows_decimal::laws::packed_bytes_are_unpacked();
@@ -37,8 +33,7 @@ fn laws_of_decimals(_rt: HostRuntime) {
     rows_decimal::laws::worked_unpacking();
 }
 
-#[test]
-fn laws_of_documents_and_metadata(_rt: HostRuntime) {
+fn laws_of_documents_and_metadata() {
     rows_jsonb::laws::diffs_are_read();
     rows_jsonb::laws::lists_of_diffs_are_read();
     rows_jsonb::laws::worked_objects();
@@ -49,8 +44,7 @@ fn laws_of_documents_and_metadata(_rt: HostRuntime) {
     rows_optional::laws::lists_are_read();
 }
 
-#[test]
-fn laws_of_texts(_rt: HostRuntime) {
+fn laws_of_texts() {
     feed_text::laws::equal_quotes_are_of_equal_bytes();
     feed_text::laws::values_have_the_texts_of_cells();
     feed_text::laws::values_of_cells_have_their_texts();
@@ -58,8 +52,7 @@ fn laws_of_texts(_rt: HostRuntime) {
     feed_text::laws::worked_times();
 }
 
-#[test]
-fn laws_of_rows(_rt: HostRuntime) {
+fn laws_of_rows() {
     rows_cells::laws::cells_are_read();
     rows_cells::laws::no_cell_is_prefix_of_another();
     rows_cells::laws::kept_values_are_those_of_cells();
@@ -69,4 +62,15 @@ fn laws_of_rows(_rt: HostRuntime) {
     rows_cells::laws::lists_of_rows_are_read();
     rows_events::laws::events_are_written_whole();
     rows_events::laws::equal_events_say_the_same();
+}
+
+#[test]
+fn laws(_rt: HostRuntime) {
+    laws_of_constants();
+    laws_of_values();
+    laws_of_times();
+    laws_of_decimals();
+    laws_of_documents_and_metadata();
+    laws_of_texts();
+    laws_of_rows();
 }

@@ -32,12 +32,8 @@ fn put_in(alloc: Global, size: usize) -> (Result<(), WireFault>, usize) {
 }
 
 // After running out of memory, the count and the names written before are removed.
-#[test]
-fn members_without_memory(rt: HostRuntime) {
-    let alloc = rt.alloc();
-    assert!(rt;
-        put_in(alloc, 4096) == (Ok(()), 306) && put_in(alloc, 400) == (Err(WireFault::Memory), 2)
-    );
+fn members_without_memory(alloc: Global) -> bool {
+    put_in(alloc, 4096) == (Ok(()), 306) && put_in(alloc, 400) == (Err(WireFault::Memory), 2)
 }
 
 /// Whether two fields are equal.
@@ -49,14 +45,18 @@ fn are_equal(first: &[u8], second: &[u8]) -> bool {
 }
 
 // The bits of two numeric columns; the bits after them are ignored. A key of whole columns and one of prefixes.
+fn equal_fields() -> bool {
+    are_equal(b"\x01\x01\x40", b"\x01\x01\x7f")
+        && !are_equal(b"\x01\x01\x40", b"\x01\x01\x80")
+        && are_equal(b"\x02\x03\x21\x02\x08", b"\x02\x03\x21\x02\x08")
+        && !are_equal(b"\x02\x03\x21\x02\x08", b"\x02\x03\x21\x02\x09")
+        && are_equal(b"\x08\x02\x01\x00", b"\x08\x02\x01\x00")
+        && !are_equal(b"\x08\x02\x01\x00", b"\x09\x02\x01\x00")
+}
+
 #[test]
-fn equal_fields(rt: HostRuntime) {
-    assert!(rt;
-        are_equal(b"\x01\x01\x40", b"\x01\x01\x7f")
-            && !are_equal(b"\x01\x01\x40", b"\x01\x01\x80")
-            && are_equal(b"\x02\x03\x21\x02\x08", b"\x02\x03\x21\x02\x08")
-            && !are_equal(b"\x02\x03\x21\x02\x08", b"\x02\x03\x21\x02\x09")
-            && are_equal(b"\x08\x02\x01\x00", b"\x08\x02\x01\x00")
-            && !are_equal(b"\x08\x02\x01\x00", b"\x09\x02\x01\x00")
-    );
+fn optional_metadata(rt: HostRuntime) {
+    let alloc = rt.alloc();
+    assert!(rt; members_without_memory(alloc));
+    assert!(rt; equal_fields());
 }

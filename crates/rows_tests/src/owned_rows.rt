@@ -52,23 +52,19 @@ fn has_numbers(row: &BinlogRow) -> bool {
         && row.as_ref(3).is_none()
 }
 
-#[test]
-fn values_of_rows(rt: HostRuntime) {
-    let alloc = rt.alloc();
-    assert!(rt;
-        match row(alloc, number(2)) {
-            Ok(row) => has_numbers(&row),
-            Err(_) => false,
-        }
-    );
+fn values_of_rows(alloc: Global) -> bool {
+    match row(alloc, number(2)) {
+        Ok(row) => has_numbers(&row),
+        Err(_) => false,
+    }
 }
 
-#[test]
-fn empty_rows(rt: HostRuntime) -> Result<(), AllocError> {
-    let alloc = rt.alloc();
-    let row = BinlogRow::new(Vec::new(alloc), columns(alloc, 0)?);
-    assert!(rt; row.len() == 0 && row.is_empty() && row.as_ref(0).is_none());
-    Ok(())
+fn empty_rows(alloc: Global) -> bool {
+    let Ok(columns) = columns(alloc, 0) else {
+        return false;
+    };
+    let row = BinlogRow::new(Vec::new(alloc), columns);
+    row.len() == 0 && row.is_empty() && row.as_ref(0).is_none()
 }
 
 /// Whether the row returns its columns, which are then shared.
@@ -79,15 +75,11 @@ fn shares_columns(row: &BinlogRow) -> bool {
     }
 }
 
-#[test]
-fn columns_in_common(rt: HostRuntime) {
-    let alloc = rt.alloc();
-    assert!(rt;
-        match row(alloc, number(2)) {
-            Ok(row) => shares_columns(&row),
-            Err(_) => false,
-        }
-    );
+fn columns_in_common(alloc: Global) -> bool {
+    match row(alloc, number(2)) {
+        Ok(row) => shares_columns(&row),
+        Err(_) => false,
+    }
 }
 
 /// Takes the value at the index.
@@ -123,15 +115,11 @@ fn gives_middle(row: BinlogRow) -> bool {
         && is_number(row.as_ref(2), 3)
 }
 
-#[test]
-fn taken_values(rt: HostRuntime) {
-    let alloc = rt.alloc();
-    assert!(rt;
-        match row(alloc, number(2)) {
-            Ok(row) => gives_middle(row),
-            Err(_) => false,
-        }
-    );
+fn taken_values(alloc: Global) -> bool {
+    match row(alloc, number(2)) {
+        Ok(row) => gives_middle(row),
+        Err(_) => false,
+    }
 }
 
 /// Whether comparing the row to one with this value in the middle gives the expected result.
@@ -157,15 +145,11 @@ fn is_compared(alloc: Global, taken: BinlogRow) -> bool {
         && compares(alloc, &taken, number(2), false)
 }
 
-#[test]
-fn equal_rows(rt: HostRuntime) {
-    let alloc = rt.alloc();
-    assert!(rt;
-        match row(alloc, number(2)) {
-            Ok(row) => is_compared(alloc, row),
-            Err(_) => false,
-        }
-    );
+fn equal_rows(alloc: Global) -> bool {
+    match row(alloc, number(2)) {
+        Ok(row) => is_compared(alloc, row),
+        Err(_) => false,
+    }
 }
 
 /// The column index of the value at the index; None if the row has no such value.
@@ -185,15 +169,11 @@ fn has_plain_column_indexes(row: &BinlogRow) -> bool {
         && place(row, 3).is_none()
 }
 
-#[test]
-fn column_indexes_without_an_image(rt: HostRuntime) {
-    let alloc = rt.alloc();
-    assert!(rt;
-        match row(alloc, None) {
-            Ok(row) => has_plain_column_indexes(&row),
-            Err(_) => false,
-        }
-    );
+fn column_indexes_without_an_image(alloc: Global) -> bool {
+    match row(alloc, None) {
+        Ok(row) => has_plain_column_indexes(&row),
+        Err(_) => false,
+    }
 }
 
 /// A column with this index in the table.
@@ -223,15 +203,11 @@ fn keeps_column_indexes(row: BinlogRow) -> bool {
         && place(&row, 1) == Some(5)
 }
 
-#[test]
-fn column_indexes_of_values(rt: HostRuntime) {
-    let alloc = rt.alloc();
-    assert!(rt;
-        match row_of_image(alloc) {
-            Ok(row) => keeps_column_indexes(row),
-            Err(_) => false,
-        }
-    );
+fn column_indexes_of_values(alloc: Global) -> bool {
+    match row_of_image(alloc) {
+        Ok(row) => keeps_column_indexes(row),
+        Err(_) => false,
+    }
 }
 
 /// The values of a row of a number and a document.
@@ -254,17 +230,13 @@ fn is_document(value: Option<&BinlogValue<'static>>, wanted: i16) -> bool {
     }
 }
 
-#[test]
-fn unwrapped_rows(rt: HostRuntime) {
-    let alloc = rt.alloc();
-    assert!(rt;
-        match unwrapped(alloc, 1, 2) {
-            Ok(values) => values.len() == 2
-                && is_number(values.get(0), 1)
-                && is_document(values.get(1), 2),
-            Err(_) => false,
-        }
-    );
+fn unwrapped_rows(alloc: Global) -> bool {
+    match unwrapped(alloc, 1, 2) {
+        Ok(values) => values.len() == 2
+            && is_number(values.get(0), 1)
+            && is_document(values.get(1), 2),
+        Err(_) => false,
+    }
 }
 
 /// The result of converting a row to a row of plain values.
@@ -296,15 +268,11 @@ fn becomes_plain(alloc: Global, row: BinlogRow) -> bool {
     }
 }
 
-#[test]
-fn rows_of_plain_values(rt: HostRuntime) {
-    let alloc = rt.alloc();
-    assert!(rt;
-        match row(alloc, number(2)) {
-            Ok(row) => becomes_plain(alloc, row),
-            Err(_) => false,
-        }
-    );
+fn rows_of_plain_values(alloc: Global) -> bool {
+    match row(alloc, number(2)) {
+        Ok(row) => becomes_plain(alloc, row),
+        Err(_) => false,
+    }
 }
 
 /// Whether the row, after the value in the middle is taken, is converted to one without a value there.
@@ -317,15 +285,11 @@ fn becomes_plain_without_middle(alloc: Global, row: BinlogRow) -> bool {
     }
 }
 
-#[test]
-fn taken_values_stay_none(rt: HostRuntime) {
-    let alloc = rt.alloc();
-    assert!(rt;
-        match row(alloc, document(2)) {
-            Ok(row) => becomes_plain_without_middle(alloc, row),
-            Err(_) => false,
-        }
-    );
+fn taken_values_stay_none(alloc: Global) -> bool {
+    match row(alloc, document(2)) {
+        Ok(row) => becomes_plain_without_middle(alloc, row),
+        Err(_) => false,
+    }
 }
 
 /// Why a row with this value in the middle can't be converted to plain values.
@@ -344,27 +308,36 @@ fn in_the_middle(error: BinlogValueToValueError) -> Option<BinlogRowToRowError> 
     })
 }
 
-#[test]
-fn failed_values(rt: HostRuntime) {
-    let alloc = rt.alloc();
+fn failed_values(alloc: Global) -> bool {
     let changes = Some(BinlogValue::JsonDiff(Vec::new(alloc)));
-    assert!(rt;
-        fails_with(alloc, changes) == in_the_middle(BinlogValueToValueError::JsonDiff)
-            && fails_with(alloc, document(2)) == in_the_middle(BinlogValueToValueError::ToJson)
-    );
+    fails_with(alloc, changes) == in_the_middle(BinlogValueToValueError::JsonDiff)
+        && fails_with(alloc, document(2)) == in_the_middle(BinlogValueToValueError::ToJson)
 }
 
-#[test]
-fn words_of_errors(rt: HostRuntime) {
-    let alloc = rt.alloc();
+fn words_of_errors(alloc: Global) -> bool {
     let error = BinlogRowToRowError {
         column_offset: 1,
         error: BinlogValueToValueError::ToJson,
     };
     let mut words = Vec::new(alloc);
-    assert!(rt;
-        write!(words, "{error}").is_ok()
-            && words.as_slice()
-                == b"Can't convert BinlogRow to Row at column offset 1: a JSON document is no plain value".as_slice()
-    );
+    write!(words, "{error}").is_ok()
+        && words.as_slice()
+            == b"Can't convert BinlogRow to Row at column offset 1: a JSON document is no plain value".as_slice()
+}
+
+#[test]
+fn owned_rows(rt: HostRuntime) {
+    let alloc = rt.alloc();
+    assert!(rt; values_of_rows(alloc));
+    assert!(rt; empty_rows(alloc));
+    assert!(rt; columns_in_common(alloc));
+    assert!(rt; taken_values(alloc));
+    assert!(rt; equal_rows(alloc));
+    assert!(rt; column_indexes_without_an_image(alloc));
+    assert!(rt; column_indexes_of_values(alloc));
+    assert!(rt; unwrapped_rows(alloc));
+    assert!(rt; rows_of_plain_values(alloc));
+    assert!(rt; taken_values_stay_none(alloc));
+    assert!(rt; failed_values(alloc));
+    assert!(rt; words_of_errors(alloc));
 }

@@ -70,15 +70,11 @@ fn reads_two(alloc: Global, plan: &ColumnPlan) -> bool {
     }
 }
 
-#[test]
-fn columns_of_an_image(rt: HostRuntime) {
-    let alloc = rt.alloc();
-    assert!(rt;
-        match plan_of(alloc, THREE) {
-            Ok(plan) => takes_two(alloc, &plan) && reads_two(alloc, &plan),
-            Err(_) => false,
-        }
-    );
+fn columns_of_an_image(alloc: Global) -> bool {
+    match plan_of(alloc, THREE) {
+        Ok(plan) => takes_two(alloc, &plan) && reads_two(alloc, &plan),
+        Err(_) => false,
+    }
 }
 
 /// Whether the bytes can't be read as a row of one column, because there are two bits.
@@ -105,11 +101,9 @@ fn has_no_image(alloc: Global, bytes: &[u8]) -> bool {
 }
 
 // There must be exactly one bit for each column.
-#[test]
-fn rows_of_no_image(rt: HostRuntime) {
-    let alloc = rt.alloc();
+fn rows_of_no_image(alloc: Global) -> bool {
     let map = b"\x07\0\0\0\0\0\x01\0\x01d\0\x01t\0\x02\x03\x0f\x02\x0a\0\0";
-    assert!(rt; has_no_image(alloc, map));
+    has_no_image(alloc, map)
 }
 
 /// A thousand.
@@ -208,13 +202,17 @@ fn are_read(alloc: Global, columns: &[u8], cells: &[u8]) -> bool {
 }
 
 // A table may have a thousand columns.
+fn a_thousand_columns(alloc: Global) -> bool {
+    match (many_columns(alloc), many_cells(alloc)) {
+        (Ok(columns), Ok(cells)) => are_read(alloc, &columns, &cells),
+        _ => false,
+    }
+}
+
 #[test]
-fn a_thousand_columns(rt: HostRuntime) {
+fn rows_by_plan(rt: HostRuntime) {
     let alloc = rt.alloc();
-    assert!(rt;
-        match (many_columns(alloc), many_cells(alloc)) {
-            (Ok(columns), Ok(cells)) => are_read(alloc, &columns, &cells),
-            _ => false,
-        }
-    );
+    assert!(rt; columns_of_an_image(alloc));
+    assert!(rt; rows_of_no_image(alloc));
+    assert!(rt; a_thousand_columns(alloc));
 }

@@ -62,20 +62,16 @@ fn is_put(
 }
 
 // Each cell follows its column's index.
-#[test]
-fn cells_in_a_buffer(rt: HostRuntime) {
-    let alloc = rt.alloc();
+fn cells_in_a_buffer(alloc: Global) -> bool {
     let wanted =
         br"a 0=-5 1='a\27b' 2='123.45' 3=2009-09-24T09:03:57.000000 4=u12345678901234567890 5=100000000 6=NULL 7='xxxxxxxxxxxxxxxxxxxxxxxxxxxxxx' 8='blue' 9=255 110=-128 12345=0d01:02:03.000000";
-    assert!(rt; is_put(alloc, &IMAGE, Ok(()), wanted, 0));
+    is_put(alloc, &IMAGE, Ok(()), wanted, 0)
 }
 
 // If a cell is incomplete, nothing is appended, and all cells remain.
-#[test]
-fn cells_that_are_cut_in_a_buffer(rt: HostRuntime) {
-    let alloc = rt.alloc();
+fn cells_that_are_cut_in_a_buffer(alloc: Global) -> bool {
     let cut = Err(RowsError::EndOfBody);
-    assert!(rt; is_put(alloc, &IMAGE[..77], cut, b"a", 75));
+    is_put(alloc, &IMAGE[..77], cut, b"a", 75)
 }
 
 /// Whether texts of each kind are appended to a buffer in order.
@@ -90,10 +86,8 @@ fn are_put(alloc: Global, wanted: &[u8]) -> bool {
 }
 
 // Unchanged bytes, one byte, quoted bytes, a number and hexadecimal digits.
-#[test]
-fn texts_in_a_buffer(rt: HostRuntime) {
-    let alloc = rt.alloc();
-    assert!(rt; are_put(alloc, br"ab='a\27'184467440737095516150fa0"));
+fn texts_in_a_buffer(alloc: Global) -> bool {
+    are_put(alloc, br"ab='a\27'184467440737095516150fa0")
 }
 
 /// Why a cell has no value, or None if it has one.
@@ -116,13 +110,18 @@ fn is_failed(alloc: Global, cell: CellRef<'_>, fault: RowsError) -> bool {
 }
 
 // A decimal whose bytes pack none, with few digits and with many, and bytes that aren't a document.
+fn cells_without_a_text(alloc: Global) -> bool {
+    is_failed(alloc, CellRef::Decimal(2, 0, b"\xe4"), RowsError::Decimal)
+        && is_failed(alloc, CellRef::Decimal(80, 0, b"\xe4"), RowsError::Decimal)
+        && is_failed(alloc, CellRef::Json(b"\x0d"), RowsError::Jsonb(None))
+        && is_failed(alloc, CellRef::JsonDiffs(b"\x03"), RowsError::Jsonb(None))
+}
+
 #[test]
-fn cells_without_a_text(rt: HostRuntime) {
+fn text_buffers(rt: HostRuntime) {
     let alloc = rt.alloc();
-    assert!(rt;
-        is_failed(alloc, CellRef::Decimal(2, 0, b"\xe4"), RowsError::Decimal)
-            && is_failed(alloc, CellRef::Decimal(80, 0, b"\xe4"), RowsError::Decimal)
-            && is_failed(alloc, CellRef::Json(b"\x0d"), RowsError::Jsonb(None))
-            && is_failed(alloc, CellRef::JsonDiffs(b"\x03"), RowsError::Jsonb(None))
-    );
+    assert!(rt; cells_in_a_buffer(alloc));
+    assert!(rt; cells_that_are_cut_in_a_buffer(alloc));
+    assert!(rt; texts_in_a_buffer(alloc));
+    assert!(rt; cells_without_a_text(alloc));
 }

@@ -4,7 +4,7 @@ use feed_text::{put_decimal, put_value, quote};
 use linked_list_allocator::LocalHeap;
 use rows_times::RowsError;
 use rows_values::Value;
-use std::alloc::{AllocError, Global};
+use std::alloc::Global;
 
 /// Whether the value has this text.
 fn has_text(alloc: Global, value: Value, wanted: &[u8]) -> bool {
@@ -16,27 +16,20 @@ fn has_text(alloc: Global, value: Value, wanted: &[u8]) -> bool {
 }
 
 // A text of each kind of value.
-#[test]
-fn values_as_text(rt: HostRuntime) -> Result<(), AllocError> {
-    let alloc = rt.alloc();
-    let bytes = Vec::from_slice(alloc, b"it's")?;
-    assert!(rt;
-        has_text(alloc, Value::Bytes(bytes), br"'it\27s'") && has_text(alloc, Value::NULL, b"NULL")
-    );
-    Ok(())
+fn values_as_text(alloc: Global) -> bool {
+    let Ok(bytes) = Vec::from_slice(alloc, b"it's") else {
+        return false;
+    };
+    has_text(alloc, Value::Bytes(bytes), br"'it\27s'") && has_text(alloc, Value::NULL, b"NULL")
 }
 
-#[test]
-fn dates_and_times_as_text(rt: HostRuntime) {
-    let alloc = rt.alloc();
+fn dates_and_times_as_text(alloc: Global) -> bool {
     let date = Value::Date(2009, 9, 24, 9, 3, 57, 0);
     let date_without_a_month = Value::Date(10_000, 0, 31, 0, 0, 0, 1_000_000);
     let time = Value::Time(false, 34, 22, 59, 59, 45);
-    assert!(rt;
-        has_text(alloc, date, b"2009-09-24T09:03:57.000000")
-            && has_text(alloc, date_without_a_month, b"10000-00-31T00:00:00.1000000")
-            && has_text(alloc, time, b"34d22:59:59.000045")
-    );
+    has_text(alloc, date, b"2009-09-24T09:03:57.000000")
+        && has_text(alloc, date_without_a_month, b"10000-00-31T00:00:00.1000000")
+        && has_text(alloc, time, b"34d22:59:59.000045")
 }
 
 /// The result of writing a text with limited memory.
@@ -86,44 +79,45 @@ fn is_written_or_failed(alloc: Global, value: Value, len: usize) -> bool {
 }
 
 // Each size of memory runs out at a different allocation: the error is returned, and the bytes before are unchanged.
-#[test]
-fn out_of_memory(rt: HostRuntime) {
-    let alloc = rt.alloc();
-    assert!(rt;
-        match Vec::from_slice(alloc, b"a longer text\nof two lines, it's quoted\n") {
-            Ok(text) => is_written_or_failed(alloc, Value::Bytes(text), 50),
-            Err(_) => false,
-        }
-    );
+fn out_of_memory(alloc: Global) -> bool {
+    match Vec::from_slice(alloc, b"a longer text\nof two lines, it's quoted\n") {
+        Ok(text) => is_written_or_failed(alloc, Value::Bytes(text), 50),
+        Err(_) => false,
+    }
 }
 
-#[test]
-fn out_of_memory_for_numbers_and_times(rt: HostRuntime) {
-    let alloc = rt.alloc();
-    assert!(rt;
-        is_written_or_failed(alloc, Value::Int(i64::MIN), 22)
-            && is_written_or_failed(alloc, Value::Double(0x3ff0_0000_0000_0000), 19)
-            && is_written_or_failed(alloc, Value::Date(2009, 9, 24, 9, 3, 57, 0), 28)
-            && is_written_or_failed(alloc, Value::Time(true, 34, 22, 59, 59, 45), 21)
-    );
+fn out_of_memory_for_numbers_and_times(alloc: Global) -> bool {
+    is_written_or_failed(alloc, Value::Int(i64::MIN), 22)
+        && is_written_or_failed(alloc, Value::Double(0x3ff0_0000_0000_0000), 19)
+        && is_written_or_failed(alloc, Value::Date(2009, 9, 24, 9, 3, 57, 0), 28)
+        && is_written_or_failed(alloc, Value::Time(true, 34, 22, 59, 59, 45), 21)
 }
 
-#[test]
-fn out_of_memory_for_bytes(rt: HostRuntime) -> Result<(), AllocError> {
-    let alloc = rt.alloc();
-    let heap = LocalHeap::new(alloc, 32)?;
+fn out_of_memory_for_bytes(alloc: Global) -> bool {
+    let Ok(heap) = LocalHeap::new(alloc, 32) else {
+        return false;
+    };
     let mut out = Vec::new(&heap);
-    assert!(rt; quote(&[b'a'; 64], &mut out) == Err(RowsError::Memory) && out.is_empty());
-    Ok(())
+    quote(&[b'a'; 64], &mut out) == Err(RowsError::Memory) && out.is_empty()
 }
 
-#[test]
-fn out_of_memory_for_decimals(rt: HostRuntime) -> Result<(), AllocError> {
-    let alloc = rt.alloc();
-    let heap = LocalHeap::new(alloc, 32)?;
+fn out_of_memory_for_decimals(alloc: Global) -> bool {
+    let Ok(heap) = LocalHeap::new(alloc, 32) else {
+        return false;
+    };
     let mut out = Vec::new(&heap);
     let mut packed = [0; 27];
     packed[0] = 0x80;
-    assert!(rt; put_decimal(&packed, 60, 0, &mut out) == Err(RowsError::Memory) && out.is_empty());
-    Ok(())
+    put_decimal(&packed, 60, 0, &mut out) == Err(RowsError::Memory) && out.is_empty()
+}
+
+#[test]
+fn texts(rt: HostRuntime) {
+    let alloc = rt.alloc();
+    assert!(rt; values_as_text(alloc));
+    assert!(rt; dates_and_times_as_text(alloc));
+    assert!(rt; out_of_memory(alloc));
+    assert!(rt; out_of_memory_for_numbers_and_times(alloc));
+    assert!(rt; out_of_memory_for_bytes(alloc));
+    assert!(rt; out_of_memory_for_decimals(alloc));
 }

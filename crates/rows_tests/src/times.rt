@@ -31,74 +31,69 @@ fn is_shown(alloc: Global, time_type: MysqlTimestampType, wanted: &str) -> bool 
     is_text(moment(time_type).to_string(alloc), wanted)
 }
 
-#[test]
-fn types_without_a_text(rt: HostRuntime) {
-    let alloc = rt.alloc();
-    assert!(rt;
-        is_shown(alloc, MysqlTimestampType::MYSQL_TIMESTAMP_NONE, "")
-            && is_shown(alloc, MysqlTimestampType::MYSQL_TIMESTAMP_ERROR, "")
-    );
+fn types_without_a_text(alloc: Global) -> bool {
+    is_shown(alloc, MysqlTimestampType::MYSQL_TIMESTAMP_NONE, "")
+        && is_shown(alloc, MysqlTimestampType::MYSQL_TIMESTAMP_ERROR, "")
 }
 
 // The texts of the types with a date.
-#[test]
-fn date_display(rt: HostRuntime) {
-    let alloc = rt.alloc();
+fn date_display(alloc: Global) -> bool {
     let time = moment(MysqlTimestampType::MYSQL_TIMESTAMP_DATETIME);
-    assert!(rt;
-        is_text(format!(in alloc; "{time:.3}"), "2009-09-24 09:03:57.120")
-            && is_text(format!(in alloc; "{time:.9}"), "2009-09-24 09:03:57.120045")
-    );
-    let time = moment(MysqlTimestampType::MYSQL_TIMESTAMP_DATETIME_TZ);
-    assert!(rt; is_text(format!(in alloc; "{time:.0}"), "2009-09-24 09:03:57+-5:30"));
-    let time = moment(MysqlTimestampType::MYSQL_TIMESTAMP_DATE);
-    assert!(rt; is_text(format!(in alloc; "{time:.6}"), "2009-09-24"));
+    let zoned = moment(MysqlTimestampType::MYSQL_TIMESTAMP_DATETIME_TZ);
+    let date = moment(MysqlTimestampType::MYSQL_TIMESTAMP_DATE);
+    is_text(format!(in alloc; "{time:.3}"), "2009-09-24 09:03:57.120")
+        && is_text(format!(in alloc; "{time:.9}"), "2009-09-24 09:03:57.120045")
+        && is_text(format!(in alloc; "{zoned:.0}"), "2009-09-24 09:03:57+-5:30")
+        && is_text(format!(in alloc; "{date:.6}"), "2009-09-24")
 }
 
-#[test]
-fn minutes_out_of_range(rt: HostRuntime) {
+fn minutes_out_of_range(alloc: Global) -> bool {
     let mut time = moment(MysqlTimestampType::MYSQL_TIMESTAMP_TIME);
     time.hour = 838;
     time.minute = 100;
-    assert!(rt; is_text(time.to_string(rt.alloc()), "838:00:57"));
+    is_text(time.to_string(alloc), "838:00:57")
 }
 
 // Cells in slices, with bytes after them.
-#[test]
-fn cells_in_slices(rt: HostRuntime) {
-    assert!(rt; fraction_size(2) == 1 && time_of(b"\x7f\xff\xfe\xf6\x01", 2) == -16_877_216);
+fn cells_in_slices() -> bool {
     let packed = datetime_of(b"\x99\x83\xb0\x90\xf9", 0);
-    assert!(rt;
-        datetime_from_packed(packed) == Value::Date(2009, 9, 24, 9, 3, 57, 0)
-            && timestamp_of(b"\x00\x00\x00\x01\xff\xff\xfb", 6) == (1, -5)
-    );
+    fraction_size(2) == 1
+        && time_of(b"\x7f\xff\xfe\xf6\x01", 2) == -16_877_216
+        && datetime_from_packed(packed) == Value::Date(2009, 9, 24, 9, 3, 57, 0)
+        && timestamp_of(b"\x00\x00\x00\x01\xff\xff\xfb", 6) == (1, -5)
+}
+
+fn reader_that_fails() -> bool {
+    my_timestamp_from_binary(&mut FailingReader, 0) == Err(RowsError::Read)
+}
+
+fn packed_arithmetic() -> bool {
+    my_packed_time_make_int(-1) == -0x100_0000
+        && my_packed_time_make(1, 5) == 0x100_0005
+        && my_packed_time_get_int_part(-1) == -1
+        && my_packed_time_get_frac_part(-0x100_0003) == -3
+        && time_from_packed(i64::MIN) == Value::Time(true, 0, 0, 0, 0, 0)
+        && TIMEF_OFS == TIMEF_INT_OFS * 0x100_0000
+        && DATETIMEF_INT_OFS == 0x80_0000_0000
+}
+
+fn timestamp_types() -> bool {
+    MysqlTimestampType::MYSQL_TIMESTAMP_NONE as i32 == -2
+        && MysqlTimestampType::MYSQL_TIMESTAMP_ERROR as i32 == -1
+        && MysqlTimestampType::MYSQL_TIMESTAMP_DATE as i32 == 0
+        && MysqlTimestampType::MYSQL_TIMESTAMP_DATETIME as i32 == 1
+        && MysqlTimestampType::MYSQL_TIMESTAMP_TIME as i32 == 2
+        && MysqlTimestampType::MYSQL_TIMESTAMP_DATETIME_TZ as i32 == 3
 }
 
 #[test]
-fn reader_that_fails(rt: HostRuntime) {
-    assert!(rt; my_timestamp_from_binary(&mut FailingReader, 0) == Err(RowsError::Read));
-}
-
-#[test]
-fn packed_arithmetic(rt: HostRuntime) {
-    assert!(rt;
-        my_packed_time_make_int(-1) == -0x100_0000
-            && my_packed_time_make(1, 5) == 0x100_0005
-            && my_packed_time_get_int_part(-1) == -1
-            && my_packed_time_get_frac_part(-0x100_0003) == -3
-            && time_from_packed(i64::MIN) == Value::Time(true, 0, 0, 0, 0, 0)
-    );
-    assert!(rt; TIMEF_OFS == TIMEF_INT_OFS * 0x100_0000 && DATETIMEF_INT_OFS == 0x80_0000_0000);
-}
-
-#[test]
-fn timestamp_types(rt: HostRuntime) {
-    assert!(rt;
-        MysqlTimestampType::MYSQL_TIMESTAMP_NONE as i32 == -2
-            && MysqlTimestampType::MYSQL_TIMESTAMP_ERROR as i32 == -1
-            && MysqlTimestampType::MYSQL_TIMESTAMP_DATE as i32 == 0
-            && MysqlTimestampType::MYSQL_TIMESTAMP_DATETIME as i32 == 1
-            && MysqlTimestampType::MYSQL_TIMESTAMP_TIME as i32 == 2
-            && MysqlTimestampType::MYSQL_TIMESTAMP_DATETIME_TZ as i32 == 3
-    );
+fn times(rt: HostRuntime) {
+    let alloc = rt.alloc();
+    assert!(rt; types_without_a_text(alloc));
+    assert!(rt; date_display(alloc));
+    assert!(rt; minutes_out_of_range(alloc));
+    assert!(rt; cells_in_slices());
+    assert!(rt; reader_that_fails());
+    assert!(rt; packed_arithmetic());
+    assert!(rt; timestamp_types());
 }
