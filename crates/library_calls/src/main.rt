@@ -1,23 +1,29 @@
-//! Calls the library again after it ran out of memory. `events` lists the events of the binary log on standard input with
-//! `EventStreamReader`. `follower` follows the first bytes of the answer on standard input, and then asks with `Follower::again`
-//! for what follows them; `follower rest` feeds the rest of the answer before it asks once more. Without arguments the program
-//! lists the events of a built-in log, and then follows.
+//! Small programs that call the library, for `checks/refused_memory` and `bench/`:
 //!
-//! On standard error, `Unchanged` means that a reader ran out of memory, and that the description in force and the table maps
-//! were as before; `Changed` is a fault. `Refused` means that the first call of `again` ran out of memory. A fault is named there
-//! too, and the status is 1.
+//! - `events` lists the events of the binary log on standard input with `EventStreamReader`.
+//! - `follower` follows the first bytes of the answer on standard input, and then asks with `Follower::again` for what follows
+//!   them; `follower rest` feeds the rest of the answer before it asks once more.
+//! - `checksums FILE LEN` computes the checksums of a file's pieces.
+//! - `rows FILE` prints the rows of a binary log.
+//!
+//! Without arguments it prints checksums, rows and the events of built-in bytes, and then follows. A fault is named on standard
+//! error, and the status is 1.
+//!
+//! If memory runs out, `events` and `follower` call the library again. On standard error, `Unchanged` means that a reader ran out
+//! of memory, and that the description in force and the table maps were as before; `Changed` is a fault. `Refused` means that the
+//! first call of `again` ran out of memory.
 #![tactic(auto)]
 
+mod checksums;
 mod events;
 mod follower;
+mod row_lines;
 
-use events::print_events;
-use follower::print_request;
 use std::alloc::Global;
 use std::env;
 use std::io::{ErrorKind, Read};
 use std::process::ExitCode;
-use std::rt::Env;
+use std::rt::{Env, Files};
 
 /// A binary log of one transaction that inserts one row.
 const ONE_INSERT: [u8; 142] = [
@@ -45,34 +51,53 @@ fn whole<R: Read + Drop>(alloc: Global, mut reader: R) -> Result<Vec<u8>, &'stat
 /// The arguments of the program. The error is `Memory` or `Usage`.
 fn words_of(rt: &HostRuntime) -> Result<Vec<String>, &'static str> {
     match env::args(rt) {
-        Ok(words) => words.skip(1).collect(rt.alloc()).map_err(|_| "Memory"),
+        Ok(words) => match words.skip(1).collect(rt.alloc()) {
+            Ok(words) => Ok(words),
+            Err(_) => Err("Memory"),
+        },
         Err(error) if error.kind() == ErrorKind::OutOfMemory => Err("Memory"),
         Err(_) => Err("Usage"),
     }
 }
 
+/// The result of a command that prints checksums or rows.
+fn printed(is_printed: bool) -> Result<Option<&'static str>, &'static str> {
+    if is_printed { Ok(None) } else { Err("Failed") }
+}
+
 /// Lists events; returns `Unchanged` if a reader ran out of memory.
 fn list(rt: &HostRuntime, log: &[u8]) -> Result<Option<&'static str>, &'static str> {
-    Ok(print_events(rt, log)?.then_some("Unchanged"))
+    Ok(events::print_events(rt, log)?.then_some("Unchanged"))
 }
 
 /// Follows an answer; returns `Refused` if `again` ran out of memory.
 fn follow(rt: &HostRuntime, takes_rest: bool) -> Result<Option<&'static str>, &'static str> {
     let answer = whole(rt.alloc(), rt.reader())?;
-    Ok(print_request(rt, &answer, takes_rest)?.then_some("Refused"))
+    Ok(follower::print_request(rt, &answer, takes_rest)?.then_some("Refused"))
+}
+
+/// Prints checksums, rows and events of built-in bytes, and follows the answer on standard input.
+fn show_all(rt: &HostRuntime) -> Result<Option<&'static str>, &'static str> {
+    printed(checksums::print_samples(rt).is_ok())?;
+    printed(row_lines::print_two_rows(rt, rt.alloc()).is_ok())?;
+    list(rt, &ONE_INSERT)?;
+    follow(rt, false)
 }
 
 /// Runs what the arguments ask for, and returns what to print on standard error, if anything.
 fn run(rt: &HostRuntime) -> Result<Option<&'static str>, &'static str> {
     let words = words_of(rt)?;
     let Some((what, words)) = words.split_first() else {
-        list(rt, &ONE_INSERT)?;
-        return follow(rt, false);
+        return show_all(rt);
     };
     match (what.as_str(), words) {
         ("events", []) => list(rt, &whole(rt.alloc(), rt.reader())?),
         ("follower", []) => follow(rt, false),
         ("follower", [rest]) if rest.as_str() == "rest" => follow(rt, true),
+        ("checksums", [path, len]) => {
+            printed(checksums::print_file(rt, path.as_str(), len.as_str()).is_ok())
+        }
+        ("rows", [path]) => printed(row_lines::print_file(rt, rt.alloc(), path.as_str()).is_ok()),
         _ => Err("Usage"),
     }
 }

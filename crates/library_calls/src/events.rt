@@ -41,22 +41,33 @@ impl Readers {
 
     /// Whether both have the same description in force, and the same table maps.
     fn are_alike(&self) -> bool {
+        for id in 0..IDS {
+            if self.first.get_tme(id) != self.other.get_tme(id) {
+                return false;
+            }
+        }
         self.first.get_fde() == self.other.get_fde()
-            && (0..IDS).all(|id| self.first.get_tme(id) == self.other.get_tme(id))
     }
 
     /// The first reader reads the event at the start of the bytes; once more if it runs out of memory.
     fn read_first(&mut self, bytes: &[u8]) -> Result<Option<Event<'static>>, &'static str> {
         match self.first.read(&mut Watched::new(bytes)) {
-            Ok(event) => return Ok(event),
-            Err(EventError::Memory) => {}
-            Err(fault) => return Err(name_of(fault)),
+            Ok(event) => Ok(event),
+            Err(EventError::Memory) => self.read_again(bytes),
+            Err(fault) => Err(name_of(fault)),
         }
+    }
+
+    /// The first reader, which ran out of memory, reads the event again. Its state must be as before.
+    fn read_again(&mut self, bytes: &[u8]) -> Result<Option<Event<'static>>, &'static str> {
         if !self.are_alike() {
             return Err("Changed");
         }
         self.was_failed = true;
-        self.first.read(&mut Watched::new(bytes)).map_err(name_of)
+        match self.first.read(&mut Watched::new(bytes)) {
+            Ok(event) => Ok(event),
+            Err(fault) => Err(name_of(fault)),
+        }
     }
 
     /// The same for the other reader.
@@ -72,8 +83,8 @@ impl Readers {
     }
 }
 
-/// Appends the line of an event, or none of it.
-fn put_line(event: &Event<'_>, lines: &mut Vec<u8>) -> Result<(), &'static str> {
+/// Appends the line of an event, or none of it, and returns the event's size.
+fn put_line(event: Event<'_>, lines: &mut Vec<u8>) -> Result<usize, &'static str> {
     let header = event.header();
     let start = lines.len();
     let line = writeln!(
@@ -87,30 +98,52 @@ fn put_line(event: &Event<'_>, lines: &mut Vec<u8>) -> Result<(), &'static str> 
         lines.truncate(start);
         return Err("Memory");
     }
+    Ok(header.event_size() as usize)
+}
+
+/// Appends the line of the event at the start of the bytes, and returns its size, or 0 if there is no event.
+fn put_next(
+    readers: &mut Readers,
+    bytes: &[u8],
+    lines: &mut Vec<u8>,
+) -> Result<usize, &'static str> {
+    match readers.read_first(bytes) {
+        Ok(Some(event)) => put_line(event, lines),
+        Ok(None) => Ok(0),
+        Err(fault) => Err(fault),
+    }
+}
+
+/// Appends the lines of the events of a log, up to the first fault.
+fn put_lines(readers: &mut Readers, log: &[u8], lines: &mut Vec<u8>) -> Result<(), &'static str> {
+    let mut rest = log.get(BinlogFileHeader::LEN..).unwrap_or(&[]);
+    for _ in 0..u64::MAX {
+        let size = put_next(readers, rest, lines)?;
+        if size == 0 {
+            break;
+        }
+        readers.read_other(rest)?;
+        rest = rest.get(size..).unwrap_or(&[]);
+    }
     Ok(())
 }
 
-/// Appends the lines of the events of a log, up to the first fault; returns whether a reader ran out of memory.
-fn put_lines(alloc: Global, log: &[u8], lines: &mut Vec<u8>) -> Result<bool, &'static str> {
-    let mut readers = Readers::new(alloc).map_err(name_of)?;
-    let mut rest = log.get(BinlogFileHeader::LEN..).unwrap_or(&[]);
-    for _ in 0..u64::MAX {
-        let Some(event) = readers.read_first(rest)? else {
-            return Ok(readers.was_failed);
-        };
-        readers.read_other(rest)?;
-        put_line(&event, lines)?;
-        let size = event.header().event_size() as usize;
-        rest = rest.get(size..).unwrap_or(&[]);
+/// The same by two new readers; returns whether one ran out of memory.
+fn put_log(alloc: Global, log: &[u8], lines: &mut Vec<u8>) -> Result<bool, &'static str> {
+    match Readers::new(alloc) {
+        Ok(mut readers) => match put_lines(&mut readers, log, lines) {
+            Ok(()) => Ok(readers.was_failed),
+            Err(fault) => Err(fault),
+        },
+        Err(fault) => Err(name_of(fault)),
     }
-    Ok(readers.was_failed)
 }
 
 /// Prints the events of a log; returns whether a reader ran out of memory and had the same state after it.
 pub(crate) fn print_events(rt: &HostRuntime, log: &[u8]) -> Result<bool, &'static str> {
     let alloc = rt.alloc();
     let mut lines = Vec::new(alloc);
-    let listed = put_lines(alloc, log, &mut lines);
+    let listed = put_log(alloc, log, &mut lines);
     match io::writer(rt).write_all(&lines) {
         Ok(()) => listed,
         Err(_) => Err("Write"),
