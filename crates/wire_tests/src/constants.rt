@@ -20,13 +20,12 @@ fn converts_back(number: u8) -> bool {
     }
 }
 
-#[test]
-fn column_types_and_back(rt: HostRuntime) {
+fn column_types_and_back() -> bool {
     let mut all_turn_back = true;
     for number in 0..=255u8 {
         all_turn_back = all_turn_back && converts_back(number);
     }
-    assert!(rt; all_turn_back);
+    all_turn_back
 }
 
 /// How many numbers are column types.
@@ -40,14 +39,12 @@ fn column_types() -> u32 {
     known
 }
 
-#[test]
-fn count_of_column_types(rt: HostRuntime) {
-    assert!(rt; column_types() == 34);
+fn count_of_column_types() -> bool {
+    column_types() == 34
 }
 
 // The number of each command, from MySQL's manual.
-#[test]
-fn command_numbers(rt: HostRuntime) {
+fn command_numbers() -> bool {
     let numbers = [
         (Command::COM_SLEEP, 0),
         (Command::COM_QUIT, 1),
@@ -86,26 +83,20 @@ fn command_numbers(rt: HostRuntime) {
     for (command, number) in numbers {
         are_equal = are_equal && command as u8 == number;
     }
-    assert!(rt; are_equal);
+    are_equal
 }
 
-#[test]
-fn result_types(rt: HostRuntime) {
-    assert!(rt;
-        ItemResult::try_from(-1i8) == Ok(ItemResult::INVALID_RESULT)
-            && ItemResult::try_from(4i8) == Ok(ItemResult::DECIMAL_RESULT)
-            && ItemResult::try_from(-2i8) == Err(UnknownItemResultType(-2))
-            && i8::from(UnknownItemResultType(5)) == 5
-    );
+fn result_types() -> bool {
+    ItemResult::try_from(-1i8) == Ok(ItemResult::INVALID_RESULT)
+        && ItemResult::try_from(4i8) == Ok(ItemResult::DECIMAL_RESULT)
+        && ItemResult::try_from(-2i8) == Err(UnknownItemResultType(-2))
+        && i8::from(UnknownItemResultType(5)) == 5
 }
 
-#[test]
-fn geometry_types(rt: HostRuntime) {
-    assert!(rt;
-        GeometryType::try_from(7u8) == Ok(GeometryType::GEOM_GEOMETRYCOLLECTION)
-            && GeometryType::try_from(8u8) == Err(UnknownGeometryType(8))
-            && u8::from(UnknownGeometryType(8)) == 8
-    );
+fn geometry_types() -> bool {
+    GeometryType::try_from(7u8) == Ok(GeometryType::GEOM_GEOMETRYCOLLECTION)
+        && GeometryType::try_from(8u8) == Err(UnknownGeometryType(8))
+        && u8::from(UnknownGeometryType(8)) == 8
 }
 
 // A set of flags, through the trait bound only.
@@ -113,37 +104,28 @@ fn known_of<F: Flags>(bits: F::Bits) -> F {
     F::from_bits_truncate(bits)
 }
 
-#[test]
-fn flag_sets(rt: HostRuntime) {
+fn flag_sets() -> bool {
     let column = ColumnFlags::NUM_FLAG | ColumnFlags::UNSIGNED_FLAG | ColumnFlags::NOT_NULL_FLAG;
-    assert!(rt;
-        ColumnFlags::try_from(0x8021u16) == Ok(column)
-            && u16::from(ColumnFlags::PRI_KEY_FLAG) == 2
-            && Flags2::try_from(0x0c084000u32).map(u32::from) == Ok(0x0c084000)
-            && Flags2::try_from(1u32) == Err(UnknownFlags2(1))
-            && SqlMode::try_from(5u64).map(u64::from) == Ok(5)
-    );
+    ColumnFlags::try_from(0x8021u16) == Ok(column)
+        && u16::from(ColumnFlags::PRI_KEY_FLAG) == 2
+        && Flags2::try_from(0x0c084000u32).map(u32::from) == Ok(0x0c084000)
+        && Flags2::try_from(1u32) == Err(UnknownFlags2(1))
+        && SqlMode::try_from(5u64).map(u64::from) == Ok(5)
 }
 
-#[test]
-fn known_and_default_flags(rt: HostRuntime) {
-    assert!(rt;
-        u32::from(known_of::<Flags2>(0x4001)) == 0x4000
-            && u64::from(known_of::<SqlMode>(u64::MAX)) == u64::MAX
-            && u16::from(ColumnFlags::default()) == 0
-            && u32::from(Flags2::default()) == 0
-            && u64::from(SqlMode::default()) == 0
-    );
+fn known_and_default_flags() -> bool {
+    u32::from(known_of::<Flags2>(0x4001)) == 0x4000
+        && u64::from(known_of::<SqlMode>(u64::MAX)) == u64::MAX
+        && u16::from(ColumnFlags::default()) == 0
+        && u32::from(Flags2::default()) == 0
+        && u64::from(SqlMode::default()) == 0
 }
 
-#[test]
-fn named_numbers(rt: HostRuntime) {
-    assert!(rt;
-        MAX_PAYLOAD_LEN == 16_777_215
-            && DEFAULT_MAX_ALLOWED_PACKET == 4_194_304
-            && UTF8_GENERAL_CI == 33
-            && UTF8MB4_GENERAL_CI == 45
-    );
+fn named_numbers() -> bool {
+    MAX_PAYLOAD_LEN == 16_777_215
+        && DEFAULT_MAX_ALLOWED_PACKET == 4_194_304
+        && UTF8_GENERAL_CI == 33
+        && UTF8MB4_GENERAL_CI == 45
 }
 
 /// Whether the value is displayed as the text.
@@ -155,21 +137,31 @@ fn prints<T: Display>(alloc: Global, value: &T, text: &str) -> bool {
 }
 
 // The texts of the errors.
+fn errors_as_text(alloc: Global) -> bool {
+    prints(alloc, &UnknownColumnType(21), "Unknown column type 21")
+        && prints(
+            alloc,
+            &UnknownItemResultType(-5),
+            "Unknown item result type -5",
+        )
+        && prints(alloc, &UnknownGeometryType(8), "Unknown geometry type 8")
+        && prints(
+            alloc,
+            &UnknownFlags2(5),
+            "Unknown flags in the raw value of Flags2 (raw=101)",
+        )
+}
+
 #[test]
-fn errors_as_text(rt: HostRuntime) {
+fn constants(rt: HostRuntime) {
     let alloc = rt.alloc();
-    assert!(rt;
-        prints(alloc, &UnknownColumnType(21), "Unknown column type 21")
-            && prints(
-                alloc,
-                &UnknownItemResultType(-5),
-                "Unknown item result type -5"
-            )
-            && prints(alloc, &UnknownGeometryType(8), "Unknown geometry type 8")
-            && prints(
-                alloc,
-                &UnknownFlags2(5),
-                "Unknown flags in the raw value of Flags2 (raw=101)"
-            )
-    );
+    assert!(rt; column_types_and_back());
+    assert!(rt; count_of_column_types());
+    assert!(rt; command_numbers());
+    assert!(rt; result_types());
+    assert!(rt; geometry_types());
+    assert!(rt; flag_sets());
+    assert!(rt; known_and_default_flags());
+    assert!(rt; named_numbers());
+    assert!(rt; errors_as_text(alloc));
 }

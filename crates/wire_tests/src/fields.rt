@@ -12,72 +12,55 @@ use wire_forms::{
 };
 use wire_ints::{LeU16, RawInt};
 
-#[test]
-fn constants_and_flags(rt: HostRuntime) {
-    let alloc = rt.alloc();
+fn constants_and_flags(alloc: Global) -> bool {
     let flags = RawFlags::<ColumnFlags, LeU16>::new(0x0100);
-    assert!(rt;
-        round_trips_as(
-            alloc,
-            &Const::<ColumnType, u8>::new(ColumnType::MYSQL_TYPE_JSON),
-            b"\xf5"
-        ) && round_trips_as(
-            alloc,
-            &Const::<GeometryType, u8>::new(GeometryType::GEOM_POINT),
-            b"\x01"
-        ) && round_trips_as(
-            alloc,
-            &Const::<ItemResult, i8>::new(ItemResult::INVALID_RESULT),
-            b"\xff"
-        ) && round_trips_as(alloc, &flags, b"\x00\x01")
-            && flags.get() == ColumnFlags::ENUM_FLAG
-    );
+    round_trips_as(
+        alloc,
+        &Const::<ColumnType, u8>::new(ColumnType::MYSQL_TYPE_JSON),
+        b"\xf5",
+    ) && round_trips_as(
+        alloc,
+        &Const::<GeometryType, u8>::new(GeometryType::GEOM_POINT),
+        b"\x01",
+    ) && round_trips_as(
+        alloc,
+        &Const::<ItemResult, i8>::new(ItemResult::INVALID_RESULT),
+        b"\xff",
+    ) && round_trips_as(alloc, &flags, b"\x00\x01")
+        && flags.get() == ColumnFlags::ENUM_FLAG
 }
 
-#[test]
-fn constants_that_are_failed(rt: HostRuntime) {
-    let alloc = rt.alloc();
-    assert!(rt;
-        read_error::<Const<ColumnType, u8>>(alloc, b"\xf4\x02") == Some(WireFault::BadConst)
-            && read_error::<Const<ColumnType, u8>>(alloc, b"") == Some(WireFault::Eof)
-    );
+fn constants_that_are_failed(alloc: Global) -> bool {
+    read_error::<Const<ColumnType, u8>>(alloc, b"\xf4\x02") == Some(WireFault::BadConst)
+        && read_error::<Const<ColumnType, u8>>(alloc, b"") == Some(WireFault::Eof)
 }
 
-#[test]
-fn made_constants_and_flags(rt: HostRuntime) {
-    let alloc = rt.alloc();
-    assert!(rt;
-        writes(alloc, &RawConst::<u8, ColumnType>::new(3), b"\x03")
-            && writes(
-                alloc,
-                &Const::<GeometryType, u8>::new(GeometryType::GEOM_POLYGON),
-                b"\x03"
-            )
-            && writes(alloc, &RawFlags::<ColumnFlags, LeU16>::new(2), b"\x02\x00")
-    );
+fn made_constants_and_flags(alloc: Global) -> bool {
+    writes(alloc, &RawConst::<u8, ColumnType>::new(3), b"\x03")
+        && writes(
+            alloc,
+            &Const::<GeometryType, u8>::new(GeometryType::GEOM_POLYGON),
+            b"\x03",
+        )
+        && writes(alloc, &RawFlags::<ColumnFlags, LeU16>::new(2), b"\x02\x00")
 }
 
-#[test]
-fn raw_constants(rt: HostRuntime) {
-    let alloc = rt.alloc();
+fn raw_constants(alloc: Global) -> bool {
     let known = RawConst::<u8, ColumnType>::new(0x14);
     let mut raw = RawConst::<u8, ColumnType>::new(0x14);
     *raw = 200;
-    assert!(rt;
-        round_trips_as(alloc, &known, b"\x14")
-            && known.get() == Ok(ColumnType::MYSQL_TYPE_TYPED_ARRAY)
-            && raw.get().is_err()
-            && writes(alloc, &raw, b"\xc8")
-    );
+    round_trips_as(alloc, &known, b"\x14")
+        && known.get() == Ok(ColumnType::MYSQL_TYPE_TYPED_ARRAY)
+        && raw.get().is_err()
+        && writes(alloc, &raw, b"\xc8")
 }
 
-#[test]
-fn values_that_are_changed(rt: HostRuntime) {
+fn values_that_are_changed(alloc: Global) -> bool {
     let mut result = Const::<ItemResult, i8>::new(ItemResult::INVALID_RESULT);
     *result = ItemResult::REAL_RESULT;
     let mut number = RawInt::<LeU16>::new(1);
     *number = 2;
-    assert!(rt; writes(rt.alloc(), &result, b"\x01") && number.0 == 2);
+    writes(alloc, &result, b"\x01") && number.0 == 2
 }
 
 /// The first bytes of a binlog file.
@@ -92,32 +75,24 @@ impl ConstBytesValue<4> for Magic {
     }
 }
 
-#[test]
-fn fields_that_never_change(rt: HostRuntime) {
-    let alloc = rt.alloc();
-    assert!(rt;
-        round_trips_as(alloc, &ConstBytes::<Magic, 4>::new(), b"\xfebin")
-            && round_trips_as(alloc, &ConstU8::<Magic, 7>::new(), b"\x07")
-            && round_trips_as(
-                alloc,
-                &ConstU32::<Magic, 0x0403_0201>::new(),
-                b"\x01\x02\x03\x04"
-            )
-            && round_trips_as(alloc, &Skip::<3>, b"\x00\x00\x00")
-            && ConstU8::<Magic, 7>::new().value() == 7
-    );
+fn fields_that_never_change(alloc: Global) -> bool {
+    round_trips_as(alloc, &ConstBytes::<Magic, 4>::new(), b"\xfebin")
+        && round_trips_as(alloc, &ConstU8::<Magic, 7>::new(), b"\x07")
+        && round_trips_as(
+            alloc,
+            &ConstU32::<Magic, 0x0403_0201>::new(),
+            b"\x01\x02\x03\x04",
+        )
+        && round_trips_as(alloc, &Skip::<3>, b"\x00\x00\x00")
+        && ConstU8::<Magic, 7>::new().value() == 7
 }
 
-#[test]
-fn fields_that_are_failed(rt: HostRuntime) {
-    let alloc = rt.alloc();
-    assert!(rt;
-        read_error::<ConstBytes<Magic, 4>>(alloc, b"\xfebit\x08") == Some(WireFault::BadConst)
-            && read_error::<ConstU8<Magic, 7>>(alloc, b"\x08\x01") == Some(WireFault::BadConst)
-            && read_error::<ConstU32<Magic, 0x0403_0201>>(alloc, b"\x01\x02\x03\x05")
-                == Some(WireFault::BadConst)
-            && read_error::<Skip<3>>(alloc, b"ab") == Some(WireFault::Eof)
-    );
+fn fields_that_are_failed(alloc: Global) -> bool {
+    read_error::<ConstBytes<Magic, 4>>(alloc, b"\xfebit\x08") == Some(WireFault::BadConst)
+        && read_error::<ConstU8<Magic, 7>>(alloc, b"\x08\x01") == Some(WireFault::BadConst)
+        && read_error::<ConstU32<Magic, 0x0403_0201>>(alloc, b"\x01\x02\x03\x05")
+            == Some(WireFault::BadConst)
+        && read_error::<Skip<3>>(alloc, b"ab") == Some(WireFault::Eof)
 }
 
 type Side<'a> = Either<RawInt<LeU16>, RawBytes<'a, BareU8Bytes>>;
@@ -144,27 +119,34 @@ fn reads_right(alloc: Global) -> bool {
     }
 }
 
+fn one_of_two_encodings(alloc: Global) -> bool {
+    reads_left(alloc) && reads_right(alloc)
+}
+
+fn sizes_of_encodings() -> bool {
+    size_agrees::<Const<ColumnType, u8>>()
+        && size_agrees::<RawConst<LeU16, ColumnType>>()
+        && size_agrees::<RawFlags<ColumnFlags, LeU16>>()
+}
+
+fn sizes_of_fixed_fields() -> bool {
+    size_agrees::<ConstBytes<Magic, 4>>()
+        && size_agrees::<ConstU8<Magic, 7>>()
+        && size_agrees::<ConstU32<Magic, 7>>()
+        && size_agrees::<Skip<3>>()
+}
+
 #[test]
-fn one_of_two_encodings(rt: HostRuntime) {
+fn fields(rt: HostRuntime) {
     let alloc = rt.alloc();
-    assert!(rt; reads_left(alloc) && reads_right(alloc));
-}
-
-#[test]
-fn sizes_of_encodings(rt: HostRuntime) {
-    assert!(rt;
-        size_agrees::<Const<ColumnType, u8>>()
-            && size_agrees::<RawConst<LeU16, ColumnType>>()
-            && size_agrees::<RawFlags<ColumnFlags, LeU16>>()
-    );
-}
-
-#[test]
-fn sizes_of_fixed_fields(rt: HostRuntime) {
-    assert!(rt;
-        size_agrees::<ConstBytes<Magic, 4>>()
-            && size_agrees::<ConstU8<Magic, 7>>()
-            && size_agrees::<ConstU32<Magic, 7>>()
-            && size_agrees::<Skip<3>>()
-    );
+    assert!(rt; constants_and_flags(alloc));
+    assert!(rt; constants_that_are_failed(alloc));
+    assert!(rt; made_constants_and_flags(alloc));
+    assert!(rt; raw_constants(alloc));
+    assert!(rt; values_that_are_changed(alloc));
+    assert!(rt; fields_that_never_change(alloc));
+    assert!(rt; fields_that_are_failed(alloc));
+    assert!(rt; one_of_two_encodings(alloc));
+    assert!(rt; sizes_of_encodings());
+    assert!(rt; sizes_of_fixed_fields());
 }

@@ -37,12 +37,10 @@ fn is_all_or_nothing<T: MySerialize>(alloc: Global, value: &T, len: usize) -> bo
     written && failed
 }
 
-#[test]
-fn sequences_without_memory(rt: HostRuntime) {
-    let alloc = rt.alloc();
+fn sequences_without_memory(alloc: Global) -> bool {
     let numbers = [RawInt::<LeU128>::new(1), RawInt::<LeU128>::new(2)];
     let seq = Seq::<'_, RawInt<LeU128>, LeU16>::new(CowSlice::Borrowed(&numbers));
-    assert!(rt; is_all_or_nothing(alloc, &seq, 34));
+    is_all_or_nothing(alloc, &seq, 34)
 }
 
 /// Whether the text is written, with one byte for its length or its end, or returns an error.
@@ -51,13 +49,16 @@ fn text_is_all_or_nothing<T: BytesRepr>(alloc: Global, text: &[u8]) -> bool {
     is_all_or_nothing(alloc, &raw, text.len().wrapping_add(1))
 }
 
-#[test]
-fn texts_without_memory(rt: HostRuntime) {
-    let alloc = rt.alloc();
+fn texts_without_memory(alloc: Global) -> bool {
     let text = [b't'; 100];
-    assert!(rt;
-        text_is_all_or_nothing::<LenEnc>(alloc, &text)
-            && text_is_all_or_nothing::<U8Bytes>(alloc, &text)
-            && text_is_all_or_nothing::<NullBytes>(alloc, &text)
-    );
+    text_is_all_or_nothing::<LenEnc>(alloc, &text)
+        && text_is_all_or_nothing::<U8Bytes>(alloc, &text)
+        && text_is_all_or_nothing::<NullBytes>(alloc, &text)
+}
+
+#[test]
+fn memory(rt: HostRuntime) {
+    let alloc = rt.alloc();
+    assert!(rt; sequences_without_memory(alloc));
+    assert!(rt; texts_without_memory(alloc));
 }

@@ -17,134 +17,105 @@ fn frames(alloc: Global, mut codec: PacketCodec, payload: &[u8], bytes: &[u8]) -
     codec.encode(payload, &mut framed).is_ok() && framed.as_slice() == bytes
 }
 
-#[test]
-fn framings_of_payloads(rt: HostRuntime) {
-    let alloc = rt.alloc();
-    assert!(rt;
-        frames(
+fn framings_of_payloads(alloc: Global) -> bool {
+    frames(
+        alloc,
+        PacketCodec::default(),
+        &[0x31, 0x32, 0x33],
+        &[3, 0, 0, 0, 0x31, 0x32, 0x33],
+    ) && frames(alloc, PacketCodec::default(), &[], &[0, 0, 0, 0])
+        && frames(
             alloc,
-            PacketCodec::default(),
-            &[0x31, 0x32, 0x33],
-            &[3, 0, 0, 0, 0x31, 0x32, 0x33]
-        ) && frames(alloc, PacketCodec::default(), &[], &[0, 0, 0, 0])
-            && frames(
-                alloc,
-                PacketCodec::with_number(10, 7),
-                &[5, 6],
-                &[2, 0, 0, 7, 5, 6]
-            )
-    );
+            PacketCodec::with_number(10, 7),
+            &[5, 6],
+            &[2, 0, 0, 7, 5, 6],
+        )
 }
 
-#[test]
-fn sequence_number_wraps(rt: HostRuntime) {
-    let mut dst = BytesMut::new(rt.alloc());
-    assert!(rt;
-        packet_to_chunks(255, &[0x31], &mut dst) == Ok(0)
-            && dst.as_slice() == [1, 0, 0, 0xff, 0x31].as_slice()
-    );
+fn sequence_number_wraps(alloc: Global) -> bool {
+    let mut dst = BytesMut::new(alloc);
+    packet_to_chunks(255, &[0x31], &mut dst) == Ok(0)
+        && dst.as_slice() == [1, 0, 0, 0xff, 0x31].as_slice()
 }
 
-#[test]
-fn packets_from_pieces(rt: HostRuntime) {
+fn packets_from_pieces(alloc: Global) -> bool {
     let mut codec = PacketCodec::default();
     let pieces: [&[u8]; 3] = [&[1, 0], &[0, 0, 0x31, 0], &[0, 0, 1]];
-    let (packets, fault) = decode_pieces(rt.alloc(), &mut codec, &pieces);
-    assert!(rt;
-        packets.len() == 2
-            && packets[0].as_slice() == [0x31].as_slice()
-            && packets[1].is_empty()
-            && fault.is_none()
-    );
+    let (packets, fault) = decode_pieces(alloc, &mut codec, &pieces);
+    packets.len() == 2
+        && packets[0].as_slice() == [0x31].as_slice()
+        && packets[1].is_empty()
+        && fault.is_none()
 }
 
-#[test]
-fn packet_past_the_limit(rt: HostRuntime) {
+fn packet_past_the_limit(alloc: Global) -> bool {
     let mut codec = PacketCodec::default();
     codec.max_allowed_packet = 1;
     let pieces: [&[u8]; 1] = [&[2, 0, 0, 5]];
-    let (packets, fault) = decode_pieces(rt.alloc(), &mut codec, &pieces);
-    assert!(rt; packets.is_empty() && fault == Some(PacketCodecError::PacketTooLarge));
+    let (packets, fault) = decode_pieces(alloc, &mut codec, &pieces);
+    packets.is_empty() && fault == Some(PacketCodecError::PacketTooLarge)
 }
 
-#[test]
-fn chunk_of_greatest_length(rt: HostRuntime) {
+fn chunk_of_greatest_length(alloc: Global) -> bool {
     let mut decoder = ChunkDecoder::Chunk {
         seq_id: 0,
         needed: usize::MAX,
     };
-    let mut src = BytesMut::new(rt.alloc());
-    let mut dst = Vec::new(rt.alloc());
-    assert!(rt;
-        src.extend_from_slice(&[1, 2, 3]).is_ok()
-            && decoder.decode(&mut src, &mut dst, DEFAULT_MAX_ALLOWED_PACKET) == Ok(None)
-            && dst.is_empty()
-            && src.as_slice() == [1, 2, 3].as_slice()
-    );
+    let mut src = BytesMut::new(alloc);
+    let mut dst = Vec::new(alloc);
+    src.extend_from_slice(&[1, 2, 3]).is_ok()
+        && decoder.decode(&mut src, &mut dst, DEFAULT_MAX_ALLOWED_PACKET) == Ok(None)
+        && dst.is_empty()
+        && src.as_slice() == [1, 2, 3].as_slice()
 }
 
-#[test]
-fn chunks_are_read(rt: HostRuntime) {
-    let mut chunks = BytesMut::new(rt.alloc());
-    let mut payload = Vec::new(rt.alloc());
+fn chunks_are_read(alloc: Global) -> bool {
+    let mut chunks = BytesMut::new(alloc);
+    let mut payload = Vec::new(alloc);
     let mut decoder = ChunkDecoder::Idle;
-    assert!(rt;
-        chunks.extend_from_slice(&[2, 0, 0, 7, 5, 6]).is_ok()
-            && decoder.decode(&mut chunks, &mut payload, 10) == Ok(Some(ChunkInfo::Last(7)))
-            && payload.as_slice() == [5, 6].as_slice()
-    );
+    chunks.extend_from_slice(&[2, 0, 0, 7, 5, 6]).is_ok()
+        && decoder.decode(&mut chunks, &mut payload, 10) == Ok(Some(ChunkInfo::Last(7)))
+        && payload.as_slice() == [5, 6].as_slice()
 }
 
-#[test]
-fn packets_are_read(rt: HostRuntime) {
+fn packets_are_read(alloc: Global) -> bool {
     let mut codec = PacketCodec::with_number(10, 7);
-    let mut stream = BytesMut::new(rt.alloc());
-    let mut packet = Vec::new(rt.alloc());
+    let mut stream = BytesMut::new(alloc);
+    let mut packet = Vec::new(alloc);
     codec.sync_seq_id();
-    assert!(rt;
-        stream.extend_from_slice(&[2, 0, 0, 7, 5, 6]).is_ok()
-            && codec.decode(&mut stream, &mut packet) == Ok(true)
-            && packet.as_slice() == [5, 6].as_slice()
-            && codec.decode(&mut stream, &mut packet) == Ok(false)
-    );
+    stream.extend_from_slice(&[2, 0, 0, 7, 5, 6]).is_ok()
+        && codec.decode(&mut stream, &mut packet) == Ok(true)
+        && packet.as_slice() == [5, 6].as_slice()
+        && codec.decode(&mut stream, &mut packet) == Ok(false)
 }
 
-#[test]
-fn payload_lent_from_the_buffer(rt: HostRuntime) {
+fn payload_lent_from_the_buffer() -> bool {
     let mut codec = PacketCodec::with_number(2, 7);
     let stream = [2, 0, 0, 7, 5, 6, 1, 0, 0, 8];
-    assert!(rt;
-        codec.decode_in_place(&stream[..5]) == None
-            && codec.decode_in_place(&stream) == Some([5, 6].as_slice())
-            && codec.decode_in_place(&stream) == None
-            && codec.decode_in_place(&stream[PACKET_HEADER_LEN + 2..]) == None
-            && codec.decode_in_place(&[0, 0, 0, 8]) == Some([].as_slice())
-            && codec.decode_in_place(&[3, 0, 0, 9, 1, 2, 3]) == None
-    );
+    codec.decode_in_place(&stream[..5]) == None
+        && codec.decode_in_place(&stream) == Some([5, 6].as_slice())
+        && codec.decode_in_place(&stream) == None
+        && codec.decode_in_place(&stream[PACKET_HEADER_LEN + 2..]) == None
+        && codec.decode_in_place(&[0, 0, 0, 8]) == Some([].as_slice())
+        && codec.decode_in_place(&[3, 0, 0, 9, 1, 2, 3]) == None
 }
 
-#[test]
-fn nothing_lent_after_a_fault(rt: HostRuntime) {
+fn nothing_lent_after_a_fault(alloc: Global) -> bool {
     let mut codec = PacketCodec::with_number(1, 0);
-    let mut src = BytesMut::new(rt.alloc());
-    let mut packet = Vec::new(rt.alloc());
-    assert!(rt;
-        src.extend_from_slice(&[2, 0, 0, 0]).is_ok()
-            && codec.decode(&mut src, &mut packet) == Err(PacketCodecError::PacketTooLarge)
-            && codec.decode_in_place(&[1, 0, 0, 0, 9]) == None
-    );
+    let mut src = BytesMut::new(alloc);
+    let mut packet = Vec::new(alloc);
+    src.extend_from_slice(&[2, 0, 0, 0]).is_ok()
+        && codec.decode(&mut src, &mut packet) == Err(PacketCodecError::PacketTooLarge)
+        && codec.decode_in_place(&[1, 0, 0, 0, 9]) == None
 }
 
-#[test]
-fn packet_out_of_its_order(rt: HostRuntime) {
+fn packet_out_of_its_order(alloc: Global) -> bool {
     let mut codec = PacketCodec::with_number(10, 7);
-    let mut stream = BytesMut::new(rt.alloc());
-    let mut packet = Vec::new(rt.alloc());
+    let mut stream = BytesMut::new(alloc);
+    let mut packet = Vec::new(alloc);
     codec.reset_seq_id();
-    assert!(rt;
-        stream.extend_from_slice(&[0, 0, 0, 9]).is_ok()
-            && codec.decode(&mut stream, &mut packet) == Err(PacketCodecError::PacketsOutOfSync)
-    );
+    stream.extend_from_slice(&[0, 0, 0, 9]).is_ok()
+        && codec.decode(&mut stream, &mut packet) == Err(PacketCodecError::PacketsOutOfSync)
 }
 
 /// A count in three bytes, then a length-encoded integer: the first example of docs/WIRE.md.
@@ -160,17 +131,14 @@ fn write(out: &mut Vec<u8>, count: u32, number: u64) -> Result<(), WireFault> {
     RawInt::<LenEnc>::new(number).serialize(out)
 }
 
-#[test]
-fn field_read_and_written(rt: HostRuntime) {
+fn field_read_and_written(alloc: Global) -> bool {
     let bytes = [2, 0, 0, 0xfc, 0xfb, 0];
-    let mut out = Vec::new(rt.alloc());
-    assert!(rt;
-        read(rt.alloc(), &bytes) == Ok((2, 251))
-            && write(&mut out, 2, 251).is_ok()
-            && out.as_slice() == bytes.as_slice()
-            && write(&mut out, 16_777_216, 0) == Err(WireFault::Form)
-            && out.as_slice() == bytes.as_slice()
-    );
+    let mut out = Vec::new(alloc);
+    read(alloc, &bytes) == Ok((2, 251))
+        && write(&mut out, 2, 251).is_ok()
+        && out.as_slice() == bytes.as_slice()
+        && write(&mut out, 16_777_216, 0) == Err(WireFault::Form)
+        && out.as_slice() == bytes.as_slice()
 }
 
 /// A name, two bytes without meaning, and the rest: the second example of docs/WIRE.md.
@@ -182,9 +150,8 @@ fn reads_fields(alloc: Global) -> Result<bool, WireFault> {
     Ok(name.eq_bytes(b"ab") && rest.eq_bytes(b"cd"))
 }
 
-#[test]
-fn raw_encodings_read(rt: HostRuntime) {
-    assert!(rt; reads_fields(rt.alloc()) == Ok(true));
+fn raw_encodings_read(alloc: Global) -> bool {
+    reads_fields(alloc) == Ok(true)
 }
 
 /// Reads each packet that is complete as more of a stream arrives: the third example of docs/WIRE.md.
@@ -203,25 +170,19 @@ fn take(
     Ok(packets)
 }
 
-#[test]
-fn packets_taken(rt: HostRuntime) {
+fn packets_taken(alloc: Global) -> bool {
     let mut codec = PacketCodec::default();
-    let mut src = BytesMut::new(rt.alloc());
-    let mut packet = Vec::new(rt.alloc());
-    assert!(rt;
-        take(&mut codec, &mut src, &mut packet, &[1, 0, 0]) == Ok(0)
-            && take(&mut codec, &mut src, &mut packet, &[0, 7, 0, 0, 0, 1, 9]) == Ok(2)
-            && src.as_slice() == [9].as_slice()
-    );
+    let mut src = BytesMut::new(alloc);
+    let mut packet = Vec::new(alloc);
+    take(&mut codec, &mut src, &mut packet, &[1, 0, 0]) == Ok(0)
+        && take(&mut codec, &mut src, &mut packet, &[0, 7, 0, 0, 0, 1, 9]) == Ok(2)
+        && src.as_slice() == [9].as_slice()
 }
 
-#[test]
-fn server_version_split(rt: HostRuntime) {
-    assert!(rt;
-        split_version(b"8.0.32-log") == (8, 0, 32)
-            && split_version(b"8.256.1") == (0, 0, 0)
-            && split_version(b"5.7") == (0, 0, 0)
-    );
+fn server_version_split() -> bool {
+    split_version(b"8.0.32-log") == (8, 0, 32)
+        && split_version(b"8.256.1") == (0, 0, 0)
+        && split_version(b"5.7") == (0, 0, 0)
 }
 
 /// Whether there is memory for the longest payload of a chunk, and for that chunk, with the sequence id 0.
@@ -264,17 +225,34 @@ fn full_chunk_is_written(rt: HostRuntime) {
     );
 }
 
-#[test]
-fn decode_asked_again_after_a_fault(rt: HostRuntime) {
+fn decode_asked_again_after_a_fault(alloc: Global) -> bool {
     let mut codec = PacketCodec::with_number(1, 0);
-    let mut src = BytesMut::new(rt.alloc());
-    let mut packet = Vec::new(rt.alloc());
-    assert!(rt;
-        src.extend_from_slice(&[2, 0, 0, 0]).is_ok()
-            && codec.decode(&mut src, &mut packet) == Err(PacketCodecError::PacketTooLarge)
-            && src.extend_from_slice(&[8, 9, 0, 0, 0, 1]).is_ok()
-            && codec.decode(&mut src, &mut packet) == Err(PacketCodecError::PacketTooLarge)
-            && src.len() == 10
-            && packet.is_empty()
-    );
+    let mut src = BytesMut::new(alloc);
+    let mut packet = Vec::new(alloc);
+    src.extend_from_slice(&[2, 0, 0, 0]).is_ok()
+        && codec.decode(&mut src, &mut packet) == Err(PacketCodecError::PacketTooLarge)
+        && src.extend_from_slice(&[8, 9, 0, 0, 0, 1]).is_ok()
+        && codec.decode(&mut src, &mut packet) == Err(PacketCodecError::PacketTooLarge)
+        && src.len() == 10
+        && packet.is_empty()
+}
+
+#[test]
+fn packets(rt: HostRuntime) {
+    let alloc = rt.alloc();
+    assert!(rt; framings_of_payloads(alloc));
+    assert!(rt; sequence_number_wraps(alloc));
+    assert!(rt; packets_from_pieces(alloc));
+    assert!(rt; packet_past_the_limit(alloc));
+    assert!(rt; chunk_of_greatest_length(alloc));
+    assert!(rt; chunks_are_read(alloc));
+    assert!(rt; packets_are_read(alloc));
+    assert!(rt; payload_lent_from_the_buffer());
+    assert!(rt; nothing_lent_after_a_fault(alloc));
+    assert!(rt; packet_out_of_its_order(alloc));
+    assert!(rt; field_read_and_written(alloc));
+    assert!(rt; raw_encodings_read(alloc));
+    assert!(rt; packets_taken(alloc));
+    assert!(rt; server_version_split());
+    assert!(rt; decode_asked_again_after_a_fault(alloc));
 }

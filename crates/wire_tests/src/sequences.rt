@@ -25,58 +25,38 @@ fn counts<U: SeqRepr<Ctx = ()>>(alloc: Global, bytes: &[u8]) -> bool {
     round_trips_as(alloc, &seq, bytes)
 }
 
-#[test]
-fn counts_of_each_encoding(rt: HostRuntime) {
-    let alloc = rt.alloc();
-    assert!(rt;
-        counts::<u8>(alloc, b"\x02\x01\x00\x02\x03")
-            && counts::<LeU16>(alloc, b"\x02\x00\x01\x00\x02\x03")
-            && counts::<LeU24>(alloc, b"\x02\x00\x00\x01\x00\x02\x03")
-            && counts::<LeU32>(alloc, b"\x02\x00\x00\x00\x01\x00\x02\x03")
-    );
+fn counts_of_each_encoding(alloc: Global) -> bool {
+    counts::<u8>(alloc, b"\x02\x01\x00\x02\x03")
+        && counts::<LeU16>(alloc, b"\x02\x00\x01\x00\x02\x03")
+        && counts::<LeU24>(alloc, b"\x02\x00\x00\x01\x00\x02\x03")
+        && counts::<LeU32>(alloc, b"\x02\x00\x00\x00\x01\x00\x02\x03")
 }
 
-#[test]
-fn counts_of_many_bytes(rt: HostRuntime) {
-    let alloc = rt.alloc();
-    assert!(rt;
-        counts::<LeU40>(alloc, b"\x02\0\0\0\0\x01\0\x02\x03")
-            && counts::<LeU48>(alloc, b"\x02\0\0\0\0\0\x01\0\x02\x03")
-            && counts::<LeU56>(alloc, b"\x02\0\0\0\0\0\0\x01\0\x02\x03")
-            && counts::<LeU64>(alloc, b"\x02\0\0\0\0\0\0\0\x01\0\x02\x03")
-    );
+fn counts_of_many_bytes(alloc: Global) -> bool {
+    counts::<LeU40>(alloc, b"\x02\0\0\0\0\x01\0\x02\x03")
+        && counts::<LeU48>(alloc, b"\x02\0\0\0\0\0\x01\0\x02\x03")
+        && counts::<LeU56>(alloc, b"\x02\0\0\0\0\0\0\x01\0\x02\x03")
+        && counts::<LeU64>(alloc, b"\x02\0\0\0\0\0\0\0\x01\0\x02\x03")
 }
 
-#[test]
-fn counts_with_their_highest_byte_first(rt: HostRuntime) {
-    let alloc = rt.alloc();
-    assert!(rt;
-        counts::<BeU16>(alloc, b"\x00\x02\x01\x00\x02\x03")
-            && counts::<BeU24>(alloc, b"\0\0\x02\x01\0\x02\x03")
-            && counts::<BeU32>(alloc, b"\0\0\0\x02\x01\0\x02\x03")
-            && counts::<BeU40>(alloc, b"\0\0\0\0\x02\x01\0\x02\x03")
-            && counts::<BeU48>(alloc, b"\0\0\0\0\0\x02\x01\0\x02\x03")
-    );
+fn counts_with_their_highest_byte_first(alloc: Global) -> bool {
+    counts::<BeU16>(alloc, b"\x00\x02\x01\x00\x02\x03")
+        && counts::<BeU24>(alloc, b"\0\0\x02\x01\0\x02\x03")
+        && counts::<BeU32>(alloc, b"\0\0\0\x02\x01\0\x02\x03")
+        && counts::<BeU40>(alloc, b"\0\0\0\0\x02\x01\0\x02\x03")
+        && counts::<BeU48>(alloc, b"\0\0\0\0\0\x02\x01\0\x02\x03")
 }
 
-#[test]
-fn long_counts_with_their_highest_byte_first(rt: HostRuntime) {
-    let alloc = rt.alloc();
-    assert!(rt;
-        counts::<BeU56>(alloc, b"\0\0\0\0\0\0\x02\x01\0\x02\x03")
-            && counts::<BeU64>(alloc, b"\0\0\0\0\0\0\0\x02\x01\0\x02\x03")
-    );
+fn long_counts_with_their_highest_byte_first(alloc: Global) -> bool {
+    counts::<BeU56>(alloc, b"\0\0\0\0\0\0\x02\x01\0\x02\x03")
+        && counts::<BeU64>(alloc, b"\0\0\0\0\0\0\0\x02\x01\0\x02\x03")
 }
 
-#[test]
-fn counts_of_sixteen_bytes(rt: HostRuntime) {
-    let alloc = rt.alloc();
-    assert!(rt;
-        counts::<LeU128>(alloc, b"\x02\0\0\0\0\0\0\0\0\0\0\0\0\0\0\0\x01\0\x02\x03")
-            && counts::<BeU128>(alloc, b"\0\0\0\0\0\0\0\0\0\0\0\0\0\0\0\x02\x01\0\x02\x03")
-            && read_error::<Numbers<'_, LeU128>>(alloc, b"\0\0\0\0\0\0\0\0\x01\0\0\0\0\0\0\0")
-                == Some(WireFault::Eof)
-    );
+fn counts_of_sixteen_bytes(alloc: Global) -> bool {
+    counts::<LeU128>(alloc, b"\x02\0\0\0\0\0\0\0\0\0\0\0\0\0\0\0\x01\0\x02\x03")
+        && counts::<BeU128>(alloc, b"\0\0\0\0\0\0\0\0\0\0\0\0\0\0\0\x02\x01\0\x02\x03")
+        && read_error::<Numbers<'_, LeU128>>(alloc, b"\0\0\0\0\0\0\0\0\x01\0\0\0\0\0\0\0")
+            == Some(WireFault::Eof)
 }
 
 /// Whether there are two texts, and they are written as the bytes.
@@ -91,13 +71,9 @@ fn two_texts(alloc: Global) -> Result<bool, WireFault> {
     Ok(texts_round_trip(alloc, &texts, b"\x01a\x02bc") && buf.len() == 1)
 }
 
-#[test]
-fn count_from_the_context(rt: HostRuntime) {
+fn count_from_the_context(alloc: Global) -> bool {
     let mut rest = ParseBuf(b"\x00");
-    assert!(rt;
-        two_texts(rt.alloc()) == Ok(true)
-            && rest.parse::<Texts<'_>>(rt.alloc(), 2).err() == Some(WireFault::Eof)
-    );
+    two_texts(alloc) == Ok(true) && rest.parse::<Texts<'_>>(alloc, 2).err() == Some(WireFault::Eof)
 }
 
 /// Whether only 255 of three hundred numbers are written after their count in one byte.
@@ -111,24 +87,19 @@ fn truncates_many(alloc: Global) -> Option<bool> {
     Some(out.len() == 256 && out[0] == 255)
 }
 
-#[test]
-fn more_than_the_count_holds(rt: HostRuntime) {
-    assert!(rt; truncates_many(rt.alloc()) == Some(true));
+fn more_than_the_count_holds(alloc: Global) -> bool {
+    truncates_many(alloc) == Some(true)
 }
 
-#[test]
-fn elements_that_are_failed(rt: HostRuntime) {
-    let alloc = rt.alloc();
+fn elements_that_are_failed(alloc: Global) -> bool {
     let numbers = [RawInt::<LeU24>::new(1), RawInt::<LeU24>::new(0x100_0000)];
     let seq = Seq::<'_, RawInt<LeU24>, u8>::new(CowSlice::Borrowed(&numbers));
     let mut out = Vec::new(alloc);
-    assert!(rt;
-        out.push(9).is_ok()
-            && seq.serialize(&mut out) == Err(WireFault::Form)
-            && out.as_slice() == b"\x09".as_slice()
-            && read_error::<Numbers<'_, u8>>(alloc, b"\x02\x01\x00\x02") == Some(WireFault::Eof)
-            && read_error::<Numbers<'_, LeU16>>(alloc, b"\x02") == Some(WireFault::Eof)
-    );
+    out.push(9).is_ok()
+        && seq.serialize(&mut out) == Err(WireFault::Form)
+        && out.as_slice() == b"\x09".as_slice()
+        && read_error::<Numbers<'_, u8>>(alloc, b"\x02\x01\x00\x02") == Some(WireFault::Eof)
+        && read_error::<Numbers<'_, LeU16>>(alloc, b"\x02") == Some(WireFault::Eof)
 }
 
 /// Whether a copy is equal until an element is pushed.
@@ -147,21 +118,14 @@ fn owns_three(alloc: Global, seq: Bytes<'_>) -> bool {
     }
 }
 
-#[test]
-fn sequences_as_values(rt: HostRuntime) {
-    let alloc = rt.alloc();
+fn sequences_as_values(alloc: Global) -> bool {
     let borrowed = [1u8, 2];
     let mut seq = Bytes::new(CowSlice::Borrowed(&borrowed));
-    assert!(rt;
-        grows_apart(alloc, &mut seq, 3)
-            && *seq == *b"\x01\x02\x03".as_slice()
-            && owns_three(alloc, seq)
-    );
+    grows_apart(alloc, &mut seq, 3) && *seq == *b"\x01\x02\x03".as_slice() && owns_three(alloc, seq)
 }
 
-#[test]
-fn sequences_of_nothing(rt: HostRuntime) {
-    assert!(rt; Bytes::empty().is_empty() && Bytes::default().is_empty());
+fn sequences_of_nothing() -> bool {
+    Bytes::empty().is_empty() && Bytes::default().is_empty()
 }
 
 /// Whether the numbers are copied and owned unchanged, and written as the bytes.
@@ -181,12 +145,9 @@ fn begins_with_long(types: &RawSeq<'_, u8, ColumnType>) -> bool {
     }
 }
 
-#[test]
-fn numbers_for_constants(rt: HostRuntime) {
+fn numbers_for_constants() -> bool {
     let types = RawSeq::<'_, u8, ColumnType>::new(CowSlice::Borrowed(b"\x03\xc8"));
-    assert!(rt;
-        types.len() == 2 && !types.is_empty() && begins_with_long(&types) && types.get(2).is_none()
-    );
+    types.len() == 2 && !types.is_empty() && begins_with_long(&types) && types.get(2).is_none()
 }
 
 /// Whether two numbers are read if the context says that there are two, and one byte remains.
@@ -196,45 +157,53 @@ fn two_numbers(alloc: Global) -> Result<bool, WireFault> {
     Ok(numbers_round_trip(alloc, types, b"\x03\xc8") && buf.len() == 1)
 }
 
-#[test]
-fn numbers_for_constants_read(rt: HostRuntime) {
-    let alloc = rt.alloc();
+fn numbers_for_constants_read(alloc: Global) -> bool {
     let mut rest = ParseBuf(b"\x0f");
     let numbers = [0x0201u16];
     let types = RawSeq::<'_, LeU16, ColumnType>::new(CowSlice::Borrowed(&numbers));
-    assert!(rt;
-        two_numbers(alloc) == Ok(true)
-            && rest.parse::<RawSeq<'_, LeU16, ColumnType>>(alloc, 1).err() == Some(WireFault::Eof)
-            && writes(alloc, &types, b"\x01\x02")
-    );
+    two_numbers(alloc) == Ok(true)
+        && rest.parse::<RawSeq<'_, LeU16, ColumnType>>(alloc, 1).err() == Some(WireFault::Eof)
+        && writes(alloc, &types, b"\x01\x02")
 }
 
-#[test]
-fn sizes_of_sequences(rt: HostRuntime) {
-    assert!(rt;
-        size_agrees::<Numbers<'_, u8>>()
-            && size_agrees::<RawSeq<'_, u8, ColumnType>>()
-            && <u8 as SeqRepr>::MAX_LEN == 255
-            && <LeU24 as SeqRepr>::MAX_LEN == 16_777_215
-            && <Unknown as SeqRepr>::MAX_LEN == usize::MAX
-    );
+fn sizes_of_sequences() -> bool {
+    size_agrees::<Numbers<'_, u8>>()
+        && size_agrees::<RawSeq<'_, u8, ColumnType>>()
+        && <u8 as SeqRepr>::MAX_LEN == 255
+        && <LeU24 as SeqRepr>::MAX_LEN == 16_777_215
+        && <Unknown as SeqRepr>::MAX_LEN == usize::MAX
 }
 
 // The counts of sequences alone: in one byte, in two, and given by the context.
-#[test]
-fn counts_of_sequences(rt: HostRuntime) {
-    let alloc = rt.alloc();
+fn counts_of_sequences(alloc: Global) -> bool {
     let (mut small, mut none) = (Vec::new(alloc), Vec::new(alloc));
     let mut buf = ParseBuf(b"\x07\x01\x02z");
-    assert!(rt;
-        <u8 as SeqRepr>::write_count(7, &mut small) == Ok(())
-            && <LeU16 as SeqRepr>::write_count(513, &mut small) == Ok(())
-            && small.as_slice() == b"\x07\x01\x02".as_slice()
-            && Unknown::write_count(7, &mut none) == Ok(())
-            && none.is_empty()
-            && <u8 as SeqRepr>::read_count((), &mut buf) == Ok(7)
-            && <LeU16 as SeqRepr>::read_count((), &mut buf) == Ok(513)
-            && Unknown::read_count(7, &mut buf) == Ok(7)
-            && buf.0 == b"z".as_slice()
-    );
+    <u8 as SeqRepr>::write_count(7, &mut small) == Ok(())
+        && <LeU16 as SeqRepr>::write_count(513, &mut small) == Ok(())
+        && small.as_slice() == b"\x07\x01\x02".as_slice()
+        && Unknown::write_count(7, &mut none) == Ok(())
+        && none.is_empty()
+        && <u8 as SeqRepr>::read_count((), &mut buf) == Ok(7)
+        && <LeU16 as SeqRepr>::read_count((), &mut buf) == Ok(513)
+        && Unknown::read_count(7, &mut buf) == Ok(7)
+        && buf.0 == b"z".as_slice()
+}
+
+#[test]
+fn sequences(rt: HostRuntime) {
+    let alloc = rt.alloc();
+    assert!(rt; counts_of_each_encoding(alloc));
+    assert!(rt; counts_of_many_bytes(alloc));
+    assert!(rt; counts_with_their_highest_byte_first(alloc));
+    assert!(rt; long_counts_with_their_highest_byte_first(alloc));
+    assert!(rt; counts_of_sixteen_bytes(alloc));
+    assert!(rt; count_from_the_context(alloc));
+    assert!(rt; more_than_the_count_holds(alloc));
+    assert!(rt; elements_that_are_failed(alloc));
+    assert!(rt; sequences_as_values(alloc));
+    assert!(rt; sequences_of_nothing());
+    assert!(rt; numbers_for_constants());
+    assert!(rt; numbers_for_constants_read(alloc));
+    assert!(rt; sizes_of_sequences());
+    assert!(rt; counts_of_sequences(alloc));
 }

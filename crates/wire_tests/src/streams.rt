@@ -69,61 +69,49 @@ impl Write for Device<'_> {
     }
 }
 
-#[test]
-fn byte_after_byte(rt: HostRuntime) {
+fn byte_after_byte() -> bool {
     let steps = [None, Some(ErrorKind::Interrupted), None];
     let mut source = Device::new(b"abc", &steps);
     let mut target = Device::new(b"", &steps);
     let mut two = [0; 2];
-    assert!(rt;
-        read_exact(&mut source, &mut two) == Ok(())
-            && two == *b"ab"
-            && source.bytes == b"c".as_slice()
-            && write_all(&mut target, b"xyz") == Ok(())
-            && target.written == *b"xyz\0\0\0\0\0"
-    );
+    read_exact(&mut source, &mut two) == Ok(())
+        && two == *b"ab"
+        && source.bytes == b"c".as_slice()
+        && write_all(&mut target, b"xyz") == Ok(())
+        && target.written == *b"xyz\0\0\0\0\0"
 }
 
-#[test]
-fn bytes_after_others(rt: HostRuntime) {
+fn bytes_after_others(alloc: Global) -> bool {
     let steps = [None, Some(ErrorKind::Interrupted), None];
     let mut device = Device::new(b"cde", &steps);
-    let mut more = Vec::new(rt.alloc());
-    assert!(rt;
-        more.push(b'>').is_ok()
-            && read_more(&mut device, 2, &mut more) == Ok(())
-            && more.as_slice() == b">cd".as_slice()
-            && read_more(&mut device, 0, &mut more) == Ok(())
-            && device.bytes == b"e".as_slice()
-    );
+    let mut more = Vec::new(alloc);
+    more.push(b'>').is_ok()
+        && read_more(&mut device, 2, &mut more) == Ok(())
+        && more.as_slice() == b">cd".as_slice()
+        && read_more(&mut device, 0, &mut more) == Ok(())
+        && device.bytes == b"e".as_slice()
 }
 
-#[test]
-fn ends_and_failures(rt: HostRuntime) {
+fn ends_and_failures(alloc: Global) -> bool {
     let steps = [None, Some(ErrorKind::Other)];
     let mut two = [0; 2];
-    let mut more = Vec::new(rt.alloc());
+    let mut more = Vec::new(alloc);
     // no memory holds u64::MAX bytes: the buffer grows with the bytes that arrive
-    assert!(rt;
-        read_exact(&mut Device::new(b"a", &[]), &mut two) == Err(WireFault::Eof)
-            && read_exact(&mut Device::new(b"ab", &steps), &mut two) == Err(WireFault::Read)
-            && read_more(&mut Device::new(b"ab", &[]), u64::MAX, &mut more) == Err(WireFault::Eof)
-            && more.as_slice() == b"ab".as_slice()
-            && read_more(&mut Device::new(b"ab", &steps), 2, &mut more) == Err(WireFault::Read)
-    );
+    read_exact(&mut Device::new(b"a", &[]), &mut two) == Err(WireFault::Eof)
+        && read_exact(&mut Device::new(b"ab", &steps), &mut two) == Err(WireFault::Read)
+        && read_more(&mut Device::new(b"ab", &[]), u64::MAX, &mut more) == Err(WireFault::Eof)
+        && more.as_slice() == b"ab".as_slice()
+        && read_more(&mut Device::new(b"ab", &steps), 2, &mut more) == Err(WireFault::Read)
 }
 
-#[test]
-fn writers_that_fail_or_are_full(rt: HostRuntime) {
+fn writers_that_fail_or_are_full() -> bool {
     let steps = [None, Some(ErrorKind::Other)];
     let mut failing = Device::new(b"", &steps);
     let mut full = Device::new(b"", &[]);
-    assert!(rt;
-        write_all(&mut failing, b"xyz") == Err(WireFault::Write)
-            && failing.count == 1
-            && write_all(&mut full, b"123456789") == Err(WireFault::Write)
-            && full.written == *b"12345678"
-    );
+    write_all(&mut failing, b"xyz") == Err(WireFault::Write)
+        && failing.count == 1
+        && write_all(&mut full, b"123456789") == Err(WireFault::Write)
+        && full.written == *b"12345678"
 }
 
 /// Whether a length-encoded string is read as the text.
@@ -132,93 +120,71 @@ fn string_read<R: Read>(alloc: Global, reader: &mut R, text: &[u8]) -> Result<bo
     Ok(read.as_slice() == text)
 }
 
-#[test]
-fn streams_that_end(rt: HostRuntime) {
-    let alloc = rt.alloc();
+fn streams_that_end(alloc: Global) -> bool {
     let mut whole = b"\xfc\x2c\x01\x02ab".as_slice();
     // a length of 2^64 - 1 reserves nothing
     let mut cut = b"\xfe\xff\xff\xff\xff\xff\xff\xff\xffab".as_slice();
-    assert!(rt;
-        whole.read_lenenc_int() == Ok(300)
-            && string_read(alloc, &mut whole, b"ab") == Ok(true)
-            && whole.read_lenenc_int() == Err(WireFault::Eof)
-            && b"\xff".as_slice().read_lenenc_int() == Err(WireFault::BadNumber)
-            && cut.read_lenenc_str(alloc).err() == Some(WireFault::Eof)
-    );
+    whole.read_lenenc_int() == Ok(300)
+        && string_read(alloc, &mut whole, b"ab") == Ok(true)
+        && whole.read_lenenc_int() == Err(WireFault::Eof)
+        && b"\xff".as_slice().read_lenenc_int() == Err(WireFault::BadNumber)
+        && cut.read_lenenc_str(alloc).err() == Some(WireFault::Eof)
 }
 
-#[test]
-fn streams_that_fail(rt: HostRuntime) {
-    let alloc = rt.alloc();
+fn streams_that_fail(alloc: Global) -> bool {
     let at_third = [None, None, Some(ErrorKind::Other)];
     let at_fourth = [None, None, None, Some(ErrorKind::Other)];
     let mut short = Device::new(b"\x02a", &at_third);
     let mut whole = Device::new(b"\x02ab", &at_fourth);
-    assert!(rt;
-        string_read(alloc, &mut short, b"a") == Err(WireFault::Read)
-            && string_read(alloc, &mut whole, b"ab") == Ok(true)
-    );
+    string_read(alloc, &mut short, b"a") == Err(WireFault::Read)
+        && string_read(alloc, &mut whole, b"ab") == Ok(true)
 }
 
-#[test]
-fn numbers_to_a_writer(rt: HostRuntime) {
+fn numbers_to_a_writer(alloc: Global) -> bool {
     let steps = [None, None, Some(ErrorKind::Other)];
-    let mut out: Vec<u8> = Vec::new(rt.alloc());
+    let mut out: Vec<u8> = Vec::new(alloc);
     let mut narrow = Device::new(b"", &steps);
-    assert!(rt;
-        out.write_lenenc_int(65_536) == Ok(4)
-            && out.write_lenenc_str(b"ab") == Ok(3)
-            && out.as_slice() == b"\xfd\x00\x00\x01\x02ab".as_slice()
-            && narrow.write_lenenc_str(b"ab") == Err(WireFault::Write)
-            && narrow.count == 2
-    );
+    out.write_lenenc_int(65_536) == Ok(4)
+        && out.write_lenenc_str(b"ab") == Ok(3)
+        && out.as_slice() == b"\xfd\x00\x00\x01\x02ab".as_slice()
+        && narrow.write_lenenc_str(b"ab") == Err(WireFault::Write)
+        && narrow.count == 2
 }
 
-#[test]
-fn watched_reader(rt: HostRuntime) {
+fn watched_reader() -> bool {
     let mut reader = Watched::new([1u8, 2, 3].as_slice());
     let mut taken = [0; 2];
-    assert!(rt;
-        reader.pull(&mut taken).ok() == Some(2)
-            && taken == [1, 2]
-            && !reader.failed()
-            && reader.into_inner() == [3].as_slice()
-    );
+    reader.pull(&mut taken).ok() == Some(2)
+        && taken == [1, 2]
+        && !reader.failed()
+        && reader.into_inner() == [3].as_slice()
 }
 
-#[test]
-fn watched_writer(rt: HostRuntime) {
-    let mut writer = Watched::new(Vec::new(rt.alloc()));
-    assert!(rt;
-        writer.push(&[1, 2]).ok() == Some(2)
-            && !writer.failed()
-            && writer.into_inner().as_slice() == [1, 2].as_slice()
-    );
+fn watched_writer(alloc: Global) -> bool {
+    let mut writer = Watched::new(Vec::new(alloc));
+    writer.push(&[1, 2]).ok() == Some(2)
+        && !writer.failed()
+        && writer.into_inner().as_slice() == [1, 2].as_slice()
 }
 
-#[test]
-fn watched_writer_that_is_full(rt: HostRuntime) {
+fn watched_writer_that_is_full() -> bool {
     let mut room = [0; 1];
     let mut full = Watched::new(room.as_mut_slice());
-    assert!(rt; full.push(&[1, 2]).ok() == Some(1) && full.push(&[2]).is_err() && full.failed());
+    full.push(&[1, 2]).ok() == Some(1) && full.push(&[2]).is_err() && full.failed()
 }
 
-#[test]
-fn failing_reader_and_writer(rt: HostRuntime) {
+fn failing_reader_and_writer() -> bool {
     let steps = [Some(ErrorKind::Other)];
     let mut reader = Watched::new(Device::new(b"ab", &steps));
     let mut writer = Watched::new(Device::new(b"", &steps));
     let mut taken = [0; 2];
-    assert!(rt;
-        reader.pull(&mut taken).is_err()
-            && reader.failed()
-            && writer.push(&[1]).is_err()
-            && writer.failed()
-    );
+    reader.pull(&mut taken).is_err()
+        && reader.failed()
+        && writer.push(&[1]).is_err()
+        && writer.failed()
 }
 
-#[test]
-fn interrupted_calls_are_tried_again(rt: HostRuntime) {
+fn interrupted_calls_are_tried_again() -> bool {
     let steps = [
         Some(ErrorKind::Interrupted),
         Some(ErrorKind::Interrupted),
@@ -227,21 +193,34 @@ fn interrupted_calls_are_tried_again(rt: HostRuntime) {
     let mut reader = Watched::new(Device::new(b"ab", &steps));
     let mut writer = Watched::new(Device::new(b"", &steps));
     let mut two = [0; 2];
-    assert!(rt;
-        reader.pull(&mut two).ok() == Some(1)
-            && two == *b"a\0"
-            && !reader.failed()
-            && writer.push(b"xy").ok() == Some(1)
-            && !writer.failed()
-    );
+    reader.pull(&mut two).ok() == Some(1)
+        && two == *b"a\0"
+        && !reader.failed()
+        && writer.push(b"xy").ok() == Some(1)
+        && !writer.failed()
+}
+
+fn memory_grows_with_the_bytes_that_come(alloc: Global) -> bool {
+    let mut more = Vec::new(alloc);
+    read_more(&mut b"ab".as_slice(), u64::MAX, &mut more) == Err(WireFault::Eof)
+        && more.as_slice() == b"ab".as_slice()
+        && more.capacity() <= 8_192
 }
 
 #[test]
-fn memory_grows_with_the_bytes_that_come(rt: HostRuntime) {
-    let mut more = Vec::new(rt.alloc());
-    assert!(rt;
-        read_more(&mut b"ab".as_slice(), u64::MAX, &mut more) == Err(WireFault::Eof)
-            && more.as_slice() == b"ab".as_slice()
-            && more.capacity() <= 8_192
-    );
+fn streams(rt: HostRuntime) {
+    let alloc = rt.alloc();
+    assert!(rt; byte_after_byte());
+    assert!(rt; bytes_after_others(alloc));
+    assert!(rt; ends_and_failures(alloc));
+    assert!(rt; writers_that_fail_or_are_full());
+    assert!(rt; streams_that_end(alloc));
+    assert!(rt; streams_that_fail(alloc));
+    assert!(rt; numbers_to_a_writer(alloc));
+    assert!(rt; watched_reader());
+    assert!(rt; watched_writer(alloc));
+    assert!(rt; watched_writer_that_is_full());
+    assert!(rt; failing_reader_and_writer());
+    assert!(rt; interrupted_calls_are_tried_again());
+    assert!(rt; memory_grows_with_the_bytes_that_come(alloc));
 }
