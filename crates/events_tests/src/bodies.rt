@@ -31,20 +31,16 @@ fn makes_rotate(alloc: Global) -> bool {
     }
 }
 
-#[test]
-fn rotate_body(rt: HostRuntime) {
-    let alloc = rt.alloc();
-    assert!(rt;
-        RotateEvent::new(0, CowSlice::Borrowed(b"")).is_fake()
-            && is_read(alloc, RotateEvent::new(0, CowSlice::Borrowed(b"")), &[0; 8])
-            && is_read(
-                alloc,
-                RotateEvent::new(4, CowSlice::Borrowed(b"mysql-bin.000002")),
-                ROTATE,
-            )
-            && makes_rotate(alloc)
-            && is_short::<RotateEvent<'_>>(alloc, &ROTATE[..7])
-    );
+fn rotate_body(alloc: Global) -> bool {
+    RotateEvent::new(0, CowSlice::Borrowed(b"")).is_fake()
+        && is_read(alloc, RotateEvent::new(0, CowSlice::Borrowed(b"")), &[0; 8])
+        && is_read(
+            alloc,
+            RotateEvent::new(4, CowSlice::Borrowed(b"mysql-bin.000002")),
+            ROTATE,
+        )
+        && makes_rotate(alloc)
+        && is_short::<RotateEvent<'_>>(alloc, &ROTATE[..7])
 }
 
 /// Whether the commit has this number.
@@ -52,17 +48,13 @@ fn is_xid(commit: &XidEvent, xid: u64) -> bool {
     commit.xid() == xid && commit.len() == 8
 }
 
-#[test]
-fn xid_body(rt: HostRuntime) {
-    let alloc = rt.alloc();
-    assert!(rt;
-        is_xid(&XidEvent::new(0).with_xid(1234), 1234)
-            && is_read(alloc, XidEvent::new(0).with_xid(1234), XID)
-            && is_read(alloc, XidEvent::new(u64::MAX), &[255; 8])
-            && is_short::<XidEvent>(alloc, &XID[..7])
-            && read_error::<XidEvent>(alloc, b"\xd2\x04\0\0\0\0\0\0\0")
-                == Some(EventError::RemainingBytes)
-    );
+fn xid_body(alloc: Global) -> bool {
+    is_xid(&XidEvent::new(0).with_xid(1234), 1234)
+        && is_read(alloc, XidEvent::new(0).with_xid(1234), XID)
+        && is_read(alloc, XidEvent::new(u64::MAX), &[255; 8])
+        && is_short::<XidEvent>(alloc, &XID[..7])
+        && read_error::<XidEvent>(alloc, b"\xd2\x04\0\0\0\0\0\0\0")
+            == Some(EventError::RemainingBytes)
 }
 
 /// Whether the seeds are these.
@@ -70,24 +62,20 @@ fn is_rand(seeds: &RandEvent, seed1: u64, seed2: u64) -> bool {
     seeds.seed1() == seed1 && seeds.seed2() == seed2 && seeds.len() == 16
 }
 
-#[test]
-fn rand_body(rt: HostRuntime) {
-    let alloc = rt.alloc();
-    assert!(rt;
-        is_rand(&RandEvent::new(0x408, 0x04_030201), 0x408, 0x04_030201)
-            && is_read(
-                alloc,
-                RandEvent::new(0x408, 0).with_seed2(0x04_030201),
-                RAND
-            )
-            && is_read(
-                alloc,
-                RandEvent::new(0, 0x04_030201).with_seed1(0x408),
-                RAND
-            )
-            && is_short::<RandEvent>(alloc, &RAND[..15])
-            && read_error::<RandEvent>(alloc, &[0; 17]) == Some(EventError::RemainingBytes)
-    );
+fn rand_body(alloc: Global) -> bool {
+    is_rand(&RandEvent::new(0x408, 0x04_030201), 0x408, 0x04_030201)
+        && is_read(
+            alloc,
+            RandEvent::new(0x408, 0).with_seed2(0x04_030201),
+            RAND,
+        )
+        && is_read(
+            alloc,
+            RandEvent::new(0, 0x04_030201).with_seed1(0x408),
+            RAND,
+        )
+        && is_short::<RandEvent>(alloc, &RAND[..15])
+        && read_error::<RandEvent>(alloc, &[0; 17]) == Some(EventError::RemainingBytes)
 }
 
 /// Whether the variable has this type and this value.
@@ -113,22 +101,18 @@ fn keeps_unknown_intvar(alloc: Global) -> bool {
     }
 }
 
-#[test]
-fn intvar_body(rt: HostRuntime) {
-    let alloc = rt.alloc();
+fn intvar_body(alloc: Global) -> bool {
     let (insert, last) = (
         IntvarEventType::INSERT_ID_EVENT,
         IntvarEventType::LAST_INSERT_ID_EVENT,
     );
-    assert!(rt;
-        is_intvar(&IntvarEvent::new(insert, 0).with_value(300), insert, 300)
-            && is_read(alloc, IntvarEvent::new(insert, 0).with_value(300), INTVAR)
-            && is_intvar(&IntvarEvent::new(last, 5), last, 5)
-            && is_read(alloc, IntvarEvent::new(last, 5), b"\x01\x05\0\0\0\0\0\0\0")
-            && keeps_unknown_intvar(alloc)
-            && is_short::<IntvarEvent>(alloc, &INTVAR[..8])
-            && read_error::<IntvarEvent>(alloc, &[2; 10]) == Some(EventError::RemainingBytes)
-    );
+    is_intvar(&IntvarEvent::new(insert, 0).with_value(300), insert, 300)
+        && is_read(alloc, IntvarEvent::new(insert, 0).with_value(300), INTVAR)
+        && is_intvar(&IntvarEvent::new(last, 5), last, 5)
+        && is_read(alloc, IntvarEvent::new(last, 5), b"\x01\x05\0\0\0\0\0\0\0")
+        && keeps_unknown_intvar(alloc)
+        && is_short::<IntvarEvent>(alloc, &INTVAR[..8])
+        && read_error::<IntvarEvent>(alloc, &[2; 10]) == Some(EventError::RemainingBytes)
 }
 
 /// Whether setters create the block of a file with its fields, which is read from its bytes when it is owned.
@@ -145,15 +129,11 @@ fn makes_block(alloc: Global) -> bool {
     }
 }
 
-#[test]
-fn begin_load_query_body(rt: HostRuntime) {
-    let alloc = rt.alloc();
+fn begin_load_query_body(alloc: Global) -> bool {
     let empty = BeginLoadQueryEvent::new(2, CowSlice::Borrowed(b""));
-    assert!(rt;
-        is_read(alloc, empty, b"\x02\0\0\0")
-            && makes_block(alloc)
-            && is_short::<BeginLoadQueryEvent<'_>>(alloc, &BEGIN_LOAD[..3])
-    );
+    is_read(alloc, empty, b"\x02\0\0\0")
+        && makes_block(alloc)
+        && is_short::<BeginLoadQueryEvent<'_>>(alloc, &BEGIN_LOAD[..3])
 }
 
 /// Whether setters create the incident with its fields, whose message is text, and which is read from its bytes when it is owned.
@@ -186,17 +166,12 @@ fn keeps_unknown_incident(alloc: Global) -> bool {
     }
 }
 
-#[test]
-fn incident_body(rt: HostRuntime) {
-    let alloc = rt.alloc();
-    assert!(rt;
-        makes_incident(alloc)
-            && keeps_unknown_incident(alloc)
-            && is_short::<IncidentEvent<'_>>(alloc, &INCIDENT[..14])
-            && is_short::<IncidentEvent<'_>>(alloc, &INCIDENT[..2])
-            && read_error::<IncidentEvent<'_>>(alloc, b"\x01\0\0!")
-                == Some(EventError::RemainingBytes)
-    );
+fn incident_body(alloc: Global) -> bool {
+    makes_incident(alloc)
+        && keeps_unknown_incident(alloc)
+        && is_short::<IncidentEvent<'_>>(alloc, &INCIDENT[..14])
+        && is_short::<IncidentEvent<'_>>(alloc, &INCIDENT[..2])
+        && read_error::<IncidentEvent<'_>>(alloc, b"\x01\0\0!") == Some(EventError::RemainingBytes)
 }
 
 /// Whether the statement is read completely, whatever the byte before it is, and written after 0.
@@ -221,10 +196,18 @@ fn keeps_statement(alloc: Global) -> bool {
     }
 }
 
+fn rows_query_body(alloc: Global) -> bool {
+    is_statement(alloc) && keeps_statement(alloc) && is_short::<RowsQueryEvent<'_>>(alloc, b"")
+}
+
 #[test]
-fn rows_query_body(rt: HostRuntime) {
+fn bodies(rt: HostRuntime) {
     let alloc = rt.alloc();
-    assert!(rt;
-        is_statement(alloc) && keeps_statement(alloc) && is_short::<RowsQueryEvent<'_>>(alloc, b"")
-    );
+    assert!(rt; rotate_body(alloc));
+    assert!(rt; xid_body(alloc));
+    assert!(rt; rand_body(alloc));
+    assert!(rt; intvar_body(alloc));
+    assert!(rt; begin_load_query_body(alloc));
+    assert!(rt; incident_body(alloc));
+    assert!(rt; rows_query_body(alloc));
 }

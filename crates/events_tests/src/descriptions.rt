@@ -4,7 +4,7 @@ use crate::worked::{DESCRIPTION, changed};
 use crate::written::{is_text, is_written};
 use events_frames::{BinlogEventFooter, EventError, EventParts, FormatDescriptionEvent};
 use rows_consts::{BinlogChecksumAlg, BinlogVersion, EventType};
-use std::alloc::{AllocError, Global};
+use std::alloc::Global;
 use std::borrow::CowSlice;
 use wire_buf::MySerialize;
 
@@ -49,9 +49,8 @@ fn reads_worked(alloc: Global) -> bool {
     }
 }
 
-#[test]
-fn description_fields(rt: HostRuntime) {
-    assert!(rt; reads_worked(rt.alloc()));
+fn description_fields(alloc: Global) -> bool {
+    reads_worked(alloc)
 }
 
 /// Whether the algorithm of a format description, if it has one, and the checksum of these parts are appended.
@@ -95,22 +94,17 @@ fn is_written_back(alloc: Global, event: &[u8]) -> bool {
         && owned.len() == parts.body().len()
 }
 
-#[test]
-fn description_written_back(rt: HostRuntime) -> Result<(), AllocError> {
-    let alloc = rt.alloc();
-    let older = changed(alloc, DESCRIPTION, PATCH, b'0')?;
-    assert!(rt;
-        is_written_back(alloc, DESCRIPTION)
-            && is_written_back(alloc, older.as_slice())
-            && is_written(alloc, &created(b""), &DESCRIPTION[19..76])
-    );
-    Ok(())
+fn description_written_back(alloc: Global) -> bool {
+    let Ok(older) = changed(alloc, DESCRIPTION, PATCH, b'0') else {
+        return false;
+    };
+    is_written_back(alloc, DESCRIPTION)
+        && is_written_back(alloc, older.as_slice())
+        && is_written(alloc, &created(b""), &DESCRIPTION[19..76])
 }
 
 // A shorter version is padded with zeros, a longer one truncated to 50 bytes.
-#[test]
-fn versions_of_another_length(rt: HostRuntime) {
-    let alloc = rt.alloc();
+fn versions_of_another_length(alloc: Global) -> bool {
     let mut bytes = [b'9'; 57];
     bytes[0] = 3;
     bytes[1] = 0;
@@ -123,7 +117,7 @@ fn versions_of_another_length(rt: HostRuntime) {
         .with_binlog_version(BinlogVersion::Version3)
         .with_create_timestamp(1_253_783_037)
         .with_server_version(CowSlice::Borrowed(&[b'9'; 51]));
-    assert!(rt; is_written(alloc, &long, &bytes) && long.server_version_raw().len() == 51);
+    is_written(alloc, &long, &bytes) && long.server_version_raw().len() == 51
 }
 
 /// Whether the event is a format description without checksums, with these post-header lengths.
@@ -139,17 +133,16 @@ fn is_older(alloc: Global, event: &[u8], lengths: &[u8]) -> bool {
 }
 
 // The bytes that would be the algorithm and the checksum are post-header lengths.
-#[test]
-fn description_of_an_older_server(rt: HostRuntime) -> Result<(), AllocError> {
-    let alloc = rt.alloc();
-    let older = changed(alloc, DESCRIPTION, PATCH, b'0')?;
+fn description_of_an_older_server(alloc: Global) -> bool {
+    let Ok(older) = changed(alloc, DESCRIPTION, PATCH, b'0') else {
+        return false;
+    };
     let parts = EventParts::split(older.as_slice(), BinlogEventFooter::default());
     let whole = match parts {
         Ok(parts) => parts.checksum().is_none() && parts.body().len() == 62,
         Err(_) => false,
     };
-    assert!(rt; whole && is_older(alloc, older.as_slice(), b"\x01\0\0\0\0"));
-    Ok(())
+    whole && is_older(alloc, older.as_slice(), b"\x01\0\0\0\0")
 }
 
 /// Why the format description with another byte at this offset can't be read, or None if it can.
@@ -162,15 +155,11 @@ fn read_error(alloc: Global, offset: usize, byte: u8) -> Option<EventError> {
 
 // The format versions 3 and 260, and headers of 18 bytes. Reading the body alone keeps an unknown algorithm as its number;
 // `failed_descriptions_not_in_force` shows that a log with such a format description can't be read.
-#[test]
-fn description_refusals(rt: HostRuntime) {
-    let alloc = rt.alloc();
-    assert!(rt;
-        read_error(alloc, 19, 3) == Some(EventError::Invalid)
-            && read_error(alloc, 20, 1) == Some(EventError::Invalid)
-            && read_error(alloc, 75, 18) == Some(EventError::Invalid)
-            && read_error(alloc, 76, 2).is_none()
-    );
+fn description_refusals(alloc: Global) -> bool {
+    read_error(alloc, 19, 3) == Some(EventError::Invalid)
+        && read_error(alloc, 20, 1) == Some(EventError::Invalid)
+        && read_error(alloc, 75, 18) == Some(EventError::Invalid)
+        && read_error(alloc, 76, 2).is_none()
 }
 
 /// Whether the format description has these post-header lengths for START_EVENT_V3, QUERY_EVENT, TABLE_MAP_EVENT and
@@ -196,11 +185,19 @@ fn fill_lengths(alloc: Global) -> bool {
     }
 }
 
+fn post_header_lengths(alloc: Global) -> bool {
+    fill_lengths(alloc)
+        && length_of(&[56, 12], EventType::UNKNOWN_EVENT) == 0
+        && length_of(&[7; 19], EventType::TABLE_MAP_EVENT) == 7
+}
+
 #[test]
-fn post_header_lengths(rt: HostRuntime) {
-    assert!(rt;
-        fill_lengths(rt.alloc())
-            && length_of(&[56, 12], EventType::UNKNOWN_EVENT) == 0
-            && length_of(&[7; 19], EventType::TABLE_MAP_EVENT) == 7
-    );
+fn descriptions(rt: HostRuntime) {
+    let alloc = rt.alloc();
+    assert!(rt; description_fields(alloc));
+    assert!(rt; description_written_back(alloc));
+    assert!(rt; versions_of_another_length(alloc));
+    assert!(rt; description_of_an_older_server(alloc));
+    assert!(rt; description_refusals(alloc));
+    assert!(rt; post_header_lengths(alloc));
 }

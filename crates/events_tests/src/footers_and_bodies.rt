@@ -43,18 +43,15 @@ fn fails_algorithm(number: u8) -> bool {
     }
 }
 
-#[test]
-fn footers(rt: HostRuntime) {
+fn footers() -> bool {
     let crc = BinlogEventFooter::new(BinlogChecksumAlg::BINLOG_CHECKSUM_ALG_CRC32);
-    assert!(rt;
-        BinlogEventFooter::read(&DESCRIPTION[19..]) == Ok(crc)
-            && BinlogEventFooter::read(&DESCRIPTION[19..80]) == Err(EventError::Frame)
-            && BinlogEventFooter::read(&DESCRIPTION[19..75]) == Err(EventError::Frame)
-            && fails_algorithm(2)
-            && fails_algorithm(255)
-            && !fails_algorithm(1)
-            && are_made()
-    );
+    BinlogEventFooter::read(&DESCRIPTION[19..]) == Ok(crc)
+        && BinlogEventFooter::read(&DESCRIPTION[19..80]) == Err(EventError::Frame)
+        && BinlogEventFooter::read(&DESCRIPTION[19..75]) == Err(EventError::Frame)
+        && fails_algorithm(2)
+        && fails_algorithm(255)
+        && !fails_algorithm(1)
+        && are_made()
 }
 
 /// Whether the body, in the context of its event, is a table map with this table id.
@@ -75,34 +72,32 @@ fn is_description(alloc: Global, ctx: BinlogCtx<'_>, body: &[u8], len: usize) ->
     }
 }
 
-#[test]
-fn bodies_by_their_context(rt: HostRuntime) {
-    let alloc = rt.alloc();
+fn bodies_by_their_context(alloc: Global) -> bool {
     let in_force = FormatDescriptionEvent::new(BinlogVersion::Version4);
     let ctx = BinlogCtx::new(18, &in_force, 19);
-    assert!(rt;
-        ctx.event_size() == 18
-            && ctx.event_type_raw() == 19
-            && *ctx.fde() == in_force
-            && is_map(alloc, ctx, &TABLE_MAP[19..], 7)
-            && is_description(alloc, ctx, &DESCRIPTION[19..76], 57)
-            && <FormatDescriptionEvent<'_> as BinlogEvent<'_>>::EVENT_TYPE
-                == EventType::FORMAT_DESCRIPTION_EVENT
-    );
+    ctx.event_size() == 18
+        && ctx.event_type_raw() == 19
+        && *ctx.fde() == in_force
+        && is_map(alloc, ctx, &TABLE_MAP[19..], 7)
+        && is_description(alloc, ctx, &DESCRIPTION[19..76], 57)
+        && <FormatDescriptionEvent<'_> as BinlogEvent<'_>>::EVENT_TYPE
+            == EventType::FORMAT_DESCRIPTION_EVENT
+}
+
+fn bodies_failed(alloc: Global) -> bool {
+    read_error::<BinlogEventHeader>(alloc, &[0; 19]).is_none()
+        && read_error::<BinlogEventHeader>(alloc, &[0; 18]) == Some(EventError::EndOfBody)
+        && read_error::<BinlogEventHeader>(alloc, &[0; 20]) == Some(EventError::RemainingBytes)
+        && read_error::<FormatDescriptionEvent<'_>>(alloc, &[0; 56]) == Some(EventError::EndOfBody)
+        && read_error::<FormatDescriptionEvent<'_>>(alloc, &[0; 57]) == Some(EventError::Invalid)
+        && EventError::from(WireFault::Form) == EventError::Invalid
+        && EventError::from(AllocError) == EventError::Memory
 }
 
 #[test]
-fn bodies_failed(rt: HostRuntime) {
+fn footers_and_bodies(rt: HostRuntime) {
     let alloc = rt.alloc();
-    assert!(rt;
-        read_error::<BinlogEventHeader>(alloc, &[0; 19]).is_none()
-            && read_error::<BinlogEventHeader>(alloc, &[0; 18]) == Some(EventError::EndOfBody)
-            && read_error::<BinlogEventHeader>(alloc, &[0; 20]) == Some(EventError::RemainingBytes)
-            && read_error::<FormatDescriptionEvent<'_>>(alloc, &[0; 56])
-                == Some(EventError::EndOfBody)
-            && read_error::<FormatDescriptionEvent<'_>>(alloc, &[0; 57])
-                == Some(EventError::Invalid)
-            && EventError::from(WireFault::Form) == EventError::Invalid
-            && EventError::from(AllocError) == EventError::Memory
-    );
+    assert!(rt; footers());
+    assert!(rt; bodies_by_their_context(alloc));
+    assert!(rt; bodies_failed(alloc));
 }

@@ -22,20 +22,18 @@ fn log_of_four(alloc: Global) -> Result<Vec<u8>, AllocError> {
     Ok(log)
 }
 
-#[test]
-fn events_of_a_log(rt: HostRuntime) -> Result<(), AllocError> {
-    let bytes = log_of_four(rt.alloc())?;
+fn events_of_a_log(alloc: Global) -> bool {
+    let Ok(bytes) = log_of_four(alloc) else {
+        return false;
+    };
     let mut log = Watched::new(bytes.as_slice());
-    let mut event = Vec::new(rt.alloc());
-    assert!(rt;
-        returns_event(&mut log, &mut event, BEGIN)
-            && returns_event(&mut log, &mut event, TABLE_MAP)
-            && returns_event(&mut log, &mut event, INSERT)
-            && returns_event(&mut log, &mut event, COMMIT)
-            && next_frame(&mut log, &mut event) == Ok(NextFrame::Ended)
-            && event.is_empty()
-    );
-    Ok(())
+    let mut event = Vec::new(alloc);
+    returns_event(&mut log, &mut event, BEGIN)
+        && returns_event(&mut log, &mut event, TABLE_MAP)
+        && returns_event(&mut log, &mut event, INSERT)
+        && returns_event(&mut log, &mut event, COMMIT)
+        && next_frame(&mut log, &mut event) == Ok(NextFrame::Ended)
+        && event.is_empty()
 }
 
 /// Whether reading the log's first frame has this result and leaves these bytes.
@@ -49,18 +47,14 @@ fn comes_out(
     next_frame(&mut Watched::new(log), &mut event) == outcome && event.as_slice() == left
 }
 
-#[test]
-fn frame_ends(rt: HostRuntime) {
-    let alloc = rt.alloc();
+fn frame_ends(alloc: Global) -> bool {
     let zeros = [0; 20];
-    assert!(rt;
-        comes_out(alloc, &zeros[..18], Ok(NextFrame::Ended), &zeros[..18])
-            && comes_out(alloc, &zeros[..19], Err(EventError::Frame), &zeros[..19])
-            && comes_out(alloc, &zeros, Err(EventError::Frame), &zeros[..19])
-            && comes_out(alloc, b"", Ok(NextFrame::Ended), b"")
-            && comes_out(alloc, &COMMIT[..26], Ok(NextFrame::Ended), &COMMIT[..26])
-            && comes_out(alloc, COMMIT, Ok(NextFrame::Event), COMMIT)
-    );
+    comes_out(alloc, &zeros[..18], Ok(NextFrame::Ended), &zeros[..18])
+        && comes_out(alloc, &zeros[..19], Err(EventError::Frame), &zeros[..19])
+        && comes_out(alloc, &zeros, Err(EventError::Frame), &zeros[..19])
+        && comes_out(alloc, b"", Ok(NextFrame::Ended), b"")
+        && comes_out(alloc, &COMMIT[..26], Ok(NextFrame::Ended), &COMMIT[..26])
+        && comes_out(alloc, COMMIT, Ok(NextFrame::Event), COMMIT)
 }
 
 /// Whether gathering this many bytes of `cde` after `ab` has this result when the reader returns these errors.
@@ -87,19 +81,15 @@ fn keeps_what_came(alloc: Global) -> bool {
         && log.failed()
 }
 
-#[test]
-fn bytes_gathered(rt: HostRuntime) {
-    let alloc = rt.alloc();
+fn bytes_gathered(alloc: Global) -> bool {
     let interrupted = [None, Some(ErrorKind::Interrupted), None];
     let failing = [None, None, Some(ErrorKind::Other)];
-    assert!(rt;
-        gathers(alloc, &interrupted, 2, Ok(()), b"abcd")
-            && gathers(alloc, &interrupted, u64::MAX, Ok(()), b"abcde")
-            && gathers(alloc, &failing, 0, Ok(()), b"ab")
-            && gathers(alloc, &failing, 2, Ok(()), b"abcd")
-            && gathers(alloc, &failing, 3, Err(EventError::Read), b"abcd")
-            && keeps_what_came(alloc)
-    );
+    gathers(alloc, &interrupted, 2, Ok(()), b"abcd")
+        && gathers(alloc, &interrupted, u64::MAX, Ok(()), b"abcde")
+        && gathers(alloc, &failing, 0, Ok(()), b"ab")
+        && gathers(alloc, &failing, 2, Ok(()), b"abcd")
+        && gathers(alloc, &failing, 3, Err(EventError::Read), b"abcd")
+        && keeps_what_came(alloc)
 }
 
 /// Whether the log ends within its first event, whose bytes are then in a buffer of at most 8 KiB.
@@ -148,12 +138,17 @@ fn gathered_in(
 }
 
 // Memory runs out at the first 4 KiB, beyond 32 KiB, and not at all.
+fn bytes_gathered_without_memory(alloc: Global) -> bool {
+    gathered_in(alloc, 1_000) == Ok((Some(EventError::Memory), 2, 70_000))
+        && gathered_in(alloc, 100_000) == Ok((Some(EventError::Memory), 32_784, 37_218))
+        && gathered_in(alloc, 1_000_000) == Ok((None, 70_002, 0))
+}
+
 #[test]
-fn bytes_gathered_without_memory(rt: HostRuntime) {
+fn frames(rt: HostRuntime) {
     let alloc = rt.alloc();
-    assert!(rt;
-        gathered_in(alloc, 1_000) == Ok((Some(EventError::Memory), 2, 70_000))
-            && gathered_in(alloc, 100_000) == Ok((Some(EventError::Memory), 32_784, 37_218))
-            && gathered_in(alloc, 1_000_000) == Ok((None, 70_002, 0))
-    );
+    assert!(rt; events_of_a_log(alloc));
+    assert!(rt; frame_ends(alloc));
+    assert!(rt; bytes_gathered(alloc));
+    assert!(rt; bytes_gathered_without_memory(alloc));
 }

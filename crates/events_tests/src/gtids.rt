@@ -37,14 +37,10 @@ fn is_plain(event: &GtidEvent<'_>) -> bool {
     event.tx_length() == 0 && event.lc_typecode().is_none()
 }
 
-#[test]
-fn gtid_body(rt: HostRuntime) {
-    let alloc = rt.alloc();
-    assert!(rt;
-        is_plain(&GtidEvent::new(SID, 5))
-            && is_read(alloc, GtidEvent::new(SID, 5), PLAIN)
-            && is_short::<GtidEvent<'_>>(alloc, &PLAIN[..24])
-    );
+fn gtid_body(alloc: Global) -> bool {
+    is_plain(&GtidEvent::new(SID, 5))
+        && is_read(alloc, GtidEvent::new(SID, 5), PLAIN)
+        && is_short::<GtidEvent<'_>>(alloc, &PLAIN[..24])
 }
 
 /// Whether the full event is read, and written as it was read.
@@ -55,9 +51,8 @@ fn reads_full(alloc: Global) -> bool {
     }
 }
 
-#[test]
-fn gtid_body_with_all_fields(rt: HostRuntime) {
-    assert!(rt; reads_full(rt.alloc()));
+fn gtid_body_with_all_fields(alloc: Global) -> bool {
+    reads_full(alloc)
 }
 
 /// The full event, created by setters, without the two bytes after its fields.
@@ -81,12 +76,8 @@ fn fails_late_commit(alloc: Global) -> bool {
     late.serialize(&mut out) == Err(WireFault::Form) && out.is_empty()
 }
 
-#[test]
-fn gtid_made_by_setters(rt: HostRuntime) {
-    let alloc = rt.alloc();
-    assert!(rt;
-        is_full(&created()) && is_read(alloc, created(), &FULL[..75]) && fails_late_commit(alloc)
-    );
+fn gtid_made_by_setters(alloc: Global) -> bool {
+    is_full(&created()) && is_read(alloc, created(), &FULL[..75]) && fails_late_commit(alloc)
 }
 
 /// Whether the event has the commit time 3 after it is set.
@@ -109,9 +100,8 @@ fn keeps_truncated(alloc: Global, bytes: &[u8]) -> bool {
 }
 
 // The first commit time announces a second one, of which a byte is missing.
-#[test]
-fn gtid_field_cut_off(rt: HostRuntime) {
-    assert!(rt; keeps_truncated(rt.alloc(), &FULL[..55]));
+fn gtid_field_cut_off(alloc: Global) -> bool {
+    keeps_truncated(alloc, &FULL[..55])
 }
 
 /// Whether the event is written as the full one when it is owned.
@@ -130,7 +120,16 @@ fn reads_anonymous(alloc: Global) -> bool {
     }
 }
 
+fn anonymous_gtid(alloc: Global) -> bool {
+    reads_anonymous(alloc)
+}
+
 #[test]
-fn anonymous_gtid(rt: HostRuntime) {
-    assert!(rt; reads_anonymous(rt.alloc()));
+fn gtids(rt: HostRuntime) {
+    let alloc = rt.alloc();
+    assert!(rt; gtid_body(alloc));
+    assert!(rt; gtid_body_with_all_fields(alloc));
+    assert!(rt; gtid_made_by_setters(alloc));
+    assert!(rt; gtid_field_cut_off(alloc));
+    assert!(rt; anonymous_gtid(alloc));
 }

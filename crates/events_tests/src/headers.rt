@@ -38,22 +38,18 @@ fn are_made() -> bool {
         && unknown.event_type() == Err(UnknownEventType(200))
 }
 
-#[test]
-fn event_header(rt: HostRuntime) {
-    let alloc = rt.alloc();
+fn event_header(alloc: Global) -> bool {
     let header = BinlogEventHeader::new(1_253_783_037, 2, 1, 100, 198, 0);
-    assert!(rt;
-        is_header(alloc, HEADER, header, 0)
-            && is_written(alloc, &header, HEADER)
-            && is_header(
-                alloc,
-                b"\0\0\0\0\0\0\0\0\0\0\0\0\0\0\0\0\0\0\0\x07",
-                BinlogEventHeader::new(0, 0, 0, 0, 0, 0),
-                1
-            )
-            && ParseBuf(&HEADER[..18]).parse::<BinlogEventHeader>(alloc, ()) == Err(WireFault::Eof)
-            && are_made()
-    );
+    is_header(alloc, HEADER, header, 0)
+        && is_written(alloc, &header, HEADER)
+        && is_header(
+            alloc,
+            b"\0\0\0\0\0\0\0\0\0\0\0\0\0\0\0\0\0\0\0\x07",
+            BinlogEventHeader::new(0, 0, 0, 0, 0, 0),
+            1,
+        )
+        && ParseBuf(&HEADER[..18]).parse::<BinlogEventHeader>(alloc, ()) == Err(WireFault::Eof)
+        && are_made()
 }
 
 /// Why the bytes don't begin with the magic number of a file, or None if they do.
@@ -61,19 +57,22 @@ fn failed_magic(mut bytes: &[u8]) -> Option<EventError> {
     BinlogFileHeader::read(&mut bytes).err()
 }
 
-#[test]
-fn magic_number(rt: HostRuntime) {
-    let mut out = Vec::new(rt.alloc());
+fn magic_number(alloc: Global) -> bool {
+    let mut out = Vec::new(alloc);
     let steps = [None, Some(ErrorKind::Other)];
-    assert!(rt;
-        failed_magic(b"\xfebin").is_none()
-            && failed_magic(b"\xfebio") == Some(EventError::Invalid)
-            && failed_magic(b"\xfebi") == Some(EventError::Eof)
-            && BinlogFileHeader::read(&mut Trickle::new(b"\xfebin", &steps))
-                == Err(EventError::Read)
-            && BinlogFileHeader.write(&mut out) == Ok(())
-            && out.as_slice() == b"\xfebin".as_slice()
-            && BinlogFileHeader.write(&mut NarrowWriter { room: 3 }) == Err(EventError::Write)
-            && BinlogFileHeader.len() == 4
-    );
+    failed_magic(b"\xfebin").is_none()
+        && failed_magic(b"\xfebio") == Some(EventError::Invalid)
+        && failed_magic(b"\xfebi") == Some(EventError::Eof)
+        && BinlogFileHeader::read(&mut Trickle::new(b"\xfebin", &steps)) == Err(EventError::Read)
+        && BinlogFileHeader.write(&mut out) == Ok(())
+        && out.as_slice() == b"\xfebin".as_slice()
+        && BinlogFileHeader.write(&mut NarrowWriter { room: 3 }) == Err(EventError::Write)
+        && BinlogFileHeader.len() == 4
+}
+
+#[test]
+fn headers(rt: HostRuntime) {
+    let alloc = rt.alloc();
+    assert!(rt; event_header(alloc));
+    assert!(rt; magic_number(alloc));
 }

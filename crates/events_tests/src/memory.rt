@@ -80,72 +80,68 @@ fn fails<'a, T: BinlogStruct<'a, Fault = WireFault> + PartialEq + Drop>(
     }
 }
 
-#[test]
-fn serialize_with_refused_memory_rotate(rt: HostRuntime) {
+fn serialize_with_refused_memory_rotate(alloc: Global) -> bool {
     let name = [b'n'; 100];
     let event = RotateEvent::new(4, CowSlice::Borrowed(&name));
-    assert!(rt; is_all_or_nothing(rt.alloc(), &event, 108));
+    is_all_or_nothing(alloc, &event, 108)
 }
 
-#[test]
-fn serialize_with_refused_memory_description(rt: HostRuntime) {
-    assert!(rt; is_all_or_nothing(rt.alloc(), &created(&[56, 13]), 59));
+fn serialize_with_refused_memory_description(alloc: Global) -> bool {
+    is_all_or_nothing(alloc, &created(&[56, 13]), 59)
 }
 
-#[test]
-fn serialize_with_refused_memory_query(rt: HostRuntime) {
+fn serialize_with_refused_memory_query(alloc: Global) -> bool {
     let event = QueryEvent::new(
         CowSlice::Borrowed(b"\0\0\0\0\0"),
         CowSlice::Borrowed(b"test"),
         CowSlice::Borrowed(b"insert into t values (1), (2), (3), (4)"),
     );
-    assert!(rt; is_all_or_nothing(rt.alloc(), &event, 62));
+    is_all_or_nothing(alloc, &event, 62)
 }
 
-#[test]
-fn serialize_with_refused_memory_plain_bodies(rt: HostRuntime) {
-    let alloc = rt.alloc();
+fn serialize_with_refused_memory_plain_bodies(alloc: Global) -> bool {
     let fde = FormatDescriptionEvent::new(BinlogVersion::Version4);
-    assert!(rt;
-        fails::<RotateEvent<'_>>(alloc, &fde, ROTATE)
-            && fails::<XidEvent>(alloc, &fde, XID)
-            && fails::<RandEvent>(alloc, &fde, RAND)
-            && fails::<IntvarEvent>(alloc, &fde, INTVAR)
-            && fails::<BeginLoadQueryEvent<'_>>(alloc, &fde, BEGIN_LOAD)
-            && fails::<IncidentEvent<'_>>(alloc, &fde, INCIDENT)
-            && fails::<RowsQueryEvent<'_>>(alloc, &fde, b"\0select 1")
-            && fails::<UserVarEvent<'_>>(alloc, &fde, UNSIGNED)
-    );
+    fails::<RotateEvent<'_>>(alloc, &fde, ROTATE)
+        && fails::<XidEvent>(alloc, &fde, XID)
+        && fails::<RandEvent>(alloc, &fde, RAND)
+        && fails::<IntvarEvent>(alloc, &fde, INTVAR)
+        && fails::<BeginLoadQueryEvent<'_>>(alloc, &fde, BEGIN_LOAD)
+        && fails::<IncidentEvent<'_>>(alloc, &fde, INCIDENT)
+        && fails::<RowsQueryEvent<'_>>(alloc, &fde, b"\0select 1")
+        && fails::<UserVarEvent<'_>>(alloc, &fde, UNSIGNED)
 }
 
-#[test]
-fn serialize_with_refused_memory_other_bodies(rt: HostRuntime) {
-    let alloc = rt.alloc();
+fn serialize_with_refused_memory_other_bodies(alloc: Global) -> bool {
     let fde = FormatDescriptionEvent::new(BinlogVersion::Version4);
-    assert!(rt;
-        fails::<FormatDescriptionEvent<'_>>(alloc, &fde, &DESCRIPTION[19..76])
-            && fails::<QueryEvent<'_>>(alloc, &fde, QUERY)
-            && fails::<ExecuteLoadQueryEvent<'_>>(alloc, &fde, LOAD)
-            && fails::<GtidEvent<'_>>(alloc, &fde, FULL)
-            && fails::<AnonymousGtidEvent<'_>>(alloc, &fde, FULL)
-            && fails::<TableMapEvent<'_>>(alloc, &fde, &TABLE_MAP[19..])
-    );
+    fails::<FormatDescriptionEvent<'_>>(alloc, &fde, &DESCRIPTION[19..76])
+        && fails::<QueryEvent<'_>>(alloc, &fde, QUERY)
+        && fails::<ExecuteLoadQueryEvent<'_>>(alloc, &fde, LOAD)
+        && fails::<GtidEvent<'_>>(alloc, &fde, FULL)
+        && fails::<AnonymousGtidEvent<'_>>(alloc, &fde, FULL)
+        && fails::<TableMapEvent<'_>>(alloc, &fde, &TABLE_MAP[19..])
 }
 
 // An event of version 1 has no extra data.
-#[test]
-fn serialize_with_refused_memory_rows_events(rt: HostRuntime) {
-    let alloc = rt.alloc();
+fn serialize_with_refused_memory_rows_events(alloc: Global) -> bool {
     let fde = FormatDescriptionEvent::new(BinlogVersion::Version4);
     let one = b"\x07\0\0\0\0\0\x01\0\x01\x01row";
     let two = b"\x07\0\0\0\0\0\x01\0\x01\x01\x01rows";
-    assert!(rt;
-        fails::<WriteRowsEvent<'_>>(alloc, &fde, &INSERT[19..])
-            && fails::<UpdateRowsEvent<'_>>(alloc, &fde, UPDATE)
-            && fails::<DeleteRowsEvent<'_>>(alloc, &fde, &INSERT[19..])
-            && fails::<PartialUpdateRowsEvent<'_>>(alloc, &fde, UPDATE)
-            && fails::<WriteRowsEventV1<'_>>(alloc, &fde, one)
-            && fails::<UpdateRowsEventV1<'_>>(alloc, &fde, two)
-            && fails::<DeleteRowsEventV1<'_>>(alloc, &fde, one)
-    );
+    fails::<WriteRowsEvent<'_>>(alloc, &fde, &INSERT[19..])
+        && fails::<UpdateRowsEvent<'_>>(alloc, &fde, UPDATE)
+        && fails::<DeleteRowsEvent<'_>>(alloc, &fde, &INSERT[19..])
+        && fails::<PartialUpdateRowsEvent<'_>>(alloc, &fde, UPDATE)
+        && fails::<WriteRowsEventV1<'_>>(alloc, &fde, one)
+        && fails::<UpdateRowsEventV1<'_>>(alloc, &fde, two)
+        && fails::<DeleteRowsEventV1<'_>>(alloc, &fde, one)
+}
+
+#[test]
+fn memory(rt: HostRuntime) {
+    let alloc = rt.alloc();
+    assert!(rt; serialize_with_refused_memory_rotate(alloc));
+    assert!(rt; serialize_with_refused_memory_description(alloc));
+    assert!(rt; serialize_with_refused_memory_query(alloc));
+    assert!(rt; serialize_with_refused_memory_plain_bodies(alloc));
+    assert!(rt; serialize_with_refused_memory_other_bodies(alloc));
+    assert!(rt; serialize_with_refused_memory_rows_events(alloc));
 }

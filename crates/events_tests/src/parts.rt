@@ -25,33 +25,30 @@ fn is_split(
         && parts.checksum() == checksum
 }
 
-#[test]
-fn parts_of_events(rt: HostRuntime) {
+fn parts_of_events() -> bool {
     let none = BinlogEventFooter::default();
-    assert!(rt;
-        is_split(
-            BEGIN,
-            none,
-            2,
-            42,
-            b"\x01\0\0\0\0\0\0\0\0\0\0\0\0\0BEGIN",
-            None
-        ) && is_split(
-            TABLE_MAP,
-            none,
-            19,
-            79,
-            b"\x07\0\0\0\0\0\x01\0\x01d\0\x01t\0\x01\x03\0\x01",
-            None
-        ) && is_split(
-            INSERT,
-            none,
-            30,
-            115,
-            b"\x07\0\0\0\0\0\x01\0\x02\0\x01\x01\0\x05\0\0\0",
-            None
-        ) && is_split(COMMIT, none, 16, 142, b"\x0b\0\0\0\0\0\0\0", None)
-    );
+    is_split(
+        BEGIN,
+        none,
+        2,
+        42,
+        b"\x01\0\0\0\0\0\0\0\0\0\0\0\0\0BEGIN",
+        None,
+    ) && is_split(
+        TABLE_MAP,
+        none,
+        19,
+        79,
+        b"\x07\0\0\0\0\0\x01\0\x01d\0\x01t\0\x01\x03\0\x01",
+        None,
+    ) && is_split(
+        INSERT,
+        none,
+        30,
+        115,
+        b"\x07\0\0\0\0\0\x01\0\x02\0\x01\x01\0\x05\0\0\0",
+        None,
+    ) && is_split(COMMIT, none, 16, 142, b"\x0b\0\0\0\0\0\0\0", None)
 }
 
 /// Whether the parts of the event have this footer.
@@ -63,28 +60,25 @@ fn has_footer(event: &[u8], in_force: BinlogEventFooter, footer: BinlogEventFoot
 }
 
 // A format description is split by its own bytes, other events by the footer in force.
-#[test]
-fn parts_with_checksums(rt: HostRuntime) {
+fn parts_with_checksums() -> bool {
     let none = BinlogEventFooter::default();
     let off = BinlogEventFooter::new(BinlogChecksumAlg::BINLOG_CHECKSUM_ALG_OFF);
     let crc = BinlogEventFooter::new(BinlogChecksumAlg::BINLOG_CHECKSUM_ALG_CRC32);
-    assert!(rt;
-        is_split(COMMIT, crc, 16, 142, b"\x0b\0\0\0", Some(0))
-            && is_split(
-                INSERT,
-                crc,
-                30,
-                115,
-                b"\x07\0\0\0\0\0\x01\0\x02\0\x01\x01\0",
-                Some(5)
-            )
-            && is_split(INSERT, off, 30, 115, &INSERT[19..], None)
-            && is_split(DESCRIPTION, none, 15, 85, &DESCRIPTION[19..76], Some(0))
-            && is_split(DESCRIPTION, crc, 15, 85, &DESCRIPTION[19..76], Some(0))
-            && has_footer(DESCRIPTION, none, crc)
-            && has_footer(INSERT, crc, crc)
-            && has_footer(INSERT, none, none)
-    );
+    is_split(COMMIT, crc, 16, 142, b"\x0b\0\0\0", Some(0))
+        && is_split(
+            INSERT,
+            crc,
+            30,
+            115,
+            b"\x07\0\0\0\0\0\x01\0\x02\0\x01\x01\0",
+            Some(5),
+        )
+        && is_split(INSERT, off, 30, 115, &INSERT[19..], None)
+        && is_split(DESCRIPTION, none, 15, 85, &DESCRIPTION[19..76], Some(0))
+        && is_split(DESCRIPTION, crc, 15, 85, &DESCRIPTION[19..76], Some(0))
+        && has_footer(DESCRIPTION, none, crc)
+        && has_footer(INSERT, crc, crc)
+        && has_footer(INSERT, none, none)
 }
 
 /// Why the bytes can't be split with these checksum settings, or None if they can.
@@ -109,19 +103,23 @@ fn resized_error(alloc: Global, event: &[u8], size: u8) -> Option<EventError> {
     read_error(resized.as_slice(), BinlogEventFooter::default())
 }
 
-#[test]
-fn events_that_are_not_cut(rt: HostRuntime) {
-    let alloc = rt.alloc();
+fn events_that_are_not_cut(alloc: Global) -> bool {
     let none = BinlogEventFooter::default();
-    assert!(rt;
-        read_error(&COMMIT[..18], none) == Some(EventError::Eof)
-            && read_error(&COMMIT[..26], none) == Some(EventError::Eof)
-            && resized_error(alloc, COMMIT, 18) == Some(EventError::Frame)
-            && resized_error(alloc, COMMIT, 26) == Some(EventError::RemainingBytes)
-            && resized_error(alloc, COMMIT, 28) == Some(EventError::Eof)
-            && shortened_error(alloc, COMMIT, 22) == Some(EventError::Frame)
-            && shortened_error(alloc, COMMIT, 23).is_none()
-            && shortened_error(alloc, DESCRIPTION, 75) == Some(EventError::Frame)
-            && shortened_error(alloc, DESCRIPTION, 80) == Some(EventError::Frame)
-    );
+    read_error(&COMMIT[..18], none) == Some(EventError::Eof)
+        && read_error(&COMMIT[..26], none) == Some(EventError::Eof)
+        && resized_error(alloc, COMMIT, 18) == Some(EventError::Frame)
+        && resized_error(alloc, COMMIT, 26) == Some(EventError::RemainingBytes)
+        && resized_error(alloc, COMMIT, 28) == Some(EventError::Eof)
+        && shortened_error(alloc, COMMIT, 22) == Some(EventError::Frame)
+        && shortened_error(alloc, COMMIT, 23).is_none()
+        && shortened_error(alloc, DESCRIPTION, 75) == Some(EventError::Frame)
+        && shortened_error(alloc, DESCRIPTION, 80) == Some(EventError::Frame)
+}
+
+#[test]
+fn parts(rt: HostRuntime) {
+    let alloc = rt.alloc();
+    assert!(rt; parts_of_events());
+    assert!(rt; parts_with_checksums());
+    assert!(rt; events_that_are_not_cut(alloc));
 }

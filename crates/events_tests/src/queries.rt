@@ -73,18 +73,14 @@ fn is_lossy(alloc: Global) -> bool {
     is_text(event.schema(alloc), "d\u{fffd}") && is_text(event.query(alloc), "use `d\u{fffd}`")
 }
 
-#[test]
-fn query_body(rt: HostRuntime) {
-    let alloc = rt.alloc();
-    assert!(rt;
-        makes_query(alloc)
-            && skips_a_byte(alloc)
-            && is_lossy(alloc)
-            && is_short::<QueryEvent<'_>>(alloc, &QUERY[..12])
-            && is_short::<QueryEvent<'_>>(alloc, &QUERY[..24])
-            && is_short::<QueryEvent<'_>>(alloc, &QUERY[..29])
-            && !is_short::<QueryEvent<'_>>(alloc, &QUERY[..30])
-    );
+fn query_body(alloc: Global) -> bool {
+    makes_query(alloc)
+        && skips_a_byte(alloc)
+        && is_lossy(alloc)
+        && is_short::<QueryEvent<'_>>(alloc, &QUERY[..12])
+        && is_short::<QueryEvent<'_>>(alloc, &QUERY[..24])
+        && is_short::<QueryEvent<'_>>(alloc, &QUERY[..29])
+        && !is_short::<QueryEvent<'_>>(alloc, &QUERY[..30])
 }
 
 /// Whether a schema of 300 bytes is written as its first 255.
@@ -107,9 +103,8 @@ fn cuts_schema(alloc: Global) -> bool {
         && read_body(alloc, (), out.as_slice()) == Ok(cut)
 }
 
-#[test]
-fn query_with_a_long_schema(rt: HostRuntime) {
-    assert!(rt; cuts_schema(rt.alloc()));
+fn query_with_a_long_schema(alloc: Global) -> bool {
+    cuts_schema(alloc)
 }
 
 /// Whether the event has the numbers of `LOAD`.
@@ -187,14 +182,18 @@ fn keeps_handling(alloc: Global) -> bool {
     }
 }
 
+fn execute_load_query_body(alloc: Global) -> bool {
+    makes_load(alloc)
+        && keeps_handling(alloc)
+        && is_short::<ExecuteLoadQueryEvent<'_>>(alloc, &LOAD[..25])
+        && is_short::<ExecuteLoadQueryEvent<'_>>(alloc, &LOAD[..42])
+        && !is_short::<ExecuteLoadQueryEvent<'_>>(alloc, &LOAD[..43])
+}
+
 #[test]
-fn execute_load_query_body(rt: HostRuntime) {
+fn queries(rt: HostRuntime) {
     let alloc = rt.alloc();
-    assert!(rt;
-        makes_load(alloc)
-            && keeps_handling(alloc)
-            && is_short::<ExecuteLoadQueryEvent<'_>>(alloc, &LOAD[..25])
-            && is_short::<ExecuteLoadQueryEvent<'_>>(alloc, &LOAD[..42])
-            && !is_short::<ExecuteLoadQueryEvent<'_>>(alloc, &LOAD[..43])
-    );
+    assert!(rt; query_body(alloc));
+    assert!(rt; query_with_a_long_schema(alloc));
+    assert!(rt; execute_load_query_body(alloc));
 }

@@ -77,10 +77,9 @@ fn reads_both(alloc: Global, in_force: &FormatDescriptionEvent<'_>) -> bool {
     }
 }
 
-#[test]
-fn a_write_event(rt: HostRuntime) {
+fn a_write_event(alloc: Global) -> bool {
     let in_force = FormatDescriptionEvent::new(BinlogVersion::Version4);
-    assert!(rt; reads_both(rt.alloc(), &in_force));
+    reads_both(alloc, &in_force)
 }
 
 /// Whether the before images have the first column, and the after images both.
@@ -135,20 +134,16 @@ fn keeps_update(alloc: Global, event_type: RowsEventType, named: EventType) -> b
     }
 }
 
-#[test]
-fn updates_and_partial_updates(rt: HostRuntime) {
-    let alloc = rt.alloc();
-    assert!(rt;
-        keeps_update(
-            alloc,
-            RowsEventType::UpdateRows,
-            EventType::UPDATE_ROWS_EVENT
-        ) && keeps_update(
-            alloc,
-            RowsEventType::PartialUpdateRows,
-            EventType::PARTIAL_UPDATE_ROWS_EVENT
-        )
-    );
+fn updates_and_partial_updates(alloc: Global) -> bool {
+    keeps_update(
+        alloc,
+        RowsEventType::UpdateRows,
+        EventType::UPDATE_ROWS_EVENT,
+    ) && keeps_update(
+        alloc,
+        RowsEventType::PartialUpdateRows,
+        EventType::PARTIAL_UPDATE_ROWS_EVENT,
+    )
 }
 
 /// The type and the number of columns of an event.
@@ -172,27 +167,21 @@ fn columns(
 }
 
 // Events of version 1 have no extra data, so its size of 2 is read as the column count.
-#[test]
-fn types_and_errors(rt: HostRuntime) {
-    let alloc = rt.alloc();
+fn types_and_errors(alloc: Global) -> bool {
     let Ok(uncounted) = changed(alloc, UPDATE, 10, 251) else {
-        return;
+        return false;
     };
-    assert!(rt;
-        columns(alloc, RowsEventType::WriteRows, UPDATE) == Ok((EventType::WRITE_ROWS_EVENT, 2))
-            && columns(alloc, RowsEventType::DeleteRows, UPDATE)
-                == Ok((EventType::DELETE_ROWS_EVENT, 2))
-            && columns(alloc, RowsEventType::UpdateRowsV1, UPDATE)
-                == Ok((EventType::UPDATE_ROWS_EVENT_V1, 2))
-            && columns(alloc, RowsEventType::WriteRowsV1, &INSERT[19..])
-                == Ok((EventType::WRITE_ROWS_EVENT_V1, 2))
-            && columns(alloc, RowsEventType::DeleteRowsV1, UPDATE)
-                == Ok((EventType::DELETE_ROWS_EVENT_V1, 2))
-    );
-    assert!(rt;
-        columns(alloc, RowsEventType::UpdateRows, &UPDATE[..12]) == Err(EventError::EndOfBody)
-            && columns(alloc, RowsEventType::UpdateRows, &uncounted) == Err(EventError::Invalid)
-    );
+    columns(alloc, RowsEventType::WriteRows, UPDATE) == Ok((EventType::WRITE_ROWS_EVENT, 2))
+        && columns(alloc, RowsEventType::DeleteRows, UPDATE)
+            == Ok((EventType::DELETE_ROWS_EVENT, 2))
+        && columns(alloc, RowsEventType::UpdateRowsV1, UPDATE)
+            == Ok((EventType::UPDATE_ROWS_EVENT_V1, 2))
+        && columns(alloc, RowsEventType::WriteRowsV1, &INSERT[19..])
+            == Ok((EventType::WRITE_ROWS_EVENT_V1, 2))
+        && columns(alloc, RowsEventType::DeleteRowsV1, UPDATE)
+            == Ok((EventType::DELETE_ROWS_EVENT_V1, 2))
+        && columns(alloc, RowsEventType::UpdateRows, &UPDATE[..12]) == Err(EventError::EndOfBody)
+        && columns(alloc, RowsEventType::UpdateRows, &uncounted) == Err(EventError::Invalid)
 }
 
 /// Whether the row was inserted and has one column.
@@ -239,8 +228,16 @@ fn reads_mapped_row(alloc: Global, in_force: &FormatDescriptionEvent<'_>) -> boo
     }
 }
 
-#[test]
-fn the_inserted_row(rt: HostRuntime) {
+fn the_inserted_row(alloc: Global) -> bool {
     let in_force = FormatDescriptionEvent::new(BinlogVersion::Version4);
-    assert!(rt; reads_mapped_row(rt.alloc(), &in_force));
+    reads_mapped_row(alloc, &in_force)
+}
+
+#[test]
+fn rows_by_type(rt: HostRuntime) {
+    let alloc = rt.alloc();
+    assert!(rt; a_write_event(alloc));
+    assert!(rt; updates_and_partial_updates(alloc));
+    assert!(rt; types_and_errors(alloc));
+    assert!(rt; the_inserted_row(alloc));
 }

@@ -41,12 +41,11 @@ fn joined(alloc: Global, first: &[u8], second: &[u8]) -> Result<Vec<u8>, AllocEr
     Ok(both)
 }
 
-#[test]
-fn events_at_once(rt: HostRuntime) -> Result<(), AllocError> {
-    let alloc = rt.alloc();
-    let log = joined(alloc, BEGIN, TABLE_MAP)?;
-    assert!(rt; has_two(alloc, &log, BEGIN, TABLE_MAP));
-    Ok(())
+fn events_at_once(alloc: Global) -> bool {
+    let Ok(log) = joined(alloc, BEGIN, TABLE_MAP) else {
+        return false;
+    };
+    has_two(alloc, &log, BEGIN, TABLE_MAP)
 }
 
 /// Whether the log's bytes, which arrive one by one, are these two events.
@@ -59,12 +58,11 @@ fn has_two_in_bytes(alloc: Global, log: &[u8], first: &[u8], second: &[u8]) -> b
         && returns_none(&mut source, &mut log, Ok(NextFrame::Ended))
 }
 
-#[test]
-fn events_byte_by_byte(rt: HostRuntime) -> Result<(), AllocError> {
-    let alloc = rt.alloc();
-    let log = joined(alloc, INSERT, COMMIT)?;
-    assert!(rt; has_two_in_bytes(alloc, &log, INSERT, COMMIT));
-    Ok(())
+fn events_byte_by_byte(alloc: Global) -> bool {
+    let Ok(log) = joined(alloc, INSERT, COMMIT) else {
+        return false;
+    };
+    has_two_in_bytes(alloc, &log, INSERT, COMMIT)
 }
 
 /// Whether the log has this outcome and no event.
@@ -77,18 +75,14 @@ fn ends_with(alloc: Global, log: &[u8], outcome: Result<NextFrame, EventError>) 
 }
 
 // Too few bytes for a header, and for an event; sizes below 19; a size of 4,294,967,295.
-#[test]
-fn logs_without_an_event(rt: HostRuntime) {
-    let alloc = rt.alloc();
+fn logs_without_an_event(alloc: Global) -> bool {
     let huge = b"\0\0\0\0\x02\x01\0\0\0\xff\xff\xff\xff\0\0\0\0\0\0ab".as_slice();
-    assert!(rt;
-        ends_with(alloc, b"", Ok(NextFrame::Ended))
-            && ends_with(alloc, &[0; 18], Ok(NextFrame::Ended))
-            && ends_with(alloc, &COMMIT[..26], Ok(NextFrame::Ended))
-            && ends_with(alloc, huge, Ok(NextFrame::Ended))
-            && ends_with(alloc, &[0; 19], Err(EventError::Frame))
-            && ends_with(alloc, &[0; 20], Err(EventError::Frame))
-    );
+    ends_with(alloc, b"", Ok(NextFrame::Ended))
+        && ends_with(alloc, &[0; 18], Ok(NextFrame::Ended))
+        && ends_with(alloc, &COMMIT[..26], Ok(NextFrame::Ended))
+        && ends_with(alloc, huge, Ok(NextFrame::Ended))
+        && ends_with(alloc, &[0; 19], Err(EventError::Frame))
+        && ends_with(alloc, &[0; 20], Err(EventError::Frame))
 }
 
 /// Whether a source keeps the bytes that came before its reader failed: reading goes on with the next call.
@@ -101,9 +95,8 @@ fn goes_on(alloc: Global) -> bool {
         && returns_event(&mut source, &mut log, COMMIT)
 }
 
-#[test]
-fn reading_that_fails(rt: HostRuntime) {
-    assert!(rt; goes_on(rt.alloc()));
+fn reading_that_fails(alloc: Global) -> bool {
+    goes_on(alloc)
 }
 
 /// An event with this many bytes.
@@ -128,12 +121,25 @@ fn has_two_of(alloc: Global, size: u32) -> Result<bool, AllocError> {
 }
 
 // The first buffer has 262,144 bytes: both events fit; the second is moved to its start; the first doubles it.
+fn events_longer_than_the_buffer(alloc: Global) -> bool {
+    let Ok(fit) = has_two_of(alloc, 131_072) else {
+        return false;
+    };
+    let Ok(moved) = has_two_of(alloc, 200_000) else {
+        return false;
+    };
+    let Ok(longer) = has_two_of(alloc, 300_000) else {
+        return false;
+    };
+    fit && moved && longer
+}
+
 #[test]
-fn events_longer_than_the_buffer(rt: HostRuntime) -> Result<(), AllocError> {
+fn sources(rt: HostRuntime) {
     let alloc = rt.alloc();
-    let fit = has_two_of(alloc, 131_072)?;
-    let moved = has_two_of(alloc, 200_000)?;
-    let longer = has_two_of(alloc, 300_000)?;
-    assert!(rt; fit && moved && longer);
-    Ok(())
+    assert!(rt; events_at_once(alloc));
+    assert!(rt; events_byte_by_byte(alloc));
+    assert!(rt; logs_without_an_event(alloc));
+    assert!(rt; reading_that_fails(alloc));
+    assert!(rt; events_longer_than_the_buffer(alloc));
 }

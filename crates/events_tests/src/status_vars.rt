@@ -46,17 +46,14 @@ fn returns_event(vars: &mut StatusVarsIterator<'_>, key: Key, bytes: &[u8]) -> b
     }
 }
 
-#[test]
-fn status_variables(rt: HostRuntime) {
+fn status_variables() -> bool {
     let vars = StatusVars::new(CowSlice::Borrowed(BLOCK));
     let mut iter = vars.iter();
-    assert!(rt;
-        vars.as_bytes() == BLOCK
-            && returns_event(&mut iter, Key::Flags2, b"\0\0\0\0")
-            && returns_event(&mut iter, Key::Charset, b"\x21\0\x21\0\x08\0")
-            && iter.next().is_none()
-            && iter.next().is_none()
-    );
+    vars.as_bytes() == BLOCK
+        && returns_event(&mut iter, Key::Flags2, b"\0\0\0\0")
+        && returns_event(&mut iter, Key::Charset, b"\x21\0\x21\0\x08\0")
+        && iter.next().is_none()
+        && iter.next().is_none()
 }
 
 /// The bytes of the first variable with the key, or None if the block has none.
@@ -67,148 +64,129 @@ fn found<'a>(vars: &'a StatusVars<'_>, key: Key) -> Option<&'a [u8]> {
     }
 }
 
-#[test]
-fn variables_found_by_key(rt: HostRuntime) {
+fn variables_found_by_key() -> bool {
     let vars = StatusVars::new(CowSlice::Borrowed(BLOCK));
     let twice = StatusVars::new(CowSlice::Borrowed(b"\x10\x01\x13\0\x10\0"));
-    assert!(rt;
-        found(&vars, Key::Flags2) == Some(b"\0\0\0\0".as_slice())
-            && found(&vars, Key::Charset) == Some(b"\x21\0\x21\0\x08\0".as_slice())
-            && found(&vars, Key::CommitTs).is_none()
-            && found(&vars, Key::SqlMode).is_none()
-            && found(&twice, Key::ExplicitDefaultsForTimestamp) == Some(b"\x01".as_slice())
-            && found(&twice, Key::SqlRequirePrimaryKey) == Some(b"\0".as_slice())
-    );
+    found(&vars, Key::Flags2) == Some(b"\0\0\0\0".as_slice())
+        && found(&vars, Key::Charset) == Some(b"\x21\0\x21\0\x08\0".as_slice())
+        && found(&vars, Key::CommitTs).is_none()
+        && found(&vars, Key::SqlMode).is_none()
+        && found(&twice, Key::ExplicitDefaultsForTimestamp) == Some(b"\x01".as_slice())
+        && found(&twice, Key::SqlRequirePrimaryKey) == Some(b"\0".as_slice())
 }
 
-#[test]
-fn options_and_settings(rt: HostRuntime) {
-    let alloc = rt.alloc();
-    assert!(rt;
-        has_value(
+fn options_and_settings(alloc: Global) -> bool {
+    has_value(
+        alloc,
+        b"\0\0\x40\0\x08",
+        Key::Flags2,
+        "Flags2(RawFlags(134234112, PhantomData<_>))",
+    ) && has_value(
+        alloc,
+        b"\x01\0\0\x20\x54\x01\0\0\0",
+        Key::SqlMode,
+        "SqlMode(RawFlags(5706350592, PhantomData<_>))",
+    ) && has_value(
+        alloc,
+        b"\x10\x01",
+        Key::ExplicitDefaultsForTimestamp,
+        "ExplicitDefaultsForTimestamp(1)",
+    ) && has_value(
+        alloc,
+        b"\x13\x02",
+        Key::SqlRequirePrimaryKey,
+        "SqlRequirePrimaryKey(2)",
+    ) && has_value(
+        alloc,
+        b"\x14\x03",
+        Key::DefaultTableEncryption,
+        "DefaultTableEncryption(3)",
+    )
+}
+
+fn texts(alloc: Global) -> bool {
+    has_value(
+        alloc,
+        b"\x02\x03std\0",
+        Key::Catalog,
+        "Catalog([115, 116, 100])",
+    ) && has_value(
+        alloc,
+        b"\x05\x06SYSTEM",
+        Key::TimeZone,
+        "TimeZone([83, 89, 83, 84, 69, 77])",
+    ) && has_value(
+        alloc,
+        b"\x06\x03std",
+        Key::CatalogNz,
+        "CatalogNz([115, 116, 100])",
+    ) && has_value(
+        alloc,
+        b"\x0b\x04root\x09localhost",
+        Key::Invoker,
+        "Invoker { username: [114, 111, 111, 116], hostname: [108, 111, 99, 97, 108, 104, 111, 115, 116] }",
+    ) && has_value(
+        alloc,
+        b"\x0c\x02test\0db\0",
+        Key::UpdatedDbNames,
+        "UpdatedDbNames(Some(Seq([RawBytes([116, 101, 115, 116], PhantomData<_>), \
+RawBytes([100, 98], PhantomData<_>)], PhantomData<_>)))",
+    ) && has_value(
+        alloc,
+        b"\x0c\xfe",
+        Key::UpdatedDbNames,
+        "UpdatedDbNames(None)",
+    )
+}
+
+fn counters_and_character_sets(alloc: Global) -> bool {
+    has_value(
+        alloc,
+        b"\x03\x0a\0\x02\x01",
+        Key::AutoIncrement,
+        "AutoIncrement { increment: 10, offset: 258 }",
+    ) && has_value(
+        alloc,
+        b"\x04\x21\0\xff\0\x08\0",
+        Key::Charset,
+        "Charset { charset_client: 33, collation_connection: 255, collation_server: 8 }",
+    ) && has_value(alloc, b"\x07\x05\x01", Key::LcTimeNames, "LcTimeNames(261)")
+        && has_value(
             alloc,
-            b"\0\0\x40\0\x08",
-            Key::Flags2,
-            "Flags2(RawFlags(134234112, PhantomData<_>))"
-        ) && has_value(
-            alloc,
-            b"\x01\0\0\x20\x54\x01\0\0\0",
-            Key::SqlMode,
-            "SqlMode(RawFlags(5706350592, PhantomData<_>))"
-        ) && has_value(
-            alloc,
-            b"\x10\x01",
-            Key::ExplicitDefaultsForTimestamp,
-            "ExplicitDefaultsForTimestamp(1)"
-        ) && has_value(
-            alloc,
-            b"\x13\x02",
-            Key::SqlRequirePrimaryKey,
-            "SqlRequirePrimaryKey(2)"
-        ) && has_value(
-            alloc,
-            b"\x14\x03",
-            Key::DefaultTableEncryption,
-            "DefaultTableEncryption(3)"
+            b"\x08\xff\x01",
+            Key::CharsetDatabase,
+            "CharsetDatabase(511)",
         )
-    );
-}
-
-#[test]
-fn texts(rt: HostRuntime) {
-    let alloc = rt.alloc();
-    assert!(rt;
-        has_value(
+        && has_value(
             alloc,
-            b"\x02\x03std\0",
-            Key::Catalog,
-            "Catalog([115, 116, 100])"
-        ) && has_value(
-            alloc,
-            b"\x05\x06SYSTEM",
-            Key::TimeZone,
-            "TimeZone([83, 89, 83, 84, 69, 77])"
-        ) && has_value(
-            alloc,
-            b"\x06\x03std",
-            Key::CatalogNz,
-            "CatalogNz([115, 116, 100])"
-        ) && has_value(
-            alloc,
-            b"\x0b\x04root\x09localhost",
-            Key::Invoker,
-            "Invoker { username: [114, 111, 111, 116], hostname: [108, 111, 99, 97, 108, 104, 111, 115, 116] }"
-        ) && has_value(
-            alloc,
-            b"\x0c\x02test\0db\0",
-            Key::UpdatedDbNames,
-            "UpdatedDbNames(Some(Seq([RawBytes([116, 101, 115, 116], PhantomData<_>), \
-RawBytes([100, 98], PhantomData<_>)], PhantomData<_>)))"
-        ) && has_value(
-            alloc,
-            b"\x0c\xfe",
-            Key::UpdatedDbNames,
-            "UpdatedDbNames(None)"
+            b"\x12\xff\x02",
+            Key::DefaultCollationForUtf8mb4,
+            "DefaultCollationForUtf8mb4(767)",
         )
-    );
 }
 
-#[test]
-fn counters_and_character_sets(rt: HostRuntime) {
-    let alloc = rt.alloc();
-    assert!(rt;
-        has_value(
-            alloc,
-            b"\x03\x0a\0\x02\x01",
-            Key::AutoIncrement,
-            "AutoIncrement { increment: 10, offset: 258 }"
-        ) && has_value(
-            alloc,
-            b"\x04\x21\0\xff\0\x08\0",
-            Key::Charset,
-            "Charset { charset_client: 33, collation_connection: 255, collation_server: 8 }"
-        ) && has_value(alloc, b"\x07\x05\x01", Key::LcTimeNames, "LcTimeNames(261)")
-            && has_value(
-                alloc,
-                b"\x08\xff\x01",
-                Key::CharsetDatabase,
-                "CharsetDatabase(511)"
-            )
-            && has_value(
-                alloc,
-                b"\x12\xff\x02",
-                Key::DefaultCollationForUtf8mb4,
-                "DefaultCollationForUtf8mb4(767)"
-            )
-    );
-}
-
-#[test]
-fn longer_numbers(rt: HostRuntime) {
-    let alloc = rt.alloc();
-    assert!(rt;
-        has_value(
-            alloc,
-            b"\x09\x03\0\0\0\0\0\0\x80",
-            Key::TableMapForUpdate,
-            "TableMapForUpdate(9223372036854775811)"
-        ) && has_value(
-            alloc,
-            b"\x0a\x7c\0\0\x01",
-            Key::MasterDataWritten,
-            "MasterDataWritten(16777340)"
-        ) && has_value(
-            alloc,
-            b"\x0d\x3f\x42\x0f",
-            Key::Microseconds,
-            "Microseconds(999999)"
-        ) && has_value(
-            alloc,
-            b"\x11\x34\x12\0\0\0\0\0\x01",
-            Key::DdlLoggedWithXid,
-            "DdlLoggedWithXid(72057594037932596)"
-        )
-    );
+fn longer_numbers(alloc: Global) -> bool {
+    has_value(
+        alloc,
+        b"\x09\x03\0\0\0\0\0\0\x80",
+        Key::TableMapForUpdate,
+        "TableMapForUpdate(9223372036854775811)",
+    ) && has_value(
+        alloc,
+        b"\x0a\x7c\0\0\x01",
+        Key::MasterDataWritten,
+        "MasterDataWritten(16777340)",
+    ) && has_value(
+        alloc,
+        b"\x0d\x3f\x42\x0f",
+        Key::Microseconds,
+        "Microseconds(999999)",
+    ) && has_value(
+        alloc,
+        b"\x11\x34\x12\0\0\0\0\0\x01",
+        Key::DdlLoggedWithXid,
+        "DdlLoggedWithXid(72057594037932596)",
+    )
 }
 
 /// Whether the bytes don't begin with a complete variable.
@@ -216,21 +194,18 @@ fn has_none(block: &[u8]) -> bool {
     StatusVarsIterator::new(block).next().is_none()
 }
 
-#[test]
-fn variables_cut_off(rt: HostRuntime) {
-    assert!(rt;
-        has_none(b"")
-            && has_none(b"\0\0\0\0")
-            && has_none(b"\x04\x21\0\x21\0\x08")
-            && has_none(b"\x05\x06SYSTE")
-            && has_none(b"\x02\x03std")
-            && has_none(b"\x02\x03std!")
-            && has_none(b"\x0b\x04root\x09localhos")
-            && has_none(b"\x0c\x02test\0db")
-            && has_none(b"\x0d\x3f\x42")
-            && has_none(b"\x0f\0\0\0\0\0\0\0\0")
-            && has_none(b"\x15\0")
-    );
+fn variables_cut_off() -> bool {
+    has_none(b"")
+        && has_none(b"\0\0\0\0")
+        && has_none(b"\x04\x21\0\x21\0\x08")
+        && has_none(b"\x05\x06SYSTE")
+        && has_none(b"\x02\x03std")
+        && has_none(b"\x02\x03std!")
+        && has_none(b"\x0b\x04root\x09localhos")
+        && has_none(b"\x0c\x02test\0db")
+        && has_none(b"\x0d\x3f\x42")
+        && has_none(b"\x0f\0\0\0\0\0\0\0\0")
+        && has_none(b"\x15\0")
 }
 
 /// Whether the block is read from the start of the bytes, made owned, and written unchanged.
@@ -246,7 +221,19 @@ fn is_kept(alloc: Global, bytes: &[u8]) -> bool {
     owned.serialize(&mut out).is_ok() && out.as_slice() == BLOCK && buf.0 == b"z".as_slice()
 }
 
+fn blocks_kept(alloc: Global) -> bool {
+    is_kept(alloc, b"\0\0\0\0\0\x04\x21\0\x21\0\x08\0\x0e\0z")
+}
+
 #[test]
-fn blocks_kept(rt: HostRuntime) {
-    assert!(rt; is_kept(rt.alloc(), b"\0\0\0\0\0\x04\x21\0\x21\0\x08\0\x0e\0z"));
+fn status_vars(rt: HostRuntime) {
+    let alloc = rt.alloc();
+    assert!(rt; status_variables());
+    assert!(rt; variables_found_by_key());
+    assert!(rt; options_and_settings(alloc));
+    assert!(rt; texts(alloc));
+    assert!(rt; counters_and_character_sets(alloc));
+    assert!(rt; longer_numbers(alloc));
+    assert!(rt; variables_cut_off());
+    assert!(rt; blocks_kept(alloc));
 }

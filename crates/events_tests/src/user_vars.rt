@@ -77,10 +77,8 @@ fn reads_null(alloc: Global) -> bool {
     }
 }
 
-#[test]
-fn user_variables(rt: HostRuntime) {
-    let alloc = rt.alloc();
-    assert!(rt; reads_unsigned(alloc) && reads_text(alloc) && reads_null(alloc));
+fn user_variables(alloc: Global) -> bool {
+    reads_unsigned(alloc) && reads_text(alloc) && reads_null(alloc)
 }
 
 /// The type of the value in the bytes, and all bits of its flags.
@@ -94,32 +92,24 @@ fn type_and_flags(
     }
 }
 
-#[test]
-fn user_variables_of_unknown_types(rt: HostRuntime) {
-    let alloc = rt.alloc();
-    assert!(rt;
-        type_and_flags(alloc, b"\0\0\0\0\0\x05\x3f\0\0\0\0\0\0\0\x83")
-            == Some((Err(UnknownItemResultType(5)), 0x83, UserVarFlags::UNSIGNED))
-            && type_and_flags(alloc, b"\0\0\0\0\0\xff\x3f\0\0\0\0\0\0\0\x02")
-                == Some((Ok(ItemResult::INVALID_RESULT), 2, UserVarFlags::empty()))
-    );
+fn user_variables_of_unknown_types(alloc: Global) -> bool {
+    type_and_flags(alloc, b"\0\0\0\0\0\x05\x3f\0\0\0\0\0\0\0\x83")
+        == Some((Err(UnknownItemResultType(5)), 0x83, UserVarFlags::UNSIGNED))
+        && type_and_flags(alloc, b"\0\0\0\0\0\xff\x3f\0\0\0\0\0\0\0\x02")
+            == Some((Ok(ItemResult::INVALID_RESULT), 2, UserVarFlags::empty()))
 }
 
-#[test]
-fn user_variables_failed(rt: HostRuntime) {
-    let alloc = rt.alloc();
-    assert!(rt;
-        is_short::<UserVarEvent<'_>>(alloc, &UNSIGNED[..22])
-            && is_short::<UserVarEvent<'_>>(alloc, &TEXT[..9])
-            && is_short::<UserVarEvent<'_>>(alloc, &NULL[..5])
-            && is_short::<UserVarEvent<'_>>(alloc, &NULL[..4])
-            && read_error::<UserVarEvent<'_>>(alloc, b"\x01\0\0\0n\x01\0")
-                == Some(EventError::RemainingBytes)
-            && read_error::<UserVarEvent<'_>>(
-                alloc,
-                b"\x01\0\0\0n\0\x02\x3f\0\0\0\x08\0\0\0\x2c\x01\0\0\0\0\0\0\x01\0",
-            ) == Some(EventError::RemainingBytes)
-    );
+fn user_variables_failed(alloc: Global) -> bool {
+    is_short::<UserVarEvent<'_>>(alloc, &UNSIGNED[..22])
+        && is_short::<UserVarEvent<'_>>(alloc, &TEXT[..9])
+        && is_short::<UserVarEvent<'_>>(alloc, &NULL[..5])
+        && is_short::<UserVarEvent<'_>>(alloc, &NULL[..4])
+        && read_error::<UserVarEvent<'_>>(alloc, b"\x01\0\0\0n\x01\0")
+            == Some(EventError::RemainingBytes)
+        && read_error::<UserVarEvent<'_>>(
+            alloc,
+            b"\x01\0\0\0n\0\x02\x3f\0\0\0\x08\0\0\0\x2c\x01\0\0\0\0\0\0\x01\0",
+        ) == Some(EventError::RemainingBytes)
 }
 
 /// Whether the name of the variable is this text.
@@ -130,10 +120,15 @@ fn is_named(alloc: Global, body: &[u8], wanted: &str) -> bool {
     }
 }
 
+fn names_of_user_variables(alloc: Global) -> bool {
+    is_named(alloc, TEXT, "name") && is_named(alloc, b"\x01\0\0\0\xff\x01", "\u{fffd}")
+}
+
 #[test]
-fn names_of_user_variables(rt: HostRuntime) {
+fn user_vars(rt: HostRuntime) {
     let alloc = rt.alloc();
-    assert!(rt;
-        is_named(alloc, TEXT, "name") && is_named(alloc, b"\x01\0\0\0\xff\x01", "\u{fffd}")
-    );
+    assert!(rt; user_variables(alloc));
+    assert!(rt; user_variables_of_unknown_types(alloc));
+    assert!(rt; user_variables_failed(alloc));
+    assert!(rt; names_of_user_variables(alloc));
 }
