@@ -77,127 +77,115 @@ fn is_kept(alloc: Global, event_type: EventType, start: &str, body: &[u8]) -> bo
     }
 }
 
-#[test]
-fn events_of_plain_types(rt: HostRuntime) {
-    let alloc = rt.alloc();
-    assert!(rt;
-        is_kept(
+fn events_of_plain_types(alloc: Global) -> bool {
+    is_kept(
+        alloc,
+        EventType::ROTATE_EVENT,
+        "RotateEvent(RotateEvent {",
+        ROTATE,
+    ) && is_kept(
+        alloc,
+        EventType::INTVAR_EVENT,
+        "IntvarEvent(IntvarEvent {",
+        INTVAR,
+    ) && is_kept(alloc, EventType::RAND_EVENT, "RandEvent(RandEvent {", RAND)
+        && is_kept(
             alloc,
-            EventType::ROTATE_EVENT,
-            "RotateEvent(RotateEvent {",
-            ROTATE
-        ) && is_kept(
+            EventType::USER_VAR_EVENT,
+            "UserVarEvent(UserVarEvent {",
+            UNSIGNED,
+        )
+        && is_kept(alloc, EventType::XID_EVENT, "XidEvent(XidEvent {", XID)
+        && is_kept(
             alloc,
-            EventType::INTVAR_EVENT,
-            "IntvarEvent(IntvarEvent {",
-            INTVAR
-        ) && is_kept(alloc, EventType::RAND_EVENT, "RandEvent(RandEvent {", RAND)
-            && is_kept(
-                alloc,
-                EventType::USER_VAR_EVENT,
-                "UserVarEvent(UserVarEvent {",
-                UNSIGNED
-            )
-            && is_kept(alloc, EventType::XID_EVENT, "XidEvent(XidEvent {", XID)
-            && is_kept(
-                alloc,
-                EventType::BEGIN_LOAD_QUERY_EVENT,
-                "BeginLoadQueryEvent(BeginLoadQueryEvent {",
-                BEGIN_LOAD
-            )
-            && is_kept(
-                alloc,
-                EventType::INCIDENT_EVENT,
-                "IncidentEvent(IncidentEvent {",
-                INCIDENT
-            )
-            && is_kept(
-                alloc,
-                EventType::ROWS_QUERY_EVENT,
-                "RowsQueryEvent(RowsQueryEvent {",
-                b"\0select 1"
-            )
-    );
+            EventType::BEGIN_LOAD_QUERY_EVENT,
+            "BeginLoadQueryEvent(BeginLoadQueryEvent {",
+            BEGIN_LOAD,
+        )
+        && is_kept(
+            alloc,
+            EventType::INCIDENT_EVENT,
+            "IncidentEvent(IncidentEvent {",
+            INCIDENT,
+        )
+        && is_kept(
+            alloc,
+            EventType::ROWS_QUERY_EVENT,
+            "RowsQueryEvent(RowsQueryEvent {",
+            b"\0select 1",
+        )
 }
 
-#[test]
-fn events_of_other_types(rt: HostRuntime) {
-    let alloc = rt.alloc();
-    assert!(rt;
-        is_kept(
+fn events_of_other_types(alloc: Global) -> bool {
+    is_kept(
+        alloc,
+        EventType::FORMAT_DESCRIPTION_EVENT,
+        "FormatDescriptionEvent(FormatDescriptionEvent {",
+        &DESCRIPTION[19..76],
+    ) && is_kept(
+        alloc,
+        EventType::QUERY_EVENT,
+        "QueryEvent(QueryEvent {",
+        QUERY,
+    ) && is_kept(
+        alloc,
+        EventType::EXECUTE_LOAD_QUERY_EVENT,
+        "ExecuteLoadQueryEvent(ExecuteLoadQueryEvent {",
+        LOAD,
+    ) && is_kept(
+        alloc,
+        EventType::TABLE_MAP_EVENT,
+        "TableMapEvent(TableMapEvent {",
+        &TABLE_MAP[19..],
+    ) && is_kept(alloc, EventType::GTID_EVENT, "GtidEvent(GtidEvent {", FULL)
+        && is_kept(
             alloc,
-            EventType::FORMAT_DESCRIPTION_EVENT,
-            "FormatDescriptionEvent(FormatDescriptionEvent {",
-            &DESCRIPTION[19..76]
-        ) && is_kept(
-            alloc,
-            EventType::QUERY_EVENT,
-            "QueryEvent(QueryEvent {",
-            QUERY
-        ) && is_kept(
-            alloc,
-            EventType::EXECUTE_LOAD_QUERY_EVENT,
-            "ExecuteLoadQueryEvent(ExecuteLoadQueryEvent {",
-            LOAD
-        ) && is_kept(
-            alloc,
-            EventType::TABLE_MAP_EVENT,
-            "TableMapEvent(TableMapEvent {",
-            &TABLE_MAP[19..]
-        ) && is_kept(alloc, EventType::GTID_EVENT, "GtidEvent(GtidEvent {", FULL)
-            && is_kept(
-                alloc,
-                EventType::ANONYMOUS_GTID_EVENT,
-                "AnonymousGtidEvent(AnonymousGtidEvent(GtidEvent {",
-                FULL
-            )
-    );
+            EventType::ANONYMOUS_GTID_EVENT,
+            "AnonymousGtidEvent(AnonymousGtidEvent(GtidEvent {",
+            FULL,
+        )
 }
 
 // An event of version 1 has no extra data.
-#[test]
-fn events_of_rows_types(rt: HostRuntime) {
-    let alloc = rt.alloc();
+fn events_of_rows_types(alloc: Global) -> bool {
     let one = b"\x07\0\0\0\0\0\x01\0\x01\x01row";
     let two = b"\x07\0\0\0\0\0\x01\0\x01\x01\x01rows";
-    assert!(rt;
-        is_kept(
-            alloc,
-            EventType::WRITE_ROWS_EVENT,
-            "RowsEvent(WriteRowsEvent(",
-            &INSERT[19..]
-        ) && is_kept(
-            alloc,
-            EventType::UPDATE_ROWS_EVENT,
-            "RowsEvent(UpdateRowsEvent(",
-            UPDATE
-        ) && is_kept(
-            alloc,
-            EventType::DELETE_ROWS_EVENT,
-            "RowsEvent(DeleteRowsEvent(",
-            &INSERT[19..]
-        ) && is_kept(
-            alloc,
-            EventType::PARTIAL_UPDATE_ROWS_EVENT,
-            "RowsEvent(PartialUpdateRowsEvent(",
-            UPDATE
-        ) && is_kept(
-            alloc,
-            EventType::WRITE_ROWS_EVENT_V1,
-            "RowsEvent(WriteRowsEventV1(",
-            one
-        ) && is_kept(
-            alloc,
-            EventType::UPDATE_ROWS_EVENT_V1,
-            "RowsEvent(UpdateRowsEventV1(",
-            two
-        ) && is_kept(
-            alloc,
-            EventType::DELETE_ROWS_EVENT_V1,
-            "RowsEvent(DeleteRowsEventV1(",
-            one
-        )
-    );
+    is_kept(
+        alloc,
+        EventType::WRITE_ROWS_EVENT,
+        "RowsEvent(WriteRowsEvent(",
+        &INSERT[19..],
+    ) && is_kept(
+        alloc,
+        EventType::UPDATE_ROWS_EVENT,
+        "RowsEvent(UpdateRowsEvent(",
+        UPDATE,
+    ) && is_kept(
+        alloc,
+        EventType::DELETE_ROWS_EVENT,
+        "RowsEvent(DeleteRowsEvent(",
+        &INSERT[19..],
+    ) && is_kept(
+        alloc,
+        EventType::PARTIAL_UPDATE_ROWS_EVENT,
+        "RowsEvent(PartialUpdateRowsEvent(",
+        UPDATE,
+    ) && is_kept(
+        alloc,
+        EventType::WRITE_ROWS_EVENT_V1,
+        "RowsEvent(WriteRowsEventV1(",
+        one,
+    ) && is_kept(
+        alloc,
+        EventType::UPDATE_ROWS_EVENT_V1,
+        "RowsEvent(UpdateRowsEventV1(",
+        two,
+    ) && is_kept(
+        alloc,
+        EventType::DELETE_ROWS_EVENT_V1,
+        "RowsEvent(DeleteRowsEventV1(",
+        one,
+    )
 }
 
 /// Whether the body of an event of the type stays unparsed bytes, whatever these are.
@@ -205,29 +193,25 @@ fn is_raw(alloc: Global, event_type: EventType, start: &str) -> bool {
     is_kept(alloc, event_type, start, b"\xffany bytes") && is_kept(alloc, event_type, start, b"")
 }
 
-#[test]
-fn events_without_a_encoding(rt: HostRuntime) {
-    let alloc = rt.alloc();
-    assert!(rt;
-        is_raw(alloc, EventType::UNKNOWN_EVENT, "Raw(UNKNOWN_EVENT,")
-            && is_raw(alloc, EventType::STOP_EVENT, "Raw(STOP_EVENT,")
-            && is_raw(alloc, EventType::HEARTBEAT_EVENT, "Raw(HEARTBEAT_EVENT,")
-            && is_raw(
-                alloc,
-                EventType::PREVIOUS_GTIDS_EVENT,
-                "Raw(PREVIOUS_GTIDS_EVENT,"
-            )
-            && is_raw(
-                alloc,
-                EventType::TRANSACTION_PAYLOAD_EVENT,
-                "Raw(TRANSACTION_PAYLOAD_EVENT,"
-            )
-            && is_raw(
-                alloc,
-                EventType::PRE_GA_WRITE_ROWS_EVENT,
-                "Raw(PRE_GA_WRITE_ROWS_EVENT,"
-            )
-    );
+fn events_without_a_encoding(alloc: Global) -> bool {
+    is_raw(alloc, EventType::UNKNOWN_EVENT, "Raw(UNKNOWN_EVENT,")
+        && is_raw(alloc, EventType::STOP_EVENT, "Raw(STOP_EVENT,")
+        && is_raw(alloc, EventType::HEARTBEAT_EVENT, "Raw(HEARTBEAT_EVENT,")
+        && is_raw(
+            alloc,
+            EventType::PREVIOUS_GTIDS_EVENT,
+            "Raw(PREVIOUS_GTIDS_EVENT,",
+        )
+        && is_raw(
+            alloc,
+            EventType::TRANSACTION_PAYLOAD_EVENT,
+            "Raw(TRANSACTION_PAYLOAD_EVENT,",
+        )
+        && is_raw(
+            alloc,
+            EventType::PRE_GA_WRITE_ROWS_EVENT,
+            "Raw(PRE_GA_WRITE_ROWS_EVENT,",
+        )
 }
 
 /// Why the body of an event of the type can't be read, or None if it can.
@@ -236,16 +220,22 @@ fn read_error(alloc: Global, event_type: EventType, body: &[u8]) -> Option<Event
     read(alloc, &in_force, event_type, body).err()
 }
 
+fn events_failed_by_their_type(alloc: Global) -> bool {
+    read_error(alloc, EventType::XID_EVENT, &XID[..7]) == Some(EventError::EndOfBody)
+        && read_error(alloc, EventType::XID_EVENT, &[0; 9]) == Some(EventError::RemainingBytes)
+        && read_error(alloc, EventType::GTID_EVENT, &FULL[..24]) == Some(EventError::EndOfBody)
+        && read_error(alloc, EventType::FORMAT_DESCRIPTION_EVENT, &[0; 57])
+            == Some(EventError::Invalid)
+        && read_error(alloc, EventType::DELETE_ROWS_EVENT, &UPDATE[..10])
+            == Some(EventError::EndOfBody)
+}
+
 #[test]
-fn events_failed_by_their_type(rt: HostRuntime) {
+fn event_data(rt: HostRuntime) {
     let alloc = rt.alloc();
-    assert!(rt;
-        read_error(alloc, EventType::XID_EVENT, &XID[..7]) == Some(EventError::EndOfBody)
-            && read_error(alloc, EventType::XID_EVENT, &[0; 9]) == Some(EventError::RemainingBytes)
-            && read_error(alloc, EventType::GTID_EVENT, &FULL[..24]) == Some(EventError::EndOfBody)
-            && read_error(alloc, EventType::FORMAT_DESCRIPTION_EVENT, &[0; 57])
-                == Some(EventError::Invalid)
-            && read_error(alloc, EventType::DELETE_ROWS_EVENT, &UPDATE[..10])
-                == Some(EventError::EndOfBody)
-    );
+    assert!(rt; events_of_plain_types(alloc));
+    assert!(rt; events_of_other_types(alloc));
+    assert!(rt; events_of_rows_types(alloc));
+    assert!(rt; events_without_a_encoding(alloc));
+    assert!(rt; events_failed_by_their_type(alloc));
 }

@@ -86,22 +86,16 @@ fn returns_four(alloc: Global, file: &mut BinlogFile<&[u8]>) -> bool {
         && !has_map(file, 8)
 }
 
-#[test]
-fn file_events_written_back(rt: HostRuntime) {
-    let alloc = rt.alloc();
-    assert!(rt;
-        match file_with(alloc, b"\0\0\0\0\x10") {
-            Ok(bytes) => match file_of(alloc, &bytes) {
-                Ok(mut file) => {
-                    returns_four(alloc, &mut file)
-                        && ends(alloc, &mut file)
-                        && ends(alloc, &mut file)
-                }
-                Err(_) => false,
-            },
+fn file_events_written_back(alloc: Global) -> bool {
+    match file_with(alloc, b"\0\0\0\0\x10") {
+        Ok(bytes) => match file_of(alloc, &bytes) {
+            Ok(mut file) => {
+                returns_four(alloc, &mut file) && ends(alloc, &mut file) && ends(alloc, &mut file)
+            }
             Err(_) => false,
-        }
-    );
+        },
+        Err(_) => false,
+    }
 }
 
 /// Whether the file's reader accepts a table map from elsewhere before the file's first event, and keeps it.
@@ -113,36 +107,28 @@ fn takes_table_map(alloc: Global, file: &mut BinlogFile<&[u8]>) -> bool {
         && has_map(file, 7)
 }
 
-#[test]
-fn reader_of_a_file_changed(rt: HostRuntime) {
-    let alloc = rt.alloc();
-    assert!(rt;
-        match file_with(alloc, b"") {
-            Ok(bytes) => match file_of(alloc, &bytes) {
-                Ok(mut file) => takes_table_map(alloc, &mut file),
-                Err(_) => false,
-            },
+fn reader_of_a_file_changed(alloc: Global) -> bool {
+    match file_with(alloc, b"") {
+        Ok(bytes) => match file_of(alloc, &bytes) {
+            Ok(mut file) => takes_table_map(alloc, &mut file),
             Err(_) => false,
-        }
-    );
+        },
+        Err(_) => false,
+    }
 }
 
-#[test]
-fn frame_fault_ends_the_file(rt: HostRuntime) {
-    let alloc = rt.alloc();
-    assert!(rt;
-        match file_with(alloc, &[0; 19]) {
-            Ok(bytes) => match file_of(alloc, &bytes) {
-                Ok(mut file) => {
-                    returns_four(alloc, &mut file)
-                        && fails(alloc, &mut file, EventError::Frame)
-                        && ends(alloc, &mut file)
-                }
-                Err(_) => false,
-            },
+fn frame_fault_ends_the_file(alloc: Global) -> bool {
+    match file_with(alloc, &[0; 19]) {
+        Ok(bytes) => match file_of(alloc, &bytes) {
+            Ok(mut file) => {
+                returns_four(alloc, &mut file)
+                    && fails(alloc, &mut file, EventError::Frame)
+                    && ends(alloc, &mut file)
+            }
             Err(_) => false,
-        }
-    );
+        },
+        Err(_) => false,
+    }
 }
 
 /// Why a file with these bytes can't be opened.
@@ -150,15 +136,11 @@ fn failed(alloc: Global, bytes: &[u8]) -> Option<EventError> {
     file_of(alloc, bytes).err()
 }
 
-#[test]
-fn files_without_a_magic(rt: HostRuntime) {
-    let alloc = rt.alloc();
-    assert!(rt;
-        failed(alloc, b"") == Some(EventError::Eof)
-            && failed(alloc, b"\xfebi") == Some(EventError::Eof)
-            && failed(alloc, b"\xfebim\0") == Some(EventError::Invalid)
-            && failed(alloc, b"\xfebin").is_none()
-    );
+fn files_without_a_magic(alloc: Global) -> bool {
+    failed(alloc, b"") == Some(EventError::Eof)
+        && failed(alloc, b"\xfebi") == Some(EventError::Eof)
+        && failed(alloc, b"\xfebim\0") == Some(EventError::Invalid)
+        && failed(alloc, b"\xfebin").is_none()
 }
 
 /// The checksum of an event's first 77 bytes.
@@ -169,13 +151,12 @@ fn sum_of(alloc: Global, event: &[u8]) -> Option<u32> {
 }
 
 // The flag for a log in use counts as cleared: the byte at offset 17 is 1 or 0.
-#[test]
-fn checksum_of_a_log_in_use(rt: HostRuntime) -> Result<(), AllocError> {
-    let alloc = rt.alloc();
-    let in_use = changed(alloc, DESCRIPTION, 17, 1)?;
+fn checksum_of_a_log_in_use(alloc: Global) -> bool {
+    let Ok(in_use) = changed(alloc, DESCRIPTION, 17, 1) else {
+        return false;
+    };
     let sum = added(&DESCRIPTION[..77]);
-    assert!(rt; sum_of(alloc, DESCRIPTION) == Some(sum) && sum_of(alloc, &in_use) == Some(sum));
-    Ok(())
+    sum_of(alloc, DESCRIPTION) == Some(sum) && sum_of(alloc, &in_use) == Some(sum)
 }
 
 /// The bytes that are written for the event with these bytes.
@@ -187,21 +168,29 @@ fn written_again(alloc: Global, event: &[u8]) -> Result<Vec<u8>, EventError> {
 }
 
 // A format description is written with its algorithm, and with the checksum of the bytes before it.
-#[test]
-fn description_written_back(rt: HostRuntime) -> Result<(), AllocError> {
-    let alloc = rt.alloc();
+fn description_written_back(alloc: Global) -> bool {
     let sum = added(&DESCRIPTION[..77]).to_le_bytes();
-    let unknown = changed(alloc, DESCRIPTION, 76, 2)?;
-    assert!(rt;
-        written_again(alloc, &unknown).is_err()
-            && match written_again(alloc, DESCRIPTION) {
-                Ok(bytes) => {
-                    bytes.len() == 81
-                        && bytes.as_slice().starts_with(&DESCRIPTION[..77])
-                        && bytes.as_slice().ends_with(&sum)
-                }
-                Err(_) => false,
+    let Ok(unknown) = changed(alloc, DESCRIPTION, 76, 2) else {
+        return false;
+    };
+    written_again(alloc, &unknown).is_err()
+        && match written_again(alloc, DESCRIPTION) {
+            Ok(bytes) => {
+                bytes.len() == 81
+                    && bytes.as_slice().starts_with(&DESCRIPTION[..77])
+                    && bytes.as_slice().ends_with(&sum)
             }
-    );
-    Ok(())
+            Err(_) => false,
+        }
+}
+
+#[test]
+fn files(rt: HostRuntime) {
+    let alloc = rt.alloc();
+    assert!(rt; file_events_written_back(alloc));
+    assert!(rt; reader_of_a_file_changed(alloc));
+    assert!(rt; frame_fault_ends_the_file(alloc));
+    assert!(rt; files_without_a_magic(alloc));
+    assert!(rt; checksum_of_a_log_in_use(alloc));
+    assert!(rt; description_written_back(alloc));
 }

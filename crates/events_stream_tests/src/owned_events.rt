@@ -7,7 +7,7 @@ use events_frames::{EventError, EventParts, FormatDescriptionEvent};
 use events_stream::{BinlogFile, Event, EventStreamReader};
 use events_tests::worked::{BEGIN, COMMIT, DESCRIPTION, INSERT, TABLE_MAP, changed};
 use rows_consts::{BinlogChecksumAlg, BinlogVersion};
-use std::alloc::{AllocError, Global};
+use std::alloc::Global;
 use std::rc::Rc;
 use wire_buf::Watched;
 
@@ -47,18 +47,14 @@ fn is_written(alloc: Global, bytes: &[u8], written: &[u8]) -> bool {
     }
 }
 
-#[test]
-fn events_are_written_as_they_were(rt: HostRuntime) {
-    let alloc = rt.alloc();
-    assert!(rt;
-        is_written(alloc, BEGIN, BEGIN)
-            && is_written(alloc, INSERT, INSERT)
-            && is_written(
-                alloc,
-                b"\0\0\0\0\x03\x01\0\0\0\x13\0\0\0\0\0\0\0\0\0abc",
-                b"\0\0\0\0\x03\x01\0\0\0\x13\0\0\0\0\0\0\0\0\0"
-            )
-    );
+fn events_are_written_as_they_were(alloc: Global) -> bool {
+    is_written(alloc, BEGIN, BEGIN)
+        && is_written(alloc, INSERT, INSERT)
+        && is_written(
+            alloc,
+            b"\0\0\0\0\x03\x01\0\0\0\x13\0\0\0\0\0\0\0\0\0abc",
+            b"\0\0\0\0\x03\x01\0\0\0\x13\0\0\0\0\0\0\0\0\0",
+        )
 }
 
 /// Why no event can be read from these bytes.
@@ -68,17 +64,13 @@ fn refused(alloc: Global, bytes: &[u8]) -> Option<EventError> {
 
 // Truncated within the header, truncated within the body, with a size below 19, and a format description too short for its
 // fields.
-#[test]
-fn cut_events_are_refused(rt: HostRuntime) {
-    let alloc = rt.alloc();
-    assert!(rt;
-        refused(alloc, b"") == Some(EventError::Eof)
-            && refused(alloc, &BEGIN[..18]) == Some(EventError::Eof)
-            && refused(alloc, &BEGIN[..37]) == Some(EventError::Eof)
-            && refused(alloc, &[0; 19]) == Some(EventError::Frame)
-            && refused(alloc, b"\0\0\0\0\x0f\x01\0\0\0\x13\0\0\0\0\0\0\0\0\0")
-                == Some(EventError::Frame)
-    );
+fn cut_events_are_refused(alloc: Global) -> bool {
+    refused(alloc, b"") == Some(EventError::Eof)
+        && refused(alloc, &BEGIN[..18]) == Some(EventError::Eof)
+        && refused(alloc, &BEGIN[..37]) == Some(EventError::Eof)
+        && refused(alloc, &[0; 19]) == Some(EventError::Frame)
+        && refused(alloc, b"\0\0\0\0\x0f\x01\0\0\0\x13\0\0\0\0\0\0\0\0\0")
+            == Some(EventError::Frame)
 }
 
 /// The parts of the event with these bytes, read from a slice.
@@ -140,14 +132,17 @@ fn take_alike(
         )
 }
 
-#[test]
-fn readers_take_alike(rt: HostRuntime) -> Result<(), AllocError> {
-    let alloc = rt.alloc();
-    let unknown = changed(alloc, DESCRIPTION, 76, 2)?;
-    let mut slices = EventStreamReader::new(alloc, BinlogVersion::Version4)?;
-    let mut owned = EventStreamReader::new(alloc, BinlogVersion::Version4)?;
-    assert!(rt; take_alike(&mut slices, &mut owned, &unknown));
-    Ok(())
+fn readers_take_alike(alloc: Global) -> bool {
+    let Ok(unknown) = changed(alloc, DESCRIPTION, 76, 2) else {
+        return false;
+    };
+    let Ok(mut slices) = EventStreamReader::new(alloc, BinlogVersion::Version4) else {
+        return false;
+    };
+    let Ok(mut owned) = EventStreamReader::new(alloc, BinlogVersion::Version4) else {
+        return false;
+    };
+    take_alike(&mut slices, &mut owned, &unknown)
 }
 
 /// The file's next event.
@@ -191,12 +186,8 @@ fn ends_with(alloc: Global, rest: &[u8], fault: Option<EventError>) -> bool {
 }
 
 // A file that ends within an event, and one with a broken header.
-#[test]
-fn file_iterators_end(rt: HostRuntime) {
-    let alloc = rt.alloc();
-    assert!(rt;
-        ends_with(alloc, &COMMIT[..26], None) && ends_with(alloc, &[0; 19], Some(EventError::Frame))
-    );
+fn file_iterators_end(alloc: Global) -> bool {
+    ends_with(alloc, &COMMIT[..26], None) && ends_with(alloc, &[0; 19], Some(EventError::Frame))
 }
 
 /// Whether a body, which is then dropped, has this `Debug` text.
@@ -237,22 +228,19 @@ fn xid_of(alloc: Global, bytes: &[u8]) -> Option<u64> {
     }
 }
 
-#[test]
-fn bodies_by_type(rt: HostRuntime) -> Result<(), AllocError> {
-    let alloc = rt.alloc();
-    let unknown = changed(alloc, COMMIT, 4, 200)?;
-    assert!(rt;
-        shows(alloc, BEGIN, BEGIN_TEXT)
-            && shows(alloc, DESCRIPTION, DESCRIPTION_TEXT)
-            && shows(
-                alloc,
-                COMMIT,
-                "XidEvent(XidEvent { xid: RawInt(11, PhantomData<_>) })"
-            )
-            && xid_of(alloc, COMMIT) == Some(11)
-            && shows(alloc, &unknown, "")
-    );
-    Ok(())
+fn bodies_by_type(alloc: Global) -> bool {
+    let Ok(unknown) = changed(alloc, COMMIT, 4, 200) else {
+        return false;
+    };
+    shows(alloc, BEGIN, BEGIN_TEXT)
+        && shows(alloc, DESCRIPTION, DESCRIPTION_TEXT)
+        && shows(
+            alloc,
+            COMMIT,
+            "XidEvent(XidEvent { xid: RawInt(11, PhantomData<_>) })",
+        )
+        && xid_of(alloc, COMMIT) == Some(11)
+        && shows(alloc, &unknown, "")
 }
 
 /// The checksum of the event that the bytes begin with, for an algorithm.
@@ -265,25 +253,22 @@ fn sum_of(alloc: Global, bytes: &[u8], alg: BinlogChecksumAlg) -> Option<u32> {
 }
 
 // The flag for a log in use counts as cleared: the byte at offset 17 is 1 or 0.
-#[test]
-fn checksums_by_algorithm(rt: HostRuntime) -> Result<(), AllocError> {
-    let alloc = rt.alloc();
-    let in_use = changed(alloc, DESCRIPTION, 17, 1)?;
+fn checksums_by_algorithm(alloc: Global) -> bool {
+    let Ok(in_use) = changed(alloc, DESCRIPTION, 17, 1) else {
+        return false;
+    };
     let sum = added(&DESCRIPTION[..77]);
-    assert!(rt;
-        sum_of(
+    sum_of(
+        alloc,
+        DESCRIPTION,
+        BinlogChecksumAlg::BINLOG_CHECKSUM_ALG_CRC32,
+    ) == Some(sum)
+        && sum_of(alloc, &in_use, BinlogChecksumAlg::BINLOG_CHECKSUM_ALG_CRC32) == Some(sum)
+        && sum_of(
             alloc,
             DESCRIPTION,
-            BinlogChecksumAlg::BINLOG_CHECKSUM_ALG_CRC32
-        ) == Some(sum)
-            && sum_of(alloc, &in_use, BinlogChecksumAlg::BINLOG_CHECKSUM_ALG_CRC32) == Some(sum)
-            && sum_of(
-                alloc,
-                DESCRIPTION,
-                BinlogChecksumAlg::BINLOG_CHECKSUM_ALG_OFF
-            ) == Some(0)
-    );
-    Ok(())
+            BinlogChecksumAlg::BINLOG_CHECKSUM_ALG_OFF,
+        ) == Some(0)
 }
 
 /// Whether the parts are kept unchanged.
@@ -300,7 +285,18 @@ fn is_kept(alloc: Global, event: &[u8]) -> bool {
     }
 }
 
+fn parts_are_kept(alloc: Global) -> bool {
+    is_kept(alloc, BEGIN) && is_kept(alloc, DESCRIPTION)
+}
+
 #[test]
-fn parts_are_kept(rt: HostRuntime) {
-    assert!(rt; is_kept(rt.alloc(), BEGIN) && is_kept(rt.alloc(), DESCRIPTION));
+fn owned_events(rt: HostRuntime) {
+    let alloc = rt.alloc();
+    assert!(rt; events_are_written_as_they_were(alloc));
+    assert!(rt; cut_events_are_refused(alloc));
+    assert!(rt; readers_take_alike(alloc));
+    assert!(rt; file_iterators_end(alloc));
+    assert!(rt; bodies_by_type(alloc));
+    assert!(rt; checksums_by_algorithm(alloc));
+    assert!(rt; parts_are_kept(alloc));
 }

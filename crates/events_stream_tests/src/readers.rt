@@ -37,18 +37,16 @@ fn reader(alloc: Global) -> Result<EventStreamReader, AllocError> {
     EventStreamReader::new(alloc, BinlogVersion::Version4)
 }
 
-#[test]
-fn rotate_clears_maps(rt: HostRuntime) -> Result<(), AllocError> {
-    let mut reader = reader(rt.alloc())?;
-    assert!(rt;
-        !has_map(&reader)
-            && takes(&mut reader, TABLE_MAP)
-            && takes(&mut reader, FAKE_ROTATE)
-            && has_map(&reader)
-            && takes(&mut reader, ROTATE)
-            && !has_map(&reader)
-    );
-    Ok(())
+fn rotate_clears_maps(alloc: Global) -> bool {
+    let Ok(mut reader) = reader(alloc) else {
+        return false;
+    };
+    !has_map(&reader)
+        && takes(&mut reader, TABLE_MAP)
+        && takes(&mut reader, FAKE_ROTATE)
+        && has_map(&reader)
+        && takes(&mut reader, ROTATE)
+        && !has_map(&reader)
 }
 
 /// The number of columns in the table map that is kept for table id 7.
@@ -57,37 +55,34 @@ fn columns(reader: &EventStreamReader) -> Option<u64> {
 }
 
 // Of two table maps with the same table id the newer one is kept; one that can't be read changes nothing.
-#[test]
-fn newest_table_map(rt: HostRuntime) -> Result<(), AllocError> {
-    let alloc = rt.alloc();
+fn newest_table_map(alloc: Global) -> bool {
     let two =
         b"\0\0\0\0\x13\x01\0\0\0\x26\0\0\0\x4f\0\0\0\0\0\x07\0\0\0\0\0\x01\0\x01d\0\x01t\0\x02\x03\x03\0\x03";
-    let short = changed(alloc, TABLE_MAP, 27, 200)?;
-    let mut reader = reader(alloc)?;
-    assert!(rt;
-        takes(&mut reader, TABLE_MAP)
-            && takes(&mut reader, TABLE_MAP)
-            && columns(&reader) == Some(1)
-            && takes(&mut reader, two)
-            && columns(&reader) == Some(2)
-            && fails(&mut reader, &short) == Some(EventError::EndOfBody)
-            && columns(&reader) == Some(2)
-    );
-    Ok(())
+    let Ok(short) = changed(alloc, TABLE_MAP, 27, 200) else {
+        return false;
+    };
+    let Ok(mut reader) = reader(alloc) else {
+        return false;
+    };
+    takes(&mut reader, TABLE_MAP)
+        && takes(&mut reader, TABLE_MAP)
+        && columns(&reader) == Some(1)
+        && takes(&mut reader, two)
+        && columns(&reader) == Some(2)
+        && fails(&mut reader, &short) == Some(EventError::EndOfBody)
+        && columns(&reader) == Some(2)
 }
 
 // A format description is in force after its event: later events end with a checksum.
-#[test]
-fn description_in_force(rt: HostRuntime) -> Result<(), AllocError> {
-    let mut reader = reader(rt.alloc())?;
+fn description_in_force(alloc: Global) -> bool {
+    let Ok(mut reader) = reader(alloc) else {
+        return false;
+    };
     let short = b"\0\0\0\0\x10\x01\0\0\0\x16\0\0\0\0\0\0\0\0\0abc";
-    assert!(rt;
-        takes(&mut reader, short)
-            && takes(&mut reader, DESCRIPTION)
-            && fails(&mut reader, short) == Some(EventError::Frame)
-            && is_in_force(&reader, b"5.6.1")
-    );
-    Ok(())
+    takes(&mut reader, short)
+        && takes(&mut reader, DESCRIPTION)
+        && fails(&mut reader, short) == Some(EventError::Frame)
+        && is_in_force(&reader, b"5.6.1")
 }
 
 /// Whether the format description with another byte at this offset has this error, and isn't in force then.
@@ -104,28 +99,32 @@ fn is_failed(alloc: Global, offset: usize, byte: u8, fault: EventError) -> bool 
 }
 
 // Another format version, another length of event headers, an unknown algorithm, a size that isn't the event's.
-#[test]
-fn failed_descriptions_not_in_force(rt: HostRuntime) {
-    let alloc = rt.alloc();
-    assert!(rt;
-        is_failed(alloc, 19, 3, EventError::Invalid)
-            && is_failed(alloc, 75, 20, EventError::Invalid)
-            && is_failed(alloc, 76, 2, EventError::Algorithm)
-            && is_failed(alloc, 9, 80, EventError::RemainingBytes)
-            && is_failed(alloc, 9, 82, EventError::Eof)
-    );
+fn failed_descriptions_not_in_force(alloc: Global) -> bool {
+    is_failed(alloc, 19, 3, EventError::Invalid)
+        && is_failed(alloc, 75, 20, EventError::Invalid)
+        && is_failed(alloc, 76, 2, EventError::Algorithm)
+        && is_failed(alloc, 9, 80, EventError::RemainingBytes)
+        && is_failed(alloc, 9, 82, EventError::Eof)
 }
 
 // A rotate event with an incomplete position, and bytes that aren't a header.
-#[test]
-fn failed_events(rt: HostRuntime) -> Result<(), AllocError> {
-    let mut reader = reader(rt.alloc())?;
+fn failed_events(alloc: Global) -> bool {
+    let Ok(mut reader) = reader(alloc) else {
+        return false;
+    };
     let short = b"\0\0\0\0\x04\x01\0\0\0\x1a\0\0\0\0\0\0\0\0\0\x04\0\0\0\0\0\0";
-    assert!(rt;
-        takes(&mut reader, TABLE_MAP)
-            && fails(&mut reader, short) == Some(EventError::EndOfBody)
-            && fails(&mut reader, &short[..18]) == Some(EventError::Eof)
-            && has_map(&reader)
-    );
-    Ok(())
+    takes(&mut reader, TABLE_MAP)
+        && fails(&mut reader, short) == Some(EventError::EndOfBody)
+        && fails(&mut reader, &short[..18]) == Some(EventError::Eof)
+        && has_map(&reader)
+}
+
+#[test]
+fn readers(rt: HostRuntime) {
+    let alloc = rt.alloc();
+    assert!(rt; rotate_clears_maps(alloc));
+    assert!(rt; newest_table_map(alloc));
+    assert!(rt; description_in_force(alloc));
+    assert!(rt; failed_descriptions_not_in_force(alloc));
+    assert!(rt; failed_events(alloc));
 }
