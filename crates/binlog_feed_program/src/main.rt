@@ -126,11 +126,8 @@ fn serve_to_stdout<P: Print, R: Read + Drop>(
     name: &[u8],
     reader: R,
 ) -> Served {
-    let Ok(out) = BufWriter::with_capacity(alloc, BUFFER_LEN, io::writer(rt)) else {
-        return Served::Fault(Verdict::Memory);
-    };
     let mut reader = Watched::new(reader);
-    let mut writer = Watched::new(out);
+    let mut writer = Watched::new(io::writer(rt));
     let served = match replica {
         Replica::Plain => serve(
             alloc,
@@ -165,7 +162,7 @@ fn serve_file(
     path: &str,
     name: &[u8],
 ) -> ExitCode {
-    let reader = match open(rt, alloc, path) {
+    let reader = match open_file(rt, path) {
         Ok(reader) => reader,
         Err(name) => return fail(rt, name),
     };

@@ -1,4 +1,5 @@
 pub mod PacketLemmas
+pub mod WaitingLemmas
 pub mod RequestLemmas
 pub mod SendingLemmas
 pub mod AnswerLemmas

@@ -4,5 +4,6 @@ pub mod Serving
 pub mod Sending
 pub mod ServedNames
 pub mod Passing
+pub mod Waiting
 pub mod Laws
 pub mod WorkedServing

@@ -8,6 +8,7 @@ mod requests;
 mod sending;
 mod served;
 mod serving;
+mod waiting;
 pub mod worked;
 
 pub use served::{Refusal, Served};

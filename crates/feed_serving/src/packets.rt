@@ -15,7 +15,7 @@ use wire_consts::MAX_PAYLOAD_LEN;
 use wire_packets::{PACKET_HEADER_LEN, chunk_header};
 
 /// The maximum length of what precedes an event in a payload, in bytes.
-const MAX_LEAD_LEN: usize = 3;
+pub(crate) const MAX_LEAD_LEN: usize = 3;
 
 /// Writes one chunk: its length in three bytes, its sequence number, and its bytes, `lead` and then `slice`. The header and
 /// `lead` are written at once. `Write`: the writer failed after a prefix of the chunk.
