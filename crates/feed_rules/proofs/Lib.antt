@@ -15,6 +15,12 @@ pub mod KnownBodyLemmas
 pub mod GtidFieldLemmas
 pub mod TableLemmas
 pub mod FeedStateLemmas
+pub mod KnownEventLemmas
 pub mod SoundLemmas
+pub mod CheckedBodyLemmas
+pub mod QueryTextLemmas
+pub mod MapBodyLemmas
+pub mod KnownImageLemmas
 pub mod TakingLemmas
+pub mod UsualLemmas
 pub mod DamageLemmas

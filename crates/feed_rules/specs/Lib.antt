@@ -5,6 +5,10 @@ pub mod Events
 pub mod Rows
 pub mod RowLines
 pub mod Kinds
+pub mod QueryTexts
+pub mod BodiesOfMaps
+pub mod KnownImages
+pub mod UsualDescriptions
 pub mod KindViews
 pub mod Checks
 pub mod Transactions
@@ -13,6 +17,7 @@ pub mod Texts
 pub mod Sums
 pub mod Tables
 pub mod FeedStates
+pub mod KnownEvents
 pub mod SplitEvents
 pub mod EventCheckers
 pub mod Laws

@@ -4,9 +4,11 @@
 mod checked_parts;
 mod event_checker;
 mod event_kind;
+mod known_images;
 pub mod laws;
 mod lines;
 mod open_transaction;
+mod query_texts;
 mod tables;
 mod texts;
 mod transactions;

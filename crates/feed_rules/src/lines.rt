@@ -113,7 +113,7 @@ fn put_row<'a, A: Allocator>(
 }
 
 /// Appends a line for each row of the rows data, up to its end. Each line begins with `start`.
-fn put_lines<A: Allocator>(
+pub(crate) fn put_lines<A: Allocator>(
     alloc: Global,
     plan: RowPlan<'_>,
     start: &[u8],

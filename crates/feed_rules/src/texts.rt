@@ -2,16 +2,17 @@
 
 ghost use Rattle.std.specs.Prelude.{◌≡◌, ◌++◌, ◌∷◌, OnOk, Some};
 ghost use Rattle.hex.specs.Hex.{encode_lower};
-ghost use Rattle.events_queries.specs.QueryViews.{query_of};
+ghost use Rattle.events_queries.specs.Queries.{Query};
 ghost use Rattle.feed_writers.specs.Quoting.{quoted};
 ghost use Rattle.feed_text.specs.Buffers.{text_in};
 ghost use Rattle.feed_rules.specs.KindViews.{gtid_view};
+ghost use Rattle.feed_rules.specs.QueryTexts.{HasTexts};
 ghost use Rattle.feed_rules.specs.Rows.{change_by};
 ghost use Rattle.feed_rules.specs.Transactions.{Stated};
 ghost use Rattle.feed_rules.specs.Texts.{change_word, commit_line, gtid_text, line_text, uuid_text};
 
 use crate::event_kind::Gtid;
-use events_queries::QueryEvent;
+use crate::query_texts::QueryTexts;
 use feed_text::TextBuffer;
 use rows_events::RowImages;
 use std::alloc::{AllocError, Allocator};
@@ -39,13 +40,13 @@ pub(crate) fn put_gtid<A: Allocator>(
 
 /// Appends the line of a statement: its quoted schema and its quoted text. Out of memory: a part of it may be appended.
 pub(crate) fn put_statement<A: Allocator>(
-    query: &QueryEvent<'_>,
+    texts: QueryTexts<'_>,
     text: &mut TextBuffer<A>,
 ) -> Result<(), AllocError>
-    ensures ok { OnOk result (text_in text.new ≡ text_in text.old ++ line_text (Stated (query_of query.now))) }
+    ensures ok { OnOk result ((q : Query) → HasTexts texts.entry q → text_in text.new ≡ text_in text.old ++ line_text (Stated q)) }
 {
     text.put_text(b"statement ")?;
-    put_two_quoted(query.schema_raw(), query.query_raw(), text)?;
+    put_two_quoted(texts.schema, texts.query, text)?;
     text.put(b'\n')
 }
 
