@@ -74,7 +74,8 @@ def words(of_type, parameters):
 
 def owner_of(head):
     """The name of an impl or trait in a function's name, and whether its module precedes it."""
-    head = re.sub(r"^unsafe ", "", head)
+    # The end of an arrow is no bracket.
+    head = re.sub(r"^unsafe ", "", head).replace("->", "")
     if not head.startswith("impl"):
         return re.search(r"trait (\w+)", head)[1], True
     rest, parameters = head[len("impl"):], []
