@@ -14,13 +14,13 @@ pub use Rattle.feed_rules.specs.Sums
 pub use Rattle.feed_rules.specs.FeedStates
 pub use Rattle.feed_rules.specs.SplitEvents
 pub use Rattle.feed_rules.specs.Laws
-pub use Rattle.feed_rules.specs.WorkedEvents
+pub mod WorkedEvents
 pub use Rattle.feed_rules.specs.Verdicts
 pub use Rattle.feed_reports.specs.Events as FileEvents
 pub use Rattle.feed_reports.specs.Writing
 pub use Rattle.feed_reports.specs.MagicNumbers
 pub use Rattle.feed_reports.specs.Reports
-pub use Rattle.feed_reports.specs.WorkedReports
+pub mod WorkedReports
 pub use Rattle.feed_streams.specs.Words as StreamWords
 pub use Rattle.feed_streams.specs.Streams
 pub use Rattle.feed_streams.specs.Acknowledgements
@@ -28,14 +28,14 @@ pub use Rattle.feed_streams.specs.ResumePositions
 pub use Rattle.feed_streams.specs.Requests
 pub use Rattle.feed_streams.specs.RequestErrors
 pub use Rattle.feed_streams.specs.Following
-pub use Rattle.feed_streams.specs.WorkedStreams
+pub mod WorkedStreams
 pub use Rattle.feed_serving.specs.Requests as ServedRequests
 pub use Rattle.feed_serving.specs.Positions
 pub use Rattle.feed_serving.specs.Serving
 pub use Rattle.feed_serving.specs.Sending
 pub use Rattle.feed_serving.specs.ServedNames
 pub use Rattle.feed_serving.specs.Laws as ServingLaws
-pub use Rattle.feed_serving.specs.WorkedServing
+pub mod WorkedServing
 pub use Rattle.feed_kept.specs.Words as KeptWords
 pub use Rattle.feed_kept.specs.CommitLines
 pub use Rattle.feed_kept.specs.Kept
@@ -44,10 +44,10 @@ pub use Rattle.feed_kept.specs.Keepers
 pub use Rattle.feed_kept.specs.Worked as WorkedKept
 pub use Rattle.feed_runs.specs.Runs
 pub use Rattle.feed_runs.specs.Laws as RunLaws
-pub use Rattle.feed_runs.specs.Repair
-pub use Rattle.feed_runs.specs.Lines
+pub mod Repair
+pub mod Lines
 pub use Rattle.feed_runs.specs.Rehearsing
-pub use Rattle.feed_runs.specs.WorkedRuns
+pub mod WorkedRuns
 pub use Rattle.feed_text.specs.Pieces
 pub use Rattle.feed_text.specs.Times
 pub use Rattle.feed_text.specs.ValueText
@@ -63,3 +63,4 @@ pub use Rattle.feed_text.specs.ImageText
 pub use Rattle.feed_writers.specs.Quoting
 pub use Rattle.feed_writers.specs.TimesOfDay
 pub use Rattle.wire_buf.specs.Watched
+pub mod EventRows

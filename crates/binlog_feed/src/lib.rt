@@ -9,6 +9,11 @@
 #![tactic(auto)]
 
 pub mod laws;
+mod worked_reports;
+mod worked_rules;
+mod worked_runs;
+mod worked_serving;
+mod worked_streams;
 
 pub use feed_kept::{Keeper, kept};
 pub use feed_reports::report;

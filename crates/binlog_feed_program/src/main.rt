@@ -24,9 +24,6 @@ const FIRST_POSITION: u32 = 4;
 /// The buffer size for reading a file and for writing standard output, in bytes.
 const BUFFER_LEN: usize = 262_144;
 
-/// The buffer size for writing a report, in bytes; the text of a longer transaction isn't copied to the buffer.
-const REPORT_BUFFER_LEN: usize = 65_536;
-
 /// The buffer size for reading standard input, in bytes.
 const PIECE_LEN: usize = 65_536;
 
@@ -67,11 +64,8 @@ fn flushed<W: Write>(writer: &mut W, verdict: Verdict) -> Verdict {
 
 /// Writes the report of a binary log to standard output.
 fn report_to_stdout<P: Print, R: Read + Drop>(rt: &P, alloc: Global, reader: R) -> Verdict {
-    let Ok(out) = BufWriter::with_capacity(alloc, REPORT_BUFFER_LEN, io::writer(rt)) else {
-        return Verdict::Memory;
-    };
     let mut reader = Watched::new(reader);
-    let mut writer = Watched::new(out);
+    let mut writer = Watched::new(io::writer(rt));
     let verdict = report(alloc, &mut reader, &crc32, &mut writer);
     flushed(&mut writer.into_inner(), verdict)
 }

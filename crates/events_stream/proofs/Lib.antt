@@ -1,5 +1,3 @@
-pub mod ReadingLemmas
-pub mod TakingLemmas
 pub mod FileLemmas
 pub mod EventLemmas
 pub mod WholeLemmas

@@ -1,5 +1,3 @@
-pub mod Readings
-pub mod ReadingViews
 pub mod OwnedEvents
 pub mod OwnedBodies
 pub mod EventViews

@@ -1,7 +1,7 @@
 //! Readers of a log's events: the format description in force, and table maps.
 
-use events_frames::EventError;
-use events_stream::EventStreamReader;
+use events_frames::{EventError, EventParts};
+use events_reader::EventStreamReader;
 use events_tests::worked::{BEGIN, DESCRIPTION, TABLE_MAP, changed};
 use rows_consts::BinlogVersion;
 use std::alloc::{AllocError, Global};
@@ -20,6 +20,14 @@ fn takes(reader: &mut EventStreamReader, event: &[u8]) -> bool {
 /// Why the bytes aren't accepted.
 fn fails(reader: &mut EventStreamReader, event: &[u8]) -> Option<EventError> {
     reader.read_slice(event).err()
+}
+
+/// Accepts the parts of the bytes under the format description in force; returns why they aren't accepted.
+fn fails_by_parts(reader: &mut EventStreamReader, event: &[u8]) -> Option<EventError> {
+    match EventParts::split(event, reader.get_fde().footer()) {
+        Ok(parts) => reader.accept_parts(&parts).err(),
+        Err(fault) => Some(fault),
+    }
 }
 
 /// Whether the reader has the table map of table id 7.
@@ -119,6 +127,22 @@ fn failed_events(alloc: Global) -> bool {
         && has_map(&reader)
 }
 
+// Parts change a reader as their event does; those of a description with an unknown algorithm aren't accepted.
+fn accepted_parts(alloc: Global) -> bool {
+    let Ok(unknown) = changed(alloc, DESCRIPTION, 76, 2) else {
+        return false;
+    };
+    let Ok(mut reader) = reader(alloc) else {
+        return false;
+    };
+    fails_by_parts(&mut reader, TABLE_MAP).is_none()
+        && has_map(&reader)
+        && fails_by_parts(&mut reader, &unknown) == Some(EventError::Algorithm)
+        && is_in_force(&reader, b"")
+        && fails_by_parts(&mut reader, DESCRIPTION).is_none()
+        && is_in_force(&reader, b"5.6.1")
+}
+
 #[test]
 fn readers(rt: HostRuntime) {
     let alloc = rt.alloc();
@@ -127,4 +151,5 @@ fn readers(rt: HostRuntime) {
     assert!(rt; description_in_force(alloc));
     assert!(rt; failed_descriptions_not_in_force(alloc));
     assert!(rt; failed_events(alloc));
+    assert!(rt; accepted_parts(alloc));
 }

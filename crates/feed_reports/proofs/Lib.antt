@@ -1,6 +1,6 @@
 pub mod EventLemmas
 pub mod WritingLemmas
+pub mod WaitingLemmas
 pub mod ReportLemmas
-pub mod CompleteReports
 pub mod MagicNumberLemmas
 pub mod PrefixLemmas

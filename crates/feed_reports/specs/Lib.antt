@@ -2,4 +2,4 @@ pub mod Events
 pub mod Writing
 pub mod MagicNumbers
 pub mod Reports
-pub mod WorkedReports
+pub mod Waiting

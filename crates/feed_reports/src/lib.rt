@@ -3,8 +3,9 @@
 
 pub mod laws;
 mod reporting;
-pub mod worked;
+mod waiting;
 mod writing;
 
 pub use reporting::{read_magic_number, report, verdict_of};
+pub use waiting::{MAX_WAITING_LEN, WaitingBytes};
 pub use writing::{put_all, put_shown};

@@ -6,7 +6,6 @@ use Rattle.rows_meta.specs.TableMaps.{TableMap}
 use Rattle.rows_meta.specs.MapViews.{map_of}
 use Rattle.rows_images.specs.ImageShapes.{table_plan}
 use Rattle.rows_events.specs.EventColumnViews.{shapes_of}
-use Rattle.feed_text.specs.Buffers.{text_in}
 use Rattle.feed_rules.specs.declared.tables.Table.{Table}
 use Rattle.feed_rules.specs.declared.tables.Tables.{Tables}
 use Rattle.feed_rules.specs.declared.verdict.Verdict.{Verdict}
@@ -198,7 +197,7 @@ pub record IsFound (s : Tables) (event_type : RowsEventType) (body : List ℕ) (
   pub known : IsKnownRows s event_type body event (map_of t.map)
   pub rows_are : rows_data ≡ event.rows_data
   pub shapes_are : event_shapes event (plan_by (map_of t.map)) ≡ Ok (shapes_of t.images.columns)
-  pub start_is : text_in t.images.start ≡ change_word (change_of event) ++ names_text (map_of t.map).database (map_of t.map).table
+  pub start_is : t.images.start.items ≡ change_word (change_of event) ++ names_text (map_of t.map).database (map_of t.map).table
 
 some_rows : (x y : List ℕ) → x ≡ y → 0 < length y → (length x == 0) ≡ false
 some_rows x y is some = ne_eqb (length x) 0 (λ h. absurd (omega (arith, ap length is, h, some)))
@@ -208,7 +207,7 @@ pub found_rows : (s : Tables) (event_type : RowsEventType) (body head rest rows_
 found_rows s event_type body head rest rows_data t id joined size id_is found type fields some =
     let m = map_of t.map in
     let knows = t.images_are event_type type in
-    let e = known_event event_type head t.images.fields.items rows_data (table_plan t.plan) (shapes_of t.images.columns) t.names.items (text_in t.images.start) knows size in
+    let e = known_event event_type head t.images.fields.items rows_data (table_plan t.plan) (shapes_of t.images.columns) t.names.items t.images.start.items knows size in
     let whole : body ≡ head ++ (t.images.fields.items ++ rows_data) = joined ∙ ap (λ (l : List ℕ). head ++ l) fields in
     record {
       event = e.event;
@@ -222,7 +221,7 @@ found_rows s event_type body head rest rows_data t id joined size id_is found ty
       start_is = knows.start_is ∙ ap (λ (u : RowsEventType). change_word (change_by (images_of u)) ++ t.names.items) (sym e.type_is) ∙ ap (λ (names : List ℕ). change_word (change_of e.event) ++ names) t.plan_is.1;
     }
 
-pub found_put : (s : Tables) (event_type : RowsEventType) (body : List ℕ) (t : Table) (rows_data start before after : List ℕ) (shapes : List ImageShape) → IsFound s event_type body t rows_data → shapes ≡ shapes_of t.images.columns → start ≡ text_in t.images.start
+pub found_put : (s : Tables) (event_type : RowsEventType) (body : List ℕ) (t : Table) (rows_data start before after : List ℕ) (shapes : List ImageShape) → IsFound s event_type body t rows_data → shapes ≡ shapes_of t.images.columns → start ≡ t.images.start.items
     → PutsLines shapes start rows_data before after → PutsKnownRows s event_type body before after
 found_put s event_type body t rows_data start before after shapes f shapes_is start_is h =
     let m = map_of t.map in

@@ -5,14 +5,10 @@ pub mod KindReadLemmas
 pub mod PartLemmas
 pub mod DescriptionLemmas
 pub mod RuleLemmas
-pub mod KindLemmas
 pub mod BetweenLemmas
-pub mod WholeLemmas
-pub mod LineLemmas
 pub mod RowLineLemmas
 pub mod TextLemmas
 pub mod KnownBodyLemmas
-pub mod GtidFieldLemmas
 pub mod TableLemmas
 pub mod FeedStateLemmas
 pub mod KnownEventLemmas
@@ -24,3 +20,4 @@ pub mod KnownImageLemmas
 pub mod TakingLemmas
 pub mod UsualLemmas
 pub mod DamageLemmas
+pub mod AcceptedLemmas

@@ -22,9 +22,10 @@ use Rattle.rows_events.specs.EventShapes.{event_shapes, row_read}
 use Rattle.rows_events.specs.RowsEvents.{RowsBody}
 use Rattle.feed_text.specs.CellText.{cell_text}
 use Rattle.feed_text.specs.ImageText.{cells_text, Cells, cells_then, PutsCells, StopsAt, IsCellsError}
+use Rattle.feed_text.specs.RowText.{AreRowTexts, row_line}
 use Rattle.feed_rules.specs.declared.verdict.Verdict.{Verdict}
 use Rattle.feed_rules.specs.Rows.{image_texts, row_texts, value_or_none, walked_texts, event_texts}
-use Rattle.feed_rules.specs.RowLines.{row_verdict, IsRowError, with_text, image_text_at, with_texts, images_texts_at, row_texts_at, rows_texts_at, PutsImage, PutsImages, PutsRow, PutsLines, PutsRows, IsRowsError, line_of}
+use Rattle.feed_rules.specs.RowLines.{row_verdict, IsRowError, with_text, image_text_at, with_texts, images_texts_at, row_texts_at, rows_texts_at, PutsImage, PutsImages, PutsRow, PutsLines, PutsRows, IsRowsError, IsUnderway, line_of}
 use Rattle.feed_rules.specs.Texts.{images_text}
 
 -- ---- readings without a value
@@ -203,14 +204,6 @@ walked_more images texts w is = of_fault w.fault
     of_fault None = rw is (of_items (row_texts w.items))
     of_fault (Some e) = refl
 
--- the lines so far, and those of the remaining rows
-pub record IsUnderway (shapes : List ImageShape) (start bytes rest before now : List ℕ) : Type 0 where
-  pub texts : List (List (List ℕ))
-  pub steps : ℕ
-  pub enough : length rest ≤ steps
-  pub are : walked_texts (walk (row_at shapes) (length bytes) bytes) ≡ option_map (λ m. texts ++ m) (walked_texts (walk (row_at shapes) steps rest))
-  pub appended : now ≡ before ++ flat_map (line_of start) texts
-
 module _ (shapes : List ImageShape) (start bytes before : List ℕ) where
   -- no line yet
   pub none_put : (whole : List ℕ) → whole ≡ bytes → IsUnderway shapes start bytes whole before before
@@ -252,6 +245,17 @@ module _ (shapes : List ImageShape) (start bytes before : List ℕ) where
         appended = text_is;
       }
 
+  -- lines of rows that have one image each
+  pub short_put : (s : ImageShape) → shapes ≡ s ∷ [] → (texts : List (List ℕ)) (rest after now new : List ℕ) → IsUnderway shapes start bytes rest before now → AreRowTexts s texts rest after → new ≡ now ++ flat_map (row_line start) texts
+      → IsUnderway shapes start bytes after before new
+  short_put s one [] rest after now new u are is = rw (is, append-nil now, sym are) u
+  short_put s one (text ∷ texts) rest after now new u (mid, row, more) is =
+      let line : now ++ row_line start text ≡ (now ++ start) ++ (text ++ 10 ∷ []) = sym (append_assoc now start (text ++ 10 ∷ [])) in
+      let put : PutsRow shapes rest mid (now ++ start) ((now ++ start) ++ text) =
+      rw one (row_put (s ∷ []) rest mid (now ++ start) ((now ++ start) ++ text) (one_image s rest mid (now ++ start) ((now ++ start) ++ text) (record { cells = row.cells; text = text; read = row.read; is = row.is; appended = refl })) row.shorter) in
+      let next = more_put rest mid now (now ++ start) ((now ++ start) ++ text) (now ++ row_line start text) (omega (arith, row.shorter)) u refl put (line ∙ sym (append_assoc (now ++ start) text (10 ∷ []))) in
+      short_put s one texts mid after (now ++ row_line start text) new next more (is ∙ sym (append_assoc now (row_line start text) (flat_map (row_line start) texts)))
+
   -- all lines
   pub all_put : (rest now : List ℕ) → length rest ≡ 0 → IsUnderway shapes start bytes rest before now → PutsLines shapes start bytes before now
   unfolding row_texts
@@ -285,6 +289,11 @@ module _ (shapes : List ImageShape) (start bytes before : List ℕ) where
   lines_failed rest now v some u (inl h) =
       inl (h.0, u.are ∙ ap (λ (o : Option (List (List (List ℕ)))). option_map (λ m. u.texts ++ m) o) (stops_at u.steps rest some u.enough h.1))
   lines_failed rest now v some u (inr m) = inr m
+
+-- rows take bytes
+pub rows_shorter : (s : ImageShape) (texts : List (List ℕ)) (bytes rest : List ℕ) → AreRowTexts s texts bytes rest → length rest ≤ length bytes
+rows_shorter s [] bytes rest are = omega (arith, ap length are)
+rows_shorter s (text ∷ texts) bytes rest (mid, row, more) = omega (arith, rows_shorter s texts mid rest more, row.shorter)
 
 -- the results of the code's calls
 pub second_put : (s t : ImageShape) (bytes mid before first second after : List ℕ) (r : Result (Bor (List ℕ)) Verdict) → PutsImage s bytes mid before first → second ≡ first ++ codes " to"

@@ -9,6 +9,7 @@ pub mod QueryTexts
 pub mod BodiesOfMaps
 pub mod KnownImages
 pub mod UsualDescriptions
+pub mod HeldDescriptions
 pub mod KindViews
 pub mod Checks
 pub mod Transactions
@@ -21,5 +22,4 @@ pub mod KnownEvents
 pub mod SplitEvents
 pub mod EventCheckers
 pub mod Laws
-pub mod WorkedEvents
 pub mod Verdicts

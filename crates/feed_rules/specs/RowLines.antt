@@ -1,9 +1,9 @@
 -- How the code prints rows: image after image, row after row.
-use Rattle.std.specs.Prelude.{◌≡◌, ◌⊎◌, ◌<◌, ℕ, List, ◌++◌, length, Option, Some, None, Ok}
+use Rattle.std.specs.Prelude.{◌≡◌, ◌⊎◌, ◌<◌, ◌≤◌, ℕ, List, ◌++◌, length, option_map, Option, Some, None, Ok}
 use Rattle.std.specs.List.{flat_map}
 use Rattle.rows_cells.specs.Images.{ColumnValue, ImageShape, image_at}
 use Rattle.rows_cells.specs.EventRows.{images_at, row_at}
-use Rattle.rows_jsonb.specs.Items.{items_at}
+use Rattle.rows_jsonb.specs.Items.{walk, items_at}
 use Rattle.rows_jsonb.specs.JsonParsing.{IsNone}
 use Rattle.rows_times.specs.Readings.{Reading, ◌>>=◌}
 use Rattle.rows_times.specs.declared.fault.RowsError.{RowsError}
@@ -80,6 +80,14 @@ pub record PutsLines (shapes : List ImageShape) (start bytes before after : List
   pub texts : List (List (List ℕ))
   pub are : rows_texts_at shapes bytes ≡ Some texts
   pub appended : after ≡ before ++ flat_map (line_of start) texts
+
+-- the lines of the first rows were appended, and `rest` are the bytes after these rows
+pub record IsUnderway (shapes : List ImageShape) (start bytes rest before now : List ℕ) : Type 0 where
+  pub texts : List (List (List ℕ))
+  pub steps : ℕ
+  pub enough : length rest ≤ steps
+  pub are : walked_texts (walk (row_at shapes) (length bytes) bytes) ≡ option_map (λ m. texts ++ m) (walked_texts (walk (row_at shapes) steps rest))
+  pub appended : now ≡ before ++ flat_map (line_of start) texts
 
 abbrev pub IsRowsError : Option (List (List (List ℕ))) → Verdict → Type 0
 IsRowsError texts v = ((v ≡ verdicts.Row) × (texts ≡ None)) ⊎ (v ≡ verdicts.Memory)

@@ -6,12 +6,10 @@ ghost use Rattle.rows_events.specs.RowsEvents.{written_ctx};
 ghost use Rattle.rows_events.specs.Views.{body_of};
 ghost use Rattle.rows_events.specs.declared.rows_event_type.RowsEventType.{RowsEventType};
 ghost use Rattle.rows_images.specs.ImageShapes.{table_plan};
-ghost use Rattle.feed_text.specs.Buffers.{text_in};
 ghost use Rattle.feed_rules.specs.Bodies.{rows_event_in};
 ghost use Rattle.feed_rules.specs.KnownImages.{KnowsImages};
 
-use crate::texts::put_row_start;
-use feed_text::TextBuffer;
+use crate::texts::change_word;
 use rows_events::{EventColumns, RowsEvent, RowsEventType};
 use rows_images::ColumnPlan;
 use std::alloc::Global;
@@ -28,7 +26,7 @@ pub(crate) struct KnownImages {
     /// Its bytes between the flags and the rows.
     fields: Vec<u8>,
     pub(crate) columns: EventColumns,
-    pub(crate) start: TextBuffer<Global>,
+    pub(crate) start: Vec<u8>,
 }
 
 impl KnownImages {
@@ -40,7 +38,7 @@ impl KnownImages {
             event_type: None,
             fields: Vec::new(alloc),
             columns: EventColumns::new(alloc),
-            start: TextBuffer::new(alloc),
+            start: Vec::new(alloc),
         }
     }
 
@@ -75,7 +73,7 @@ impl KnownImages {
         names: &[u8],
     )
         requires { rows_event_in (written_ctx event_type) body.now ≡ Some (body_of rows.now) }
-        ensures { (t : RowsEventType) → self.new.event_type ≡ Some t → KnowsImages t self.new.fields.items (table_plan plan.now) (shapes_of self.new.columns) names.now (text_in self.new.start) }
+        ensures { (t : RowsEventType) → self.new.event_type ≡ Some t → KnowsImages t self.new.fields.items (table_plan plan.now) (shapes_of self.new.columns) names.now self.new.start.items }
     {
         self.event_type = None;
         let data_len = rows.rows_data().len();
@@ -89,7 +87,10 @@ impl KnownImages {
         let Ok(()) = self.fields.extend_from_slice(fields) else {
             return;
         };
-        let Ok(()) = put_row_start(rows.images(), names, &mut self.start) else {
+        let Ok(()) = self.start.extend_from_slice(change_word(rows.images())) else {
+            return;
+        };
+        let Ok(()) = self.start.extend_from_slice(names) else {
             return;
         };
         let Ok(()) = self.columns.fill(rows, plan) else {

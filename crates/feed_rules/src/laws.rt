@@ -1,34 +1,29 @@
 //! Laws of the feed's rules, each stated as the contract of a function that does nothing.
 
-ghost use Rattle.std.specs.Prelude.{◌≡◌, ◌↔◌, ◌≤◌, ◌+◌, ℕ, List, [], ◌++◌, Some, None, true, false, codes, length, nat_eq};
-ghost use Rattle.std.specs.List.{starts_with};
-ghost use Rattle.rows_meta.specs.TableMaps.{TableMap, IsTableMap};
+ghost use Rattle.std.specs.Prelude.{◌≡◌, ◌≤◌, ◌+◌, ℕ, List, ◌++◌, length};
+ghost use Rattle.rows_meta.specs.TableMaps.{IsTableMap};
 ghost use Rattle.rows_meta.specs.MapViews.{map_of};
 ghost use Rattle.rows_meta.specs.declared.table_map.TableMapEvent.{TableMapEvent};
 ghost use Rattle.rows_images.specs.ImageShapes.{table_plan};
 ghost use Rattle.rows_images.specs.PlanViews.{IsPlanOf};
 ghost use Rattle.rows_images.specs.declared.plan.ColumnPlan.{ColumnPlan};
-ghost use Rattle.rows_events.specs.EventShapes.{event_rows};
-ghost use Rattle.rows_events.specs.RowsEvents.{RowsBody, IsRowsEvent};
+ghost use Rattle.rows_events.specs.RowsEvents.{IsRowsEvent};
 ghost use Rattle.rows_events.specs.declared.rows_event_ctx.RowsEventCtx.{RowsEventCtx};
 ghost use Rattle.events_bodies.specs.Bodies.{IsRotate, IsXid};
 ghost use Rattle.events_frames.specs.Events.{header_size_field};
 ghost use Rattle.events_frames.specs.EventParts.{Parts, IsEvent, Describes, min_content_after};
-ghost use Rattle.events_frames.specs.Descriptions.{Description, IsDescription};
+ghost use Rattle.events_frames.specs.Descriptions.{Description};
 ghost use Rattle.events_frames.specs.Footers.{Footer};
-ghost use Rattle.events_gtids.specs.Gtids.{GtidBody, IsGtid};
 ghost use Rattle.events_queries.specs.Queries.{IsQuery};
 ghost use Rattle.feed_rules.specs.Readers.{IsBodyOf};
-ghost use Rattle.feed_rules.specs.Bodies.{query_in, rotate_in, xid_in, table_map_in, rows_event_in, gtid_in, is_description_body};
+ghost use Rattle.feed_rules.specs.Bodies.{query_in, rotate_in, xid_in, table_map_in, rows_event_in};
 ghost use Rattle.feed_rules.specs.Events.{Event, header_of, content, parts, description_by, in_force};
-ghost use Rattle.feed_rules.specs.Rows.{plan_by, rows_result, rows_in, fault_in};
-ghost use Rattle.feed_rules.specs.Kinds.{Kind, Rows, is_inside, kinds, newest_map};
+ghost use Rattle.feed_rules.specs.Rows.{plan_by};
+ghost use Rattle.feed_rules.specs.Kinds.{kinds};
 ghost use Rattle.feed_rules.specs.Checks.{fault_of};
-ghost use Rattle.feed_rules.specs.Transactions.{Line, Transaction, lines_at};
-ghost use Rattle.feed_rules.specs.Rules.{Rules, rules, good, shown, up_to_fault, fault_after, shown_after};
-ghost use Rattle.feed_rules.specs.Texts.{line_text};
-ghost use Rattle.feed_rules.specs.Laws.{IsOpen, IsCompleteAtEvent, Each, IsBetween};
-
+ghost use Rattle.feed_rules.specs.Transactions.{Transaction};
+ghost use Rattle.feed_rules.specs.Rules.{Rules, rules, shown, up_to_fault, fault_after, shown_after};
+ghost use Rattle.feed_rules.specs.Laws.{Each, IsBetween};
 /// Each `.._in` function reads a body exactly if the body is in its type's format, and returns the value that the format states.
 pub fn bodies_are_read()
     ensures query { IsBodyOf IsQuery query_in }
@@ -50,31 +45,9 @@ pub fn descriptions_are_read()
     ensures { (d : Description) (p : Parts) → Describes d p → d ≡ description_by p }
 {}
 
-/// `gtid_in` reads a body exactly if it is in a GTID event's format, with the UUID and the number that the format states.
-/// `is_description_body` accepts a body exactly if it is in a format description's format.
-pub fn gtids_are_read()
-    ensures gtid { (g : GtidBody) (body : List ℕ) → IsGtid g body [] → gtid_in body ≡ Some (g.sid, g.gno) }
-    ensures taken { (body : List ℕ) (x : List ℕ × ℕ) → gtid_in body ≡ Some x → (g : GtidBody) × IsGtid g body [] }
-    ensures description { (body : List ℕ) → (is_description_body body ≡ true) ↔ ((d : Description) × IsDescription d body []) }
-{}
-
 /// A prefix of the events shows a prefix of the transactions, under any rules.
 pub fn first_events_show_the_first_transactions()
     ensures { (r : Rules) (first more : List Event) → (later : List Transaction) × (shown r (first ++ more) ≡ shown r first ++ later) }
-{}
-
-/// If a transaction is open, there is a begin with no begin, commit, rollback or description after it.
-pub fn inside_is_an_open_begin()
-    ensures { (past : List Kind) → is_inside past ≡ true → IsOpen past }
-{}
-
-/// Each shown transaction is complete at one of the events before the first fault: it reaches from a begin to the commit that
-/// this event is, or it is the statement, outside a transaction, that this event is. None of its row and statement lines begins
-/// with `begin ` or `commit `.
-pub fn shown_transactions_are_whole()
-    ensures whole { (f : List ℕ → ℕ) (l : List Event) → Each (IsCompleteAtEvent (good (rules f) l)) (shown (rules f) l) }
-    ensures not_opening { (x : Line) → starts_with nat_eq (line_text x) (codes "begin ") ≡ false }
-    ensures not_closing { (x : Line) → starts_with nat_eq (line_text x) (codes "commit ") ≡ false }
 {}
 
 /// From a position between two transactions on, only the later events and the description in force decide what is shown and which
@@ -87,12 +60,4 @@ pub fn what_came_before_does_not_matter()
 /// The plan that the specification computes from a table map is that of the code's plan of the map.
 pub fn plans_are_those_of_maps()
     ensures { (plan : ColumnPlan) (map : TableMapEvent) → IsPlanOf plan map → table_plan plan ≡ plan_by (map_of map) }
-{}
-
-/// A rows event has one line for each of its rows. If it is no fault, its rows data is rows up to its end, each of them one image
-/// or a pair of images, and it has as many lines as rows.
-pub fn a_line_for_each_row()
-    ensures lines { (past : List Kind) (r : RowsBody) → length (lines_at past (Rows r)) ≡ length (rows_in (rows_result (newest_map past r.table_id) r)) }
-    ensures pairs { (r : RowsBody) (t : TableMap) → fault_in (rows_result (Some t) r) ≡ None → length (rows_in (rows_result (Some t) r)) ≡ length (event_rows r (plan_by t)).items }
-    ensures to_the_end { (r : RowsBody) (t : TableMap) → fault_in (rows_result (Some t) r) ≡ None → (event_rows r (plan_by t)).fault ≡ None }
 {}

@@ -1,9 +1,12 @@
 //! The rules of the change feed: which transactions the events of a binary log show, which event is the first fault, and why.
 #![tactic(auto)]
 
+mod checked_maps;
 mod checked_parts;
+mod description_in_force;
 mod event_checker;
 mod event_kind;
+mod header_fields;
 mod known_images;
 pub mod laws;
 mod lines;
@@ -13,7 +16,6 @@ mod tables;
 mod texts;
 mod transactions;
 mod verdict;
-pub mod worked;
 
 pub use event_checker::EventChecker;
 pub use event_kind::{EventKind, Gtid};

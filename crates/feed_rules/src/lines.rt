@@ -1,10 +1,10 @@
 //! Prints the lines of a rows event.
 
-ghost use Rattle.std.specs.Prelude.{◌≡◌, ◌++◌, IfOk, IfErr, OnOk};
+ghost use Rattle.std.specs.Prelude.{◌≡◌, ◌≤◌, ◌++◌, ℕ, List, length, IfOk, IfErr, OnOk};
 ghost use Rattle.rows_cells.specs.ImageViews.{image_shape};
 ghost use Rattle.rows_cells.specs.RowViews.{row_shape};
 ghost use Rattle.feed_text.specs.Buffers.{text_in};
-ghost use Rattle.feed_rules.specs.RowLines.{row_verdict, IsRowError, image_text_at, images_texts_at, row_texts_at, rows_texts_at, PutsImage, PutsImages, PutsRow, PutsLines, PutsRows, IsRowsError};
+ghost use Rattle.feed_rules.specs.RowLines.{row_verdict, IsRowError, image_text_at, images_texts_at, row_texts_at, rows_texts_at, PutsImage, PutsImages, PutsRow, PutsLines, PutsRows, IsRowsError, IsUnderway};
 ghost use Rattle.feed_rules.specs.Rows.{event_texts};
 ghost use Rattle.rows_images.specs.ImageShapes.{table_plan};
 ghost use Rattle.rows_events.specs.Views.{body_of};
@@ -112,7 +112,30 @@ fn put_row<'a, A: Allocator>(
     Ok(rest)
 }
 
-/// Appends a line for each row of the rows data, up to its end. Each line begins with `start`.
+/// Appends the lines of the first rows, as long as a row has one image and the texts of its cells are short; returns the bytes
+/// from the next row on. It appends none unless `is_tried`.
+fn put_short_lines<'a, A: Allocator>(
+    plan: RowPlan<'_>,
+    is_tried: bool,
+    start: &[u8],
+    rows_data: &'a [u8],
+    text: &mut TextBuffer<A>,
+) -> &'a [u8]
+    ensures lines { (bytes before : List ℕ) → IsUnderway (row_shape plan.entry) start.now bytes rows_data.now before (text_in text.old)
+        → IsUnderway (row_shape plan.entry) start.now bytes result.now before (text_in text.new) }
+    ensures most { length result.now ≤ length rows_data.now }
+{
+    if !is_tried {
+        return rows_data;
+    }
+    match plan.second {
+        None => text.put_short_rows(plan.first, start, rows_data),
+        Some(_) => rows_data,
+    }
+}
+
+/// Appends a line for each row of the rows data, up to its end. Each line begins with `start`. After a row that isn't short it
+/// tries short rows again, unless there was none the last time.
 pub(crate) fn put_lines<A: Allocator>(
     alloc: Global,
     plan: RowPlan<'_>,
@@ -123,11 +146,14 @@ pub(crate) fn put_lines<A: Allocator>(
     ensures ok { OnOk result (PutsLines (row_shape plan.entry) start.now rows_data.now (text_in text.old) (text_in text.new)) }
     ensures err { IfErr result (IsRowsError (rows_texts_at (row_shape plan.entry) rows_data.now)) }
 {
-    let mut rest = rows_data;
+    let mut rest = put_short_lines(plan, true, start, rows_data, text);
+    let mut is_tried = rest.len() < rows_data.len();
     while !rest.is_empty() {
         text.put_text(start)?;
-        rest = put_row(alloc, plan, rest, text)?;
+        let next = put_row(alloc, plan, rest, text)?;
         text.put(b'\n')?;
+        rest = put_short_lines(plan, is_tried, start, next, text);
+        is_tried = rest.len() < next.len();
     }
     Ok(())
 }

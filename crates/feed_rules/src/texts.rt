@@ -77,7 +77,7 @@ pub(crate) fn put_row_start<A: Allocator>(
 }
 
 /// The word for what an event with these images does to a row, and a space.
-fn change_word(images: RowImages) -> &'static [u8]
+pub(crate) fn change_word(images: RowImages) -> &'static [u8]
     ensures { result.now ≡ change_word (change_by images) }
 {
     match images {

@@ -7,4 +7,3 @@ pub mod SeekLemmas
 pub mod PassingLemmas
 pub mod FileLemmas
 pub mod FieldLemmas
-pub mod ServingLemmas

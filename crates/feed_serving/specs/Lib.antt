@@ -6,4 +6,3 @@ pub mod ServedNames
 pub mod Passing
 pub mod Waiting
 pub mod Laws
-pub mod WorkedServing

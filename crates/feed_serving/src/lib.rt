@@ -9,7 +9,6 @@ mod sending;
 mod served;
 mod serving;
 mod waiting;
-pub mod worked;
 
 pub use served::{Refusal, Served};
 pub use serving::{serve, serve_as, serve_semi};

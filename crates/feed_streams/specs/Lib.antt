@@ -6,4 +6,3 @@ pub mod Requests
 pub mod RequestErrors
 pub mod Incoming
 pub mod Following
-pub mod WorkedStreams

@@ -7,7 +7,6 @@ mod format;
 mod incoming;
 pub mod laws;
 mod requests;
-pub mod worked;
 
 pub use follower::Follower;
 pub use format::PayloadFormat;

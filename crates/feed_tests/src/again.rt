@@ -49,11 +49,11 @@ fn asks_from<F: Fn(&[u8]) -> u32>(
     }
 }
 
-#[test]
-fn again_before_anything_came(rt: HostRuntime) -> Result<(), Fail> {
-    let (mut follower, first) = Follower::start(rt.alloc(), 4, 1, NAME, LIMIT, crc32)?;
-    assert!(rt; asks_for(&mut follower, &first) && asks_for(&mut follower, &first));
-    Ok(())
+fn again_before_anything_came(alloc: Global) -> bool {
+    let Ok((mut follower, first)) = Follower::start(alloc, 4, 1, NAME, LIMIT, crc32) else {
+        return false;
+    };
+    asks_for(&mut follower, &first) && asks_for(&mut follower, &first)
 }
 
 /// Whether a follower that was fed these bytes and not finished shows the first transaction and asks for the rest.
@@ -68,13 +68,15 @@ fn asks_for_the_second(alloc: Global, prefix: &[u8]) -> Result<bool, RequestErro
     )
 }
 
-#[test]
-fn again_before_finish(rt: HostRuntime) -> Result<(), Fail> {
-    let alloc = rt.alloc();
-    let answer = answer_from(alloc, 4, &two_inserts(alloc)?)?;
+fn again_before_finish(alloc: Global) -> bool {
+    let Ok(log) = two_inserts(alloc) else {
+        return false;
+    };
+    let Ok(answer) = answer_from(alloc, 4, &log) else {
+        return false;
+    };
     let (prefix, _) = answer.split_at(200.min(answer.len()));
-    assert!(rt; answer.len() == 325 && asks_for_the_second(alloc, prefix)?);
-    Ok(())
+    answer.len() == 325 && asks_for_the_second(alloc, prefix) == Ok(true)
 }
 
 /// Whether a follower that was fed the answer for the first transaction asks for the rest, and after that answer asks again; and
@@ -94,15 +96,18 @@ fn ends_with_a_fault(alloc: Global, first: &[u8], rest: &[u8]) -> Result<bool, R
     Ok(was_whole && is_whole && is_fault && writer.into_inner().as_slice() == BOTH.as_bytes())
 }
 
-#[test]
-fn again_after_end_and_fault(rt: HostRuntime) -> Result<(), Fail> {
-    let alloc = rt.alloc();
-    let log = two_inserts(alloc)?;
+fn again_after_end_and_fault(alloc: Global) -> bool {
+    let Ok(log) = two_inserts(alloc) else {
+        return false;
+    };
     let (small, _) = log.split_at(142.min(log.len()));
-    let first = answer_from(alloc, 4, small)?;
-    let rest = answer_from(alloc, 142, &log)?;
-    assert!(rt; ends_with_a_fault(alloc, &first, &rest)?);
-    Ok(())
+    let Ok(first) = answer_from(alloc, 4, small) else {
+        return false;
+    };
+    let Ok(rest) = answer_from(alloc, 142, &log) else {
+        return false;
+    };
+    ends_with_a_fault(alloc, &first, &rest) == Ok(true)
 }
 
 /// Whether the whole log is printed, each transaction once, if the connection drops after these bytes and the answer to the next
@@ -132,4 +137,12 @@ fn answers_that_break_off_anywhere(rt: HostRuntime) -> Result<(), Fail> {
         assert!(rt; goes_on(alloc, &log, broken)?);
     }
     Ok(())
+}
+
+#[test]
+fn again(rt: HostRuntime) {
+    let alloc = rt.alloc();
+    assert!(rt; again_before_anything_came(alloc));
+    assert!(rt; again_before_finish(alloc));
+    assert!(rt; again_after_end_and_fault(alloc));
 }

@@ -30,37 +30,26 @@ fn frames(alloc: Global, payload: &[u8], bytes: &[u8]) -> bool {
     codec.encode(payload, &mut framed).is_ok() && framed.as_slice() == bytes
 }
 
-#[test]
-fn codec_framings_and_crc(rt: HostRuntime) {
-    let alloc = rt.alloc();
-    assert!(rt;
-        frames(alloc, b"123", &[3, 0, 0, 0, 0x31, 0x32, 0x33])
-            && frames(alloc, b"", &[0, 0, 0, 0])
-            && crc32(b"123456789") == 0xcbf4_3926
-    );
+fn codec_framings_and_crc(alloc: Global) -> bool {
+    frames(alloc, b"123", &[3, 0, 0, 0, 0x31, 0x32, 0x33])
+        && frames(alloc, b"", &[0, 0, 0, 0])
+        && crc32(b"123456789") == 0xcbf4_3926
 }
 
-#[test]
-fn published_checksums(rt: HostRuntime) {
-    assert!(rt;
-        crc32(b"") == 0
-            && crc32(b"123456789") == 0xcbf4_3926
-            && crc32(b"The quick brown fox jumps over the lazy dog") == 0x414f_a339
-    );
+fn published_checksums() -> bool {
+    crc32(b"") == 0
+        && crc32(b"123456789") == 0xcbf4_3926
+        && crc32(b"The quick brown fox jumps over the lazy dog") == 0x414f_a339
 }
 
-#[test]
-fn checksums_of_events_by_zlib(rt: HostRuntime) {
-    assert!(rt;
-        crc32(&BEGIN) == 0x30dc_be28
-            && crc32(&MAP) == 0xcc3c_c388
-            && crc32(&ROWS) == 0xeb5c_239e
-            && crc32(&XID) == 0xcad6_397d
-    );
+fn checksums_of_events_by_zlib() -> bool {
+    crc32(&BEGIN) == 0x30dc_be28
+        && crc32(&MAP) == 0xcc3c_c388
+        && crc32(&ROWS) == 0xeb5c_239e
+        && crc32(&XID) == 0xcad6_397d
 }
 
-#[test]
-fn checksums_of_each_short_length(rt: HostRuntime) {
+fn checksums_of_each_short_length() -> bool {
     let mut bytes = [0u8; 40];
     let mut byte = 0x9du8;
     for position in bytes.iter_mut() {
@@ -69,6 +58,18 @@ fn checksums_of_each_short_length(rt: HostRuntime) {
     }
     for len in 0..41 {
         let (prefix, _) = bytes.split_at(len);
-        assert!(rt; crc32(prefix) == bit_by_bit(prefix));
+        if crc32(prefix) != bit_by_bit(prefix) {
+            return false;
+        }
     }
+    true
+}
+
+#[test]
+fn checksums(rt: HostRuntime) {
+    let alloc = rt.alloc();
+    assert!(rt; codec_framings_and_crc(alloc));
+    assert!(rt; published_checksums());
+    assert!(rt; checksums_of_events_by_zlib());
+    assert!(rt; checksums_of_each_short_length());
 }

@@ -12,7 +12,6 @@ use feed_streams::Follower;
 use std::alloc::{AllocError, Global};
 use std::cell::Cell;
 use std::io::{self, ErrorKind, Read, Write};
-use std::test::*;
 use wire_buf::Watched;
 
 /// A writer that takes a number of bytes, and then fails.
@@ -105,15 +104,20 @@ fn notes_of(alloc: Global, file: &[u8]) -> Option<Vec<usize>> {
     }
 }
 
-#[test]
-fn transaction_is_written_before_more_is_asked_for(rt: HostRuntime) -> Result<(), Fail> {
-    let file = two_transactions(rt.alloc())?;
-    let notes = notes_of(rt.alloc(), &file).unwrap_or(Vec::new(rt.alloc()));
-    assert!(rt; notes.len() == 2 * TEXT.len());
-    for (index, note) in notes.iter().enumerate() {
-        assert!(rt; *note == if index < TEXT.len() { 142 } else { 280 });
+fn transaction_is_written_before_more_is_asked_for(alloc: Global) -> bool {
+    let Ok(file) = two_transactions(alloc) else {
+        return false;
+    };
+    let notes = notes_of(alloc, &file).unwrap_or(Vec::new(alloc));
+    if notes.len() != 2 * TEXT.len() {
+        return false;
     }
-    Ok(())
+    for (index, note) in notes.iter().enumerate() {
+        if *note != if index < TEXT.len() { 142 } else { 280 } {
+            return false;
+        }
+    }
+    true
 }
 
 /// Whether the report of a log whose reader fails after these bytes is `Read`, after this number of transactions.
@@ -136,10 +140,13 @@ fn is_cut(alloc: Global, prefix: &[u8], transactions: usize) -> bool {
         }
 }
 
-#[test]
-fn report_with_a_failing_reader(rt: HostRuntime) -> Result<(), Fail> {
-    let file = two_transactions(rt.alloc())?;
-    assert!(rt; file.len() == 280);
+fn report_with_a_failing_reader(alloc: Global) -> bool {
+    let Ok(file) = two_transactions(alloc) else {
+        return false;
+    };
+    if file.len() != 280 {
+        return false;
+    }
     for len in 0..file.len() + 1 {
         let (prefix, _) = file.split_at(len);
         let transactions = match len {
@@ -147,9 +154,11 @@ fn report_with_a_failing_reader(rt: HostRuntime) -> Result<(), Fail> {
             142..280 => 1,
             _ => 2,
         };
-        assert!(rt; is_cut(rt.alloc(), prefix, transactions));
+        if !is_cut(alloc, prefix, transactions) {
+            return false;
+        }
     }
-    Ok(())
+    true
 }
 
 /// Whether the complete transactions of a prefix of the small log's text, followed by what a follower that resumes there shows of
@@ -187,17 +196,26 @@ fn report_into(alloc: Global, file: &[u8], room: usize) -> Option<Vec<u8>> {
     if is_blamed { Some(taken) } else { None }
 }
 
-#[test]
-fn report_with_a_failing_writer(rt: HostRuntime) -> Result<(), Fail> {
-    let file = one_insert(rt.alloc())?;
+fn report_with_a_failing_writer(alloc: Global) -> bool {
+    let Ok(file) = one_insert(alloc) else {
+        return false;
+    };
     for room in 0..TEXT.len() + 1 {
         let (written, _) = TEXT.as_bytes().split_at(room);
-        match report_into(rt.alloc(), &file, room) {
-            Some(taken) => assert!(rt;
-                taken.as_slice() == written && is_repaired(rt.alloc(), &file, &taken)
-            ),
-            None => assert!(rt; false),
+        let Some(taken) = report_into(alloc, &file, room) else {
+            return false;
+        };
+        if taken.as_slice() != written || !is_repaired(alloc, &file, &taken) {
+            return false;
         }
     }
-    Ok(())
+    true
+}
+
+#[test]
+fn failing(rt: HostRuntime) {
+    let alloc = rt.alloc();
+    assert!(rt; transaction_is_written_before_more_is_asked_for(alloc));
+    assert!(rt; report_with_a_failing_reader(alloc));
+    assert!(rt; report_with_a_failing_writer(alloc));
 }

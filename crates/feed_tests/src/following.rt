@@ -5,7 +5,6 @@ use crc32::crc32;
 use feed_rules::Verdict;
 use feed_streams::{Follower, RequestError};
 use std::alloc::Global;
-use std::test::*;
 use wire_buf::Watched;
 
 /// The program's maximum length of a payload.
@@ -91,19 +90,15 @@ fn stream_in_single_bytes(rt: HostRuntime) {
 }
 
 // A packet past the limit is a fault as soon as its header has arrived.
-#[test]
-fn packet_faults(rt: HostRuntime) {
-    let alloc = rt.alloc();
+fn packet_faults(alloc: Global) -> bool {
     let first = [0x27, 0, 0, 1];
     let second = [0x27, 0, 0, 2];
     let whole_chunk = [0xff, 0xff, 0xff, 1];
-    assert!(rt;
-        is_followed(alloc, &first, 38, "", Verdict::TooLarge)
-            && is_followed(alloc, &second, 38, "", Verdict::TooLarge)
-            && is_followed(alloc, &second, 39, "", Verdict::Closed)
-            && is_followed(alloc, &whole_chunk, 16_777_214, "", Verdict::TooLarge)
-            && is_followed(alloc, &whole_chunk, 16_777_215, "", Verdict::Closed)
-    );
+    is_followed(alloc, &first, 38, "", Verdict::TooLarge)
+        && is_followed(alloc, &second, 38, "", Verdict::TooLarge)
+        && is_followed(alloc, &second, 39, "", Verdict::Closed)
+        && is_followed(alloc, &whole_chunk, 16_777_214, "", Verdict::TooLarge)
+        && is_followed(alloc, &whole_chunk, 16_777_215, "", Verdict::Closed)
 }
 
 /// Whether a follower that was finished ignores an answer.
@@ -115,11 +110,11 @@ fn takes_nothing(alloc: Global, answer: &[u8]) -> Result<bool, RequestError> {
     Ok(is_closed && found == Some(Verdict::Closed) && writer.into_inner().is_empty())
 }
 
-#[test]
-fn nothing_taken_after_closed(rt: HostRuntime) -> Result<(), Fail> {
-    let answer = answer_of(rt.alloc(), &[&BEGIN, &MAP, &ROWS, &XID], true)?;
-    assert!(rt; takes_nothing(rt.alloc(), &answer)?);
-    Ok(())
+fn nothing_taken_after_closed(alloc: Global) -> bool {
+    let Ok(answer) = answer_of(alloc, &[&BEGIN, &MAP, &ROWS, &XID], true) else {
+        return false;
+    };
+    takes_nothing(alloc, &answer) == Ok(true)
 }
 
 /// Whether the answer for the small log, byte by byte, shows its transaction with the byte that completes the commit, and ends
@@ -142,9 +137,17 @@ fn shows_at_once(alloc: Global, answer: &[u8]) -> Result<bool, RequestError> {
     Ok(true)
 }
 
+fn answer_at_each_piece(alloc: Global) -> bool {
+    let Ok(answer) = answer_of(alloc, &[&BEGIN, &MAP, &ROWS, &XID], true) else {
+        return false;
+    };
+    answer.len() == 167 && shows_at_once(alloc, &answer) == Ok(true)
+}
+
 #[test]
-fn answer_at_each_piece(rt: HostRuntime) -> Result<(), Fail> {
-    let answer = answer_of(rt.alloc(), &[&BEGIN, &MAP, &ROWS, &XID], true)?;
-    assert!(rt; answer.len() == 167 && shows_at_once(rt.alloc(), &answer)?);
-    Ok(())
+fn following(rt: HostRuntime) {
+    let alloc = rt.alloc();
+    assert!(rt; packet_faults(alloc));
+    assert!(rt; nothing_taken_after_closed(alloc));
+    assert!(rt; answer_at_each_piece(alloc));
 }

@@ -2,27 +2,29 @@
 
 use feed_kept::{Keeper, kept};
 use std::alloc::{AllocError, Global};
-use std::test::*;
 
 /// Two transactions, of 38 bytes each.
 const TWO_INSERTS: &[u8] =
     b"begin -\ninsert 'd' 't' 0=5\ncommit 142\nbegin -\ninsert 'd' 't' 0=6\ncommit 280\n";
 
-#[test]
-fn kept_of_each_front(rt: HostRuntime) {
-    assert!(rt; TWO_INSERTS.len() == 76);
+fn kept_of_each_front() -> bool {
+    if TWO_INSERTS.len() != 76 {
+        return false;
+    }
     for len in 0..=TWO_INSERTS.len() {
         let wanted = match len {
             0..=37 => (0, None),
             38..=75 => (38, Some(142)),
             _ => (76, Some(280)),
         };
-        assert!(rt; kept(&TWO_INSERTS[..len]) == wanted);
+        if kept(&TWO_INSERTS[..len]) != wanted {
+            return false;
+        }
     }
+    true
 }
 
-#[test]
-fn commit_lines(rt: HostRuntime) {
+fn commit_lines() -> bool {
     let rows: [(&[u8], usize, Option<u32>); 14] = [
         (b"commit 0\n", 9, Some(0)),
         (b"commit 7\n", 9, Some(7)),
@@ -40,19 +42,19 @@ fn commit_lines(rt: HostRuntime) {
         (b"commit 7\xff\n", 0, None),
     ];
     for (text, len, position) in rows {
-        assert!(rt; kept(text) == (len, position));
+        if kept(text) != (len, position) {
+            return false;
+        }
     }
+    true
 }
 
-#[test]
-fn lines_after_a_commit_line(rt: HostRuntime) {
-    assert!(rt;
-        kept(b"\n") == (0, None)
-            && kept(b"commit 7\n\n") == (9, Some(7))
-            && kept(b"\n\ncommit 7\n") == (11, Some(7))
-            && kept(b"commit 7\ncommit 8") == (9, Some(7))
-            && kept(b"commit 7\ncommit 4294967296\nbegin -\n") == (9, Some(7))
-    );
+fn lines_after_a_commit_line() -> bool {
+    kept(b"\n") == (0, None)
+        && kept(b"commit 7\n\n") == (9, Some(7))
+        && kept(b"\n\ncommit 7\n") == (11, Some(7))
+        && kept(b"commit 7\ncommit 8") == (9, Some(7))
+        && kept(b"commit 7\ncommit 4294967296\nbegin -\n") == (9, Some(7))
 }
 
 /// The result for a text that arrives in pieces of at most this length.
@@ -68,14 +70,24 @@ fn kept_of_pieces(
     Ok(keeper.kept())
 }
 
-#[test]
-fn kept_of_each_front_in_pieces(rt: HostRuntime) -> Result<(), Fail> {
+fn kept_of_each_front_in_pieces(alloc: Global) -> bool {
     for at_once in [1, 5, 37, 38, 39, 76] {
         for len in 0..=TWO_INSERTS.len() {
             let text = &TWO_INSERTS[..len];
             let (whole, position) = kept(text);
-            assert!(rt; kept_of_pieces(rt.alloc(), text, at_once)? == (whole as u64, position));
+            if kept_of_pieces(alloc, text, at_once) != Ok((whole as u64, position)) {
+                return false;
+            }
         }
     }
-    Ok(())
+    true
+}
+
+#[test]
+fn keeping(rt: HostRuntime) {
+    let alloc = rt.alloc();
+    assert!(rt; kept_of_each_front());
+    assert!(rt; commit_lines());
+    assert!(rt; lines_after_a_commit_line());
+    assert!(rt; kept_of_each_front_in_pieces(alloc));
 }

@@ -56,18 +56,15 @@ fn step(size: usize, count: usize) -> Step {
     Step { size, count }
 }
 
-#[test]
-fn rehearse_growing_file(rt: HostRuntime) -> Result<(), Fail> {
-    let alloc = rt.alloc();
-    let log = two_inserts(alloc)?;
+fn rehearse_growing_file(alloc: Global) -> bool {
+    let Ok(log) = two_inserts(alloc) else {
+        return false;
+    };
     let steps = [step(142, ALL), step(100, ALL), step(280, ALL)];
     let (two, _) = steps.split_at(2);
-    assert!(rt;
-        prints_growing(alloc, &log, two, 1, Verdict::Closed)
-            && prints_growing(alloc, &log, &steps, 2, Verdict::End)
-            && prints_growing(alloc, &log, &[step(3, 0)], 0, Verdict::Closed)
-    );
-    Ok(())
+    prints_growing(alloc, &log, two, 1, Verdict::Closed)
+        && prints_growing(alloc, &log, &steps, 2, Verdict::End)
+        && prints_growing(alloc, &log, &[step(3, 0)], 0, Verdict::Closed)
 }
 
 /// Whether after two dropped connections complete transactions are printed, and in the end both, each once.
@@ -120,13 +117,25 @@ fn prints_until_full(alloc: Global, log: &[u8], text: &[u8], room: usize) -> boo
     verdict == Verdict::Write && writer.failed() && writer.into_inner().taken.as_slice() == prefix
 }
 
-#[test]
-fn rehearse_with_a_failing_writer(rt: HostRuntime) -> Result<(), Fail> {
-    let log = two_inserts(rt.alloc())?;
-    let (whole, _) = printed(rt.alloc(), &log, &[200, ALL]);
-    assert!(rt; is_text_of(&whole, 2));
-    for room in 0..76 {
-        assert!(rt; prints_until_full(rt.alloc(), &log, &whole, room));
+fn rehearse_with_a_failing_writer(alloc: Global) -> bool {
+    let Ok(log) = two_inserts(alloc) else {
+        return false;
+    };
+    let (whole, _) = printed(alloc, &log, &[200, ALL]);
+    if !is_text_of(&whole, 2) {
+        return false;
     }
-    Ok(())
+    for room in 0..76 {
+        if !prints_until_full(alloc, &log, &whole, room) {
+            return false;
+        }
+    }
+    true
+}
+
+#[test]
+fn rehearsing(rt: HostRuntime) {
+    let alloc = rt.alloc();
+    assert!(rt; rehearse_growing_file(alloc));
+    assert!(rt; rehearse_with_a_failing_writer(alloc));
 }

@@ -10,7 +10,6 @@ use feed_serving::{Served, serve_semi};
 use feed_streams::{Follower, RequestError, request};
 use linked_list_allocator::LocalHeap;
 use std::alloc::{AllocError, Global};
-use std::test::*;
 use wire_buf::Watched;
 
 /// The name of the binary log.
@@ -120,17 +119,16 @@ fn gives(alloc: Global, log: &[u8], limit: usize, answer: &[u8], outcome: Served
 }
 
 // The first payload has 41 bytes.
-#[test]
-fn semi_serve_limit(rt: HostRuntime) -> Result<(), Fail> {
-    let alloc = rt.alloc();
-    let log = one_insert(alloc)?;
-    let answer = answer_with(alloc, [1, 1], 4)?;
-    assert!(rt;
-        answer.len() == WHOLE
-            && gives(alloc, &log, 40, b"", Served::Fault(Verdict::TooLarge))
-            && gives(alloc, &log, 41, &answer, Served::Whole)
-    );
-    Ok(())
+fn semi_serve_limit(alloc: Global) -> bool {
+    let Ok(log) = one_insert(alloc) else {
+        return false;
+    };
+    let Ok(answer) = answer_with(alloc, [1, 1], 4) else {
+        return false;
+    };
+    answer.len() == WHOLE
+        && gives(alloc, &log, 40, b"", Served::Fault(Verdict::TooLarge))
+        && gives(alloc, &log, 41, &answer, Served::Whole)
 }
 
 /// Whether that is the result of following a stream.
@@ -141,35 +139,33 @@ fn is_followed(alloc: Global, stream: &[u8], text: &str, verdict: Verdict, acks:
     }
 }
 
-#[test]
-fn semi_follow(rt: HostRuntime) -> Result<(), Fail> {
-    let answer = answer_with(rt.alloc(), [1, 1], 4)?;
+fn semi_follow(alloc: Global) -> bool {
+    let Ok(answer) = answer_with(alloc, [1, 1], 4) else {
+        return false;
+    };
     let acks: [&[u8]; 2] = [&FIRST_ACK, &LAST_ACK];
-    assert!(rt; is_followed(rt.alloc(), &answer, TEXT, Verdict::End, &acks));
-    Ok(())
+    is_followed(alloc, &answer, TEXT, Verdict::End, &acks)
 }
 
-#[test]
-fn semi_unknown_flag_bits(rt: HostRuntime) -> Result<(), Fail> {
-    let answer = answer_with(rt.alloc(), [0xfe, 0xff], 4)?;
-    assert!(rt; is_followed(rt.alloc(), &answer, TEXT, Verdict::End, &[&LAST_ACK]));
-    Ok(())
+fn semi_unknown_flag_bits(alloc: Global) -> bool {
+    let Ok(answer) = answer_with(alloc, [0xfe, 0xff], 4) else {
+        return false;
+    };
+    is_followed(alloc, &answer, TEXT, Verdict::End, &[&LAST_ACK])
 }
 
-#[test]
-fn semi_out_of_number(rt: HostRuntime) -> Result<(), Fail> {
-    let answer = answer_with(rt.alloc(), [1, 1], 5)?;
-    assert!(rt; is_followed(rt.alloc(), &answer, "", Verdict::OutOfNumber, &[&FIRST_ACK]));
-    Ok(())
+fn semi_out_of_number(alloc: Global) -> bool {
+    let Ok(answer) = answer_with(alloc, [1, 1], 5) else {
+        return false;
+    };
+    is_followed(alloc, &answer, "", Verdict::OutOfNumber, &[&FIRST_ACK])
 }
 
-#[test]
-fn plain_answer_to_semi_follower(rt: HostRuntime) -> Result<(), Fail> {
-    let answer = answer_of(rt.alloc(), &[&BEGIN, &MAP, &ROWS, &XID], true)?;
-    assert!(rt;
-        answer.len() == 167 && is_followed(rt.alloc(), &answer, "", Verdict::NotAnEvent, &[])
-    );
-    Ok(())
+fn plain_answer_to_semi_follower(alloc: Global) -> bool {
+    let Ok(answer) = answer_of(alloc, &[&BEGIN, &MAP, &ROWS, &XID], true) else {
+        return false;
+    };
+    answer.len() == 167 && is_followed(alloc, &answer, "", Verdict::NotAnEvent, &[])
 }
 
 /// Whether a plain follower ends an answer with this verdict, shows this text, and acknowledges nothing.
@@ -184,16 +180,15 @@ fn has_no_acks(alloc: Global, answer: &[u8], text: &str, verdict: Verdict) -> bo
 }
 
 // For a plain answer, and for a semi-synchronous one.
-#[test]
-fn plain_follower_acknowledges_nothing(rt: HostRuntime) -> Result<(), Fail> {
-    let alloc = rt.alloc();
-    let plain = answer_of(alloc, &[&BEGIN, &MAP, &ROWS, &XID], true)?;
-    let semi = answer_with(alloc, [1, 1], 4)?;
-    assert!(rt;
-        has_no_acks(alloc, &plain, TEXT, Verdict::End)
-            && has_no_acks(alloc, &semi, "", Verdict::NotAnEvent)
-    );
-    Ok(())
+fn plain_follower_acknowledges_nothing(alloc: Global) -> bool {
+    let Ok(plain) = answer_of(alloc, &[&BEGIN, &MAP, &ROWS, &XID], true) else {
+        return false;
+    };
+    let Ok(semi) = answer_with(alloc, [1, 1], 4) else {
+        return false;
+    };
+    has_no_acks(alloc, &plain, TEXT, Verdict::End)
+        && has_no_acks(alloc, &semi, "", Verdict::NotAnEvent)
 }
 
 /// Whether a follower returns its acknowledgements once: the first after the first event, the last after the last, if `again` was
@@ -211,12 +206,12 @@ fn acknowledges_once(alloc: Global, first: &[u8], rest: &[u8]) -> Result<bool, R
     Ok(has_first && has_last)
 }
 
-#[test]
-fn acks_are_returned_once(rt: HostRuntime) -> Result<(), Fail> {
-    let answer = answer_with(rt.alloc(), [1, 1], 4)?;
+fn acks_are_returned_once(alloc: Global) -> bool {
+    let Ok(answer) = answer_with(alloc, [1, 1], 4) else {
+        return false;
+    };
     let (first, rest) = answer.split_at(FIRST_END.min(answer.len()));
-    assert!(rt; acknowledges_once(rt.alloc(), first, rest)?);
-    Ok(())
+    acknowledges_once(alloc, first, rest) == Ok(true)
 }
 
 /// Whether a follower whose writer has this room acknowledges only the first event, and writes a prefix of the text.
@@ -232,13 +227,16 @@ fn acknowledges_what_is_written(alloc: Global, answer: &[u8], room: usize) -> bo
 }
 
 // What an event shows is written before its acknowledgement is due.
-#[test]
-fn semi_follow_with_a_failing_writer(rt: HostRuntime) -> Result<(), Fail> {
-    let answer = answer_with(rt.alloc(), [1, 1], 4)?;
+fn semi_follow_with_a_failing_writer(alloc: Global) -> bool {
+    let Ok(answer) = answer_with(alloc, [1, 1], 4) else {
+        return false;
+    };
     for room in 0..TEXT.len() {
-        assert!(rt; acknowledges_what_is_written(rt.alloc(), &answer, room));
+        if !acknowledges_what_is_written(alloc, &answer, room) {
+            return false;
+        }
     }
-    Ok(())
+    true
 }
 
 /// Whether a run over the small binary log in these steps prints this text and ends with this verdict, and appends the
@@ -266,17 +264,14 @@ fn step(size: usize, count: usize) -> Step {
     Step { size, count }
 }
 
-#[test]
-fn semi_rehearse(rt: HostRuntime) -> Result<(), Fail> {
+fn semi_rehearse(alloc: Global) -> bool {
     let steps = [step(142, 100), step(142, ALL)];
     let acks: [&[u8]; 3] = [&FIRST_ACK, &FIRST_ACK, &LAST_ACK];
-    assert!(rt; runs(rt.alloc(), &steps, TEXT, Verdict::End, &acks)?);
-    Ok(())
+    runs(alloc, &steps, TEXT, Verdict::End, &acks) == Ok(true)
 }
 
 // An event that comes again after a dropped connection is acknowledged again.
-#[test]
-fn semi_rehearse_every_break(rt: HostRuntime) -> Result<(), Fail> {
+fn semi_rehearse_every_break(alloc: Global) -> bool {
     for count in 0..WHOLE + 1 {
         let steps = [step(142, count), step(142, ALL)];
         let again: [&[u8]; 3] = [&FIRST_ACK, &FIRST_ACK, &LAST_ACK];
@@ -285,20 +280,18 @@ fn semi_rehearse_every_break(rt: HostRuntime) -> Result<(), Fail> {
         } else {
             &again[..]
         };
-        assert!(rt; runs(rt.alloc(), &steps, TEXT, Verdict::End, acks)?);
+        if runs(alloc, &steps, TEXT, Verdict::End, acks) != Ok(true) {
+            return false;
+        }
     }
-    Ok(())
+    true
 }
 
-#[test]
-fn semi_rehearse_a_growing_log(rt: HostRuntime) -> Result<(), Fail> {
+fn semi_rehearse_a_growing_log(alloc: Global) -> bool {
     let steps = [step(3, ALL), step(100, ALL), step(142, LAST_END)];
     let acks: [&[u8]; 3] = [&FIRST_ACK, &FIRST_ACK, &LAST_ACK];
-    assert!(rt;
-        runs(rt.alloc(), &[], "", Verdict::Closed, &[])?
-            && runs(rt.alloc(), &steps, TEXT, Verdict::Closed, &acks)?
-    );
-    Ok(())
+    runs(alloc, &[], "", Verdict::Closed, &[]) == Ok(true)
+        && runs(alloc, &steps, TEXT, Verdict::Closed, &acks) == Ok(true)
 }
 
 /// Whether a run whose acknowledgements get no more memory than this keeps the first, has written the text, and ends with
@@ -314,10 +307,29 @@ fn runs_out_of_memory(alloc: Global, log: &[u8], heap: &LocalHeap) -> bool {
 }
 
 // What the step shows is written, and the packets that are kept are complete.
+fn semi_rehearse_with_refused_memory(alloc: Global) -> bool {
+    let Ok(log) = one_insert(alloc) else {
+        return false;
+    };
+    let Ok(heap) = LocalHeap::new(alloc, 16) else {
+        return false;
+    };
+    runs_out_of_memory(alloc, &log, &heap)
+}
+
 #[test]
-fn semi_rehearse_with_refused_memory(rt: HostRuntime) -> Result<(), Fail> {
-    let log = one_insert(rt.alloc())?;
-    let heap = LocalHeap::new(rt.alloc(), 16)?;
-    assert!(rt; runs_out_of_memory(rt.alloc(), &log, &heap));
-    Ok(())
+fn semi(rt: HostRuntime) {
+    let alloc = rt.alloc();
+    assert!(rt; semi_serve_limit(alloc));
+    assert!(rt; semi_follow(alloc));
+    assert!(rt; semi_unknown_flag_bits(alloc));
+    assert!(rt; semi_out_of_number(alloc));
+    assert!(rt; plain_answer_to_semi_follower(alloc));
+    assert!(rt; plain_follower_acknowledges_nothing(alloc));
+    assert!(rt; acks_are_returned_once(alloc));
+    assert!(rt; semi_follow_with_a_failing_writer(alloc));
+    assert!(rt; semi_rehearse(alloc));
+    assert!(rt; semi_rehearse_every_break(alloc));
+    assert!(rt; semi_rehearse_a_growing_log(alloc));
+    assert!(rt; semi_rehearse_with_refused_memory(alloc));
 }

@@ -37,16 +37,15 @@ fn packets(alloc: Global, is_whole: bool) -> Result<Vec<u8>, AllocError> {
 }
 
 // The first payload has 39 bytes.
-#[test]
-fn serve_limit(rt: HostRuntime) -> Result<(), Fail> {
-    let alloc = rt.alloc();
-    let log = one_insert(alloc)?;
-    let answer = packets(alloc, true)?;
-    assert!(rt;
-        gives(alloc, &log, 38, b"", Served::Fault(Verdict::TooLarge))
-            && gives(alloc, &log, 39, &answer, Served::Whole)
-    );
-    Ok(())
+fn serve_limit(alloc: Global) -> bool {
+    let Ok(log) = one_insert(alloc) else {
+        return false;
+    };
+    let Ok(answer) = packets(alloc, true) else {
+        return false;
+    };
+    gives(alloc, &log, 38, b"", Served::Fault(Verdict::TooLarge))
+        && gives(alloc, &log, 39, &answer, Served::Whole)
 }
 
 /// What is written of a log whose reader gives all of it or fails after it, into a writer with this room, and the result of the
@@ -86,16 +85,20 @@ fn writes(
     }
 }
 
-#[test]
-fn serve_with_a_failing_writer(rt: HostRuntime) -> Result<(), Fail> {
-    let alloc = rt.alloc();
-    let log = one_insert(alloc)?;
-    let answer = packets(alloc, true)?;
+fn serve_with_a_failing_writer(alloc: Global) -> bool {
+    let Ok(log) = one_insert(alloc) else {
+        return false;
+    };
+    let Ok(answer) = packets(alloc, true) else {
+        return false;
+    };
     for room in 0..167 {
         let (sent, _) = answer.split_at(room.min(answer.len()));
-        assert!(rt; writes(alloc, &log, false, room, sent, Verdict::Write));
+        if !writes(alloc, &log, false, room, sent, Verdict::Write) {
+            return false;
+        }
     }
-    Ok(())
+    true
 }
 
 /// The length of the packets of those events that are complete in a prefix of the small log.
@@ -109,17 +112,21 @@ fn whole_packets(len: usize) -> usize {
     }
 }
 
-#[test]
-fn serve_with_a_failing_reader(rt: HostRuntime) -> Result<(), Fail> {
-    let alloc = rt.alloc();
-    let log = one_insert(alloc)?;
-    let packets = packets(alloc, false)?;
+fn serve_with_a_failing_reader(alloc: Global) -> bool {
+    let Ok(log) = one_insert(alloc) else {
+        return false;
+    };
+    let Ok(packets) = packets(alloc, false) else {
+        return false;
+    };
     for len in 0..143 {
         let (prefix, _) = log.split_at(len.min(log.len()));
         let (sent, _) = packets.split_at(whole_packets(len).min(packets.len()));
-        assert!(rt; writes(alloc, prefix, true, LIMIT, sent, Verdict::Read));
+        if !writes(alloc, prefix, true, LIMIT, sent, Verdict::Read) {
+            return false;
+        }
     }
-    Ok(())
+    true
 }
 
 /// Whether the result names the one that fails first: the reader, which fails after a prefix of the log, or the writer, which
@@ -150,4 +157,12 @@ fn serve_with_failing_devices(rt: HostRuntime) -> Result<(), Fail> {
         assert!(rt; names_the_first(alloc, prefix, &packets));
     }
     Ok(())
+}
+
+#[test]
+fn serving(rt: HostRuntime) {
+    let alloc = rt.alloc();
+    assert!(rt; serve_limit(alloc));
+    assert!(rt; serve_with_a_failing_writer(alloc));
+    assert!(rt; serve_with_a_failing_reader(alloc));
 }

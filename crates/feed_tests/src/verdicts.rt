@@ -3,7 +3,6 @@
 use feed_rules::{Verdict, name_of, status};
 use feed_serving::Served;
 use feed_streams::RequestError;
-use std::test::*;
 
 #[test]
 fn names_and_statuses(rt: HostRuntime) {

@@ -11,8 +11,8 @@ use Rattle.rows_jsonb.proofs.Building.{array_tree, object_tree, after_members, n
 use Rattle.feed_writers.specs.Quoting.{quoted}
 use Rattle.feed_text.specs.JsonText.{document_text, item_texts}
 use Rattle.feed_text.specs.KeyOrder.{AreInOrder, read_key}
-use Rattle.feed_text.specs.DirectText.{separator, WritesTree, WritesItems, WritesMembers, WritesMember, IsMember}
-use Rattle.feed_text.proofs.DocumentLemmas.{member_written}
+use Rattle.feed_text.specs.Containers.{typed}
+use Rattle.feed_text.specs.DirectText.{separator, WritesTyped, WritesTree, WritesItems, WritesMembers, WritesMember, IsMember}
 use Rattle.feed_text.proofs.OrderLemmas.{AllOf, all_push, all_numbers, along, count_all, count_push, count_insert, put_along, member_text, texts_along, texts_push, member_texts-along}
 
 -- ---- texts with commas between them
@@ -32,12 +32,12 @@ joined true xs x h = rw h refl
 joined false [] x h = absurd h
 joined false (y ∷ xs) x h = joined_more xs y x
 
-pub some_told : (xs : List (List ℕ)) (x : List ℕ) → TellsNone false (xs ++ x ∷ [])
+some_told : (xs : List (List ℕ)) (x : List ℕ) → TellsNone false (xs ++ x ∷ [])
 some_told [] x = tt
 some_told (y ∷ xs) x = tt
 
 -- one more text, after a separator
-pub text_more : (b : Bool) (xs : List (List ℕ)) (x base out separated new : List ℕ) → TellsNone b xs → out ≡ base ++ join_with_byte 44 xs → separated ≡ out ++ separator b → new ≡ separated ++ x
+text_more : (b : Bool) (xs : List (List ℕ)) (x base out separated new : List ℕ) → TellsNone b xs → out ≡ base ++ join_with_byte 44 xs → separated ≡ out ++ separator b → new ≡ separated ++ x
     → new ≡ base ++ join_with_byte 44 (xs ++ x ∷ [])
 text_more b xs x base out separated new none is first last =
     last ∙ ap (λ (t : List ℕ). t ++ x) (first ∙ ap (λ (t : List ℕ). t ++ separator b) is)
@@ -106,7 +106,7 @@ no_items_yet depth value budget base out is =
       none = refl;
     }
 
-pub one_item_more : (depth : ℕ) (value seen : JsonbValue) (pos budget mid left : ℕ) (base out separated new : List ℕ) (is_first : Bool) → pos < count_in value → elem_in value pos ≡ Ok seen
+one_item_more : (depth : ℕ) (value seen : JsonbValue) (pos budget mid left : ℕ) (base out separated new : List ℕ) (is_first : Bool) → pos < count_in value → elem_in value pos ≡ Ok seen
     → ItemsSoFar depth value pos budget mid base out is_first → separated ≡ out ++ separator is_first → WritesTree depth seen mid left separated new → ItemsSoFar depth value (pos + 1) budget left base new false
 one_item_more depth value seen pos budget mid left base out separated new is_first below here so first one =
     let below_it = tree_of depth in
@@ -288,13 +288,26 @@ object_written depth d value budget mid left old new deep is_object one w =
     }
 
 -- a key, a colon and a value were appended
-pub member_is : (depth : ℕ) (value seen : JsonbValue) (pos budget left : ℕ) (old keyed pointed new bytes key : List ℕ) → object_key value pos ≡ Ok key → bytes ≡ key → is_utf8 bytes ≡ true → keyed ≡ old ++ quoted bytes → pointed ≡ keyed ++ 58 ∷ []
-    → elem_in value pos ≡ Ok seen → WritesTree depth seen budget left pointed new → WritesMember depth value pos budget left old new
-member_is depth value seen pos budget left old keyed pointed new bytes key found same valid first second here w = record {
-  key = bytes;
-  tree = w.tree;
-  count = w.count;
-  is = record { seen = seen; key_is = found ∙ ap (λ (s : List ℕ). Ok s) (sym same); is_text = valid; seen_is = here; is = w.is };
-  taken = w.taken;
-  text = member_written old keyed pointed new (quoted bytes) (document_text w.tree) first second w.text;
-}
+pub member_is : (depth : ℕ) (value : JsonbValue) (pos type_byte budget left : ℕ) (old keyed new key bytes : List ℕ) → object_key value pos ≡ Ok key → is_utf8 key ≡ true → keyed ≡ old ++ (quoted key ++ 58 ∷ [])
+    → elem_in value pos ≡ typed type_byte bytes → WritesTyped depth type_byte bytes budget left keyed new → WritesMember depth value pos budget left old new
+member_is depth value pos type_byte budget left old keyed new key bytes found valid first here w =
+    let t = w.tree in record {
+      key = key;
+      tree = t.tree;
+      count = t.count;
+      is = record { seen = w.value; key_is = found; is_text = valid; seen_is = here ∙ w.is; is = t.is };
+      taken = t.taken;
+      text =
+          t.text ∙ ap (λ (l : List ℕ). l ++ document_text t.tree) first
+          ∙ append_assoc old (quoted key ++ 58 ∷ []) (document_text t.tree)
+          ∙ ap (λ (l : List ℕ). old ++ l) (append_assoc (quoted key) (58 ∷ []) (document_text t.tree));
+    }
+
+-- the text of a container with this type byte was appended
+pub typed_tree : (depth type_byte : ℕ) (bytes : List ℕ) (value : JsonbValue) (budget left : ℕ) (old new : List ℕ) → typed type_byte bytes ≡ Ok value → WritesTree depth value budget left old new → WritesTyped depth type_byte bytes budget left old new
+typed_tree depth type_byte bytes value budget left old new is w = record { value = value; is = is; tree = w }
+
+pub one_item_written : (depth : ℕ) (value : JsonbValue) (pos type_byte budget mid left : ℕ) (bytes base out separated new : List ℕ) (is_first : Bool) → pos < count_in value → elem_in value pos ≡ typed type_byte bytes
+    → ItemsSoFar depth value pos budget mid base out is_first → separated ≡ out ++ separator is_first → WritesTyped depth type_byte bytes mid left separated new → ItemsSoFar depth value (pos + 1) budget left base new false
+one_item_written depth value pos type_byte budget mid left bytes base out separated new is_first below here so first w =
+    one_item_more depth value w.value pos budget mid left base out separated new is_first below (here ∙ w.is) so first w.tree

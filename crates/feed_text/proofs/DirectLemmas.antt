@@ -1,139 +1,152 @@
 -- Values of JSON documents, as the bytes have them.
-use Rattle.std.proofs.Common.{◌≡◌, ◌≤◌, ◌<◌, ◌+◌, ◌-◌, ◌*◌, get_or, length-drop, inl, inr, ℕ, zero, suc, Bool, true, false, List, [], ◌∷◌, ◌++◌, length, take, Some, None, Result, Ok, Err, OnOk, OnErr, refl, sym, ap, ◌∙◌, arith}
-use Rattle.std.specs.Prelude.{nat_lt, ◌||◌, if◌then◌else◌}
-use Rattle.std.proofs.lemmas.List.{length-take-le}
+use Rattle.std.proofs.Common.{◌≡◌, ◌≤◌, ◌<◌, ◌+◌, ◌^◌, inl, inr, ℕ, ℤ, zero, suc, false, true, List, [], ◌∷◌, ◌++◌, length, take, drop, Result, Ok, Err, OnOk, OnErr, refl, sym, ap, ap₂, subst, ◌∙◌, arith}
+use Rattle.std.specs.Prelude.{slice_index}
+use Rattle.std.specs.Str.{is_utf8}
 use Rattle.std.proofs.lemmas.Bool.Decides.{leb_tells}
 use Rattle.std.proofs.Math.Seq.{take-length}
 use Rattle.byteorder.specs.Endian.{little_number}
-use Rattle.rows_times.specs.declared.fault.RowsError.{RowsError}
-use Rattle.rows_times.specs.declared.fault.RowsError.TheVariants.{Jsonb}
-use Rattle.rows_times.specs.declared.fault.JsonbError.TheVariants.{SizeOverflow}
+use Rattle.wire_buf.specs.Numbers.{little_signed}
+use Rattle.wire_buf.specs.Eating.{Eats}
+use Rattle.wire_ints.specs.Sevens.{sevens_split}
+use Rattle.rows_times.specs.Readings.{Reading, ◌>>=◌}
 use Rattle.rows_jsonb.specs.JsonTrees as tree
 use Rattle.rows_jsonb.specs.JsonTrees.{Tree}
+use Rattle.rows_jsonb.specs.JsonbTypes.{literal_of}
 use Rattle.rows_jsonb.specs.JsonbValues as seen
-use Rattle.rows_jsonb.specs.declared.value.Value.{Value}
-use Rattle.rows_jsonb.specs.declared.value.Value.TheVariants.{String}
-use Rattle.rows_jsonb.specs.declared.text.JsonbString.{JsonbString}
-use Rattle.wire_forms.specs.RawTexts.{raw_string}
-use Rattle.std.specs.Str.{is_utf8}
-use Rattle.feed_writers.specs.Quoting.{quoted}
-use Rattle.feed_text.specs.JsonText.{document_text, scalar_text}
-use Rattle.rows_jsonb.specs.JsonbLayout.{ContainerFormat, format, offset_size, header_size}
-use Rattle.rows_jsonb.specs.JsonbViews.{IsConsumed, jsonb_value}
-use Rattle.rows_jsonb.specs.JsonbValues.{JsonbValue, container, elem, key, elem_up_to, key_up_to, is_array_in, is_object_in, count_in, element_count_in, malformed, container_in, container_at, container_size, document, document_size}
-use Rattle.rows_times.specs.Readings.{Reading, ◌>>=◌}
+use Rattle.rows_jsonb.specs.JsonbValues.{JsonbValue, container, is_array_in, is_object_in, sized, literal, counted_at, document}
 use Rattle.rows_jsonb.specs.DocumentTrees.{utf8, tree_of, bare_tree, container_len, within_budget, document_tree}
 use Rattle.rows_jsonb.proofs.Building.{flat_tree, other_tree}
-use Rattle.feed_text.specs.DirectText.{WritesScalar, WritesTree, WritesDocument}
+use Rattle.feed_writers.specs.Quoting.{quoted}
+use Rattle.feed_text.specs.JsonText.{document_text, scalar_text}
+use Rattle.feed_text.specs.Containers.{typed}
+use Rattle.feed_text.specs.DirectText.{WritesTyped, WritesTypedScalar, WritesDocument}
 use Rattle.feed_text.proofs.QuoteLemmas.{kept_more}
 
-some_found : {A : Type 0} (found : Reading A) (s : A) → (found >>= λ x. Ok (Some x)) ≡ Ok (Some s) → found ≡ Ok s
-some_found (Ok x) s h = cc
-some_found (Err e) s h = absurd cc
-
-below_found : {A : Type 0} (b : Bool) (found : Reading A) (s : A) → (if b then found >>= (λ x. Ok (Some x)) else Ok None) ≡ Ok (Some s) → found ≡ Ok s
-below_found true found s h = some_found found s h
-below_found false found s h = absurd cc
-
-pub elem_found : (f : ContainerFormat) (n : ℕ) (bytes : List ℕ) (pos : ℕ) (s : JsonbValue) → elem_up_to f n bytes pos ≡ Ok (Some s) → elem f n bytes pos ≡ Ok s
-elem_found f n bytes pos s h = below_found (nat_lt pos n) (elem f n bytes pos) s h
-
-pub key_found : (f : ContainerFormat) (n : ℕ) (bytes : List ℕ) (pos : ℕ) (s : List ℕ) → key_up_to f n bytes pos ≡ Ok (Some s) → key f n bytes pos ≡ Ok s
-key_found f n bytes pos s h = below_found (nat_lt pos n) (key f n bytes pos) s h
-
--- the count of a value with elements
-pub count_is : (s : JsonbValue) (n : ℕ) → element_count_in s ≡ Some n → count_in s ≡ n
-count_is (container f m bytes) n h = cc
-count_is _ n h = absurd cc
-
 -- a value that is no container has the tree of a scalar
-pub scalar_tree : (depth : ℕ) (s : JsonbValue) → is_array_in s ≡ false → is_object_in s ≡ false → tree_of depth s ≡ bare_tree s
+scalar_tree : (depth : ℕ) (s : JsonbValue) → is_array_in s ≡ false → is_object_in s ≡ false → tree_of depth s ≡ bare_tree s
 scalar_tree zero s a o = flat_tree zero s refl
 scalar_tree (suc d) s a o = other_tree (suc d) d s refl a o
 
 -- the text is unchanged
-pub kept_same : (old new : List ℕ) → new ≡ old → take (length old) new ≡ old
+kept_same : (old new : List ℕ) → new ≡ old → take (length old) new ≡ old
 kept_same old new is = ap (take (length old)) is ∙ take-length old
 
 pub kept_after : (old new more : List ℕ) → new ≡ old ++ more → take (length old) new ≡ old
 kept_after old new more is = kept_more old old new more (take-length old) is
 
--- ---- the length of a container
-
-size_in : (f : ContainerFormat) (n size : ℕ) (bytes : List ℕ) (s : JsonbValue) (e : RowsError) (b c : Bool) → nat_lt (length bytes) size ≡ b → (if b || c then Err e else Ok (container f n (take size bytes))) ≡ Ok s → container_len s ≡ size
-size_in f n size bytes s e true c t h = absurd cc
-size_in f n size bytes s e false true t h = absurd cc
-size_in f n size bytes s e false false t h =
-    let is : container f n (take size bytes) ≡ s = cc in
-    let room : size ≤ length bytes = elim (leb_tells (suc (length bytes)) size) [ inl u ↦ absurd (clash u.0 t) | inr u ↦ omega (arith, u.1) ] in
-    sym (ap container_len is) ∙ length-take-le size bytes room
-  where
-    clash : {b : Bool} → b ≡ true → b ≡ false → ⊥
-    clash p q = cc
-
-container_size_in : (f : ContainerFormat) (bytes : List ℕ) (s : JsonbValue) (b : Bool) → (if b then Err malformed else container_in f (little_number (offset_size f.is_large) bytes) (container_size f.is_large bytes) bytes) ≡ Ok s → container_len s ≡ container_size f.is_large bytes
-container_size_in f bytes s true h = absurd cc
-container_size_in f bytes s false h =
-    let n = little_number (offset_size f.is_large) bytes in
-    let size = container_size f.is_large bytes in
-    size_in f n size bytes s (Jsonb (Some SizeOverflow)) (nat_lt (length bytes) size) (nat_lt size (header_size f n)) refl h
-
-container_size_is : (f : ContainerFormat) (bytes : List ℕ) (s : JsonbValue) → container_at f bytes ≡ Ok s → container_len s ≡ container_size f.is_large bytes
-container_size_is f bytes s h = container_size_in f bytes s (nat_lt (length bytes) (2 * offset_size f.is_large)) h
-
--- a JSON document that begins with the type of a container is one byte longer than the container
-document_size_is : (bytes : List ℕ) (s : JsonbValue) (first : ℕ) → first ≤ 3 → document (first ∷ bytes) ≡ Ok s → document_size (first ∷ bytes) ≡ 1 + container_len s
-document_size_is bytes s zero le h = ap (λ n. 1 + n) (sym (container_size_is (format false false) bytes s h))
-document_size_is bytes s (suc zero) le h = ap (λ n. 1 + n) (sym (container_size_is (format true false) bytes s h))
-document_size_is bytes s (suc (suc zero)) le h = ap (λ n. 1 + n) (sym (container_size_is (format false true) bytes s h))
-document_size_is bytes s (suc (suc (suc zero))) le h = ap (λ n. 1 + n) (sym (container_size_is (format true true) bytes s h))
-document_size_is bytes s (suc (suc (suc (suc n)))) le h = absurd (omega (arith, le))
-
--- the bytes that such a document takes
-pub eaten_is : (bytes rest : List ℕ) (s : JsonbValue) → 0 < length bytes → get_or bytes 0 0 ≤ 3 → document bytes ≡ Ok s → IsConsumed (document_size bytes) bytes rest → length bytes - length rest ≡ 1 + container_len s
-eaten_is [] rest s some le h eaten = absurd (omega (arith, some))
-eaten_is (b ∷ bytes) rest s some le h eaten =
-    let size = document_size_is bytes s b le h in
-    let left = length-drop (document_size (b ∷ bytes)) (b ∷ bytes) in
-    let following = ap length eaten.rest in
-    let room = eaten.room in
-    omega (arith, size, left, following, room)
-
 within_is : (size count : ℕ) (t : Tree) → count ≤ 1 + size → within_budget size (t, count) ≡ Ok t
 within_is size count t le = elim (leb_tells count (1 + size)) [ inl u ↦ (let e = u.0 in rw e refl) | inr u ↦ absurd (omega (arith, u.1, le)) ]
 
 -- the text of the document's tree was appended
-pub document_written : (bytes : List ℕ) (s : JsonbValue) (budget left : ℕ) (old new : List ℕ) → document bytes ≡ Ok s → budget ≡ 1 + container_len s → WritesTree 100 s budget left old new → WritesDocument (document_tree bytes) old new
-document_written bytes s budget left old new is size w =
-    let found = w.is in
-    let few = within_is (container_len s) w.count w.tree (omega (arith, w.taken, size)) in
-    record { tree = w.tree; is = rw (is, found) few; text = w.text }
+pub document_written : (bytes first rest : List ℕ) (s : JsonbValue) (budget left : ℕ) (old new : List ℕ) → 0 < length bytes → first ≡ take 1 bytes → rest ≡ drop 1 bytes → typed (slice_index first 0) rest ≡ Ok s → budget ≡ 1 + container_len s
+    → WritesTyped 100 (slice_index first 0) rest budget left old new → WritesDocument (document_tree bytes) old new
+document_written [] first rest s budget left old new some head tail is size w = absurd (omega (arith, some))
+document_written (b ∷ bytes) first rest s budget left old new some head tail is size w =
+    let same : s ≡ w.value = inside (typed (slice_index first 0) rest) s w.value is w.is in
+    let t = w.tree in
+    let found = t.is in
+    let budget_is : budget ≡ 1 + container_len w.value = size ∙ ap (λ v. 1 + container_len v) same in
+    let few = within_is (container_len w.value) t.count t.tree (omega (arith, t.taken, budget_is)) in
+    let whole : document (b ∷ bytes) ≡ Ok w.value = ap₂ (λ (l r : List ℕ). typed (slice_index l 0) r) (sym head) (sym tail) ∙ w.is in
+    record { tree = t.tree; is = rw (whole, found) few; text = t.text }
+  where
+    inside : (found : Reading JsonbValue) (x y : JsonbValue) → found ≡ Ok x → found ≡ Ok y → x ≡ y
+    inside found x y a b = let e = sym a ∙ b in cc
+
+-- ---- scalars
+
+-- the text of a scalar was appended
+pub typed_scalar : (type_byte : ℕ) (bytes old new text : List ℕ) (value : JsonbValue) (part : tree.Scalar) → typed type_byte bytes ≡ Ok value → bare_tree value ≡ Ok (tree.scalar part, 1) → scalar_text part ≡ text → new ≡ old ++ text
+    → WritesTypedScalar type_byte bytes old new
+typed_scalar type_byte bytes old new text value part is found same written = record {
+  value = value;
+  is = is;
+  scalar = record { part = part; is = found; text = written ∙ ap (λ (t : List ℕ). old ++ t) (sym same) };
+}
+
+sized_whole : {A : Type 0} (n : ℕ) (bytes : List ℕ) (v w : A) → n ≤ length bytes → v ≡ w → sized n bytes v ≡ Ok w
+sized_whole n bytes v w room is = elim (leb_tells (suc (length bytes)) n) [ inl t ↦ absurd (omega (arith, t.1, room)) | inr t ↦ rw t.0 (ap (λ x. Ok x) is) ]
+
+pub i16_typed : (bytes rest : List ℕ) (z : ℤ) → Eats (little_signed 2) 2 z bytes rest → typed 5 bytes ≡ Ok (seen.i16 z)
+i16_typed bytes rest z h = sized_whole 2 bytes (seen.i16 (little_signed 2 bytes)) (seen.i16 z) h.room (ap seen.i16 (sym h.value_is))
+
+pub u16_typed : (bytes rest : List ℕ) (n : ℕ) → Eats (little_number 2) 2 n bytes rest → typed 6 bytes ≡ Ok (seen.u16 n)
+u16_typed bytes rest n h = sized_whole 2 bytes (seen.u16 (little_number 2 bytes)) (seen.u16 n) h.room (ap seen.u16 (sym h.value_is))
+
+pub i32_typed : (bytes rest : List ℕ) (z : ℤ) → Eats (little_signed 4) 4 z bytes rest → typed 7 bytes ≡ Ok (seen.i32 z)
+i32_typed bytes rest z h = sized_whole 4 bytes (seen.i32 (little_signed 4 bytes)) (seen.i32 z) h.room (ap seen.i32 (sym h.value_is))
+
+pub u32_typed : (bytes rest : List ℕ) (n : ℕ) → Eats (little_number 4) 4 n bytes rest → typed 8 bytes ≡ Ok (seen.u32 n)
+u32_typed bytes rest n h = sized_whole 4 bytes (seen.u32 (little_number 4 bytes)) (seen.u32 n) h.room (ap seen.u32 (sym h.value_is))
+
+pub i64_typed : (bytes rest : List ℕ) (z : ℤ) → Eats (little_signed 8) 8 z bytes rest → typed 9 bytes ≡ Ok (seen.i64 z)
+i64_typed bytes rest z h = sized_whole 8 bytes (seen.i64 (little_signed 8 bytes)) (seen.i64 z) h.room (ap seen.i64 (sym h.value_is))
+
+pub u64_typed : (bytes rest : List ℕ) (n : ℕ) → Eats (little_number 8) 8 n bytes rest → typed 10 bytes ≡ Ok (seen.u64 n)
+u64_typed bytes rest n h = sized_whole 8 bytes (seen.u64 (little_number 8 bytes)) (seen.u64 n) h.room (ap seen.u64 (sym h.value_is))
+
+pub f64_typed : (bytes rest : List ℕ) (n : ℕ) → Eats (little_number 8) 8 n bytes rest → typed 11 bytes ≡ Ok (seen.double n)
+f64_typed bytes rest n h = sized_whole 8 bytes (seen.double (little_number 8 bytes)) (seen.double n) h.room (ap seen.double (sym h.value_is))
+
+-- null, true and false
+pub literal_typed : (bytes : List ℕ) (n : ℕ) (value : JsonbValue) → 0 < length bytes → slice_index bytes 0 ≡ n → literal (literal_of n) ≡ Ok value → typed 4 bytes ≡ Ok value
+literal_typed bytes n value some first is = ap (λ found. found >>= (λ k. literal (literal_of k))) (sized_whole 1 bytes (slice_index bytes 0) n (omega (arith, some)) first) ∙ is
 
 utf8_is : (s : List ℕ) → is_utf8 s ≡ true → utf8 s ≡ Ok s
 utf8_is s h = rw h refl
 
 -- the text of a string was appended, or nothing
-pub string_written : {E : Type 0} (v : Value) (string : JsonbString) (bytes old new : List ℕ) (r : Result (Unit {0}) E) → v ≡ String string → bytes ≡ raw_string string.0 → OnOk r (is_utf8 bytes ≡ true) → OnOk r (new ≡ old ++ quoted bytes) → OnOk r (WritesScalar (jsonb_value v) old new)
+pub string_written : {E : Type 0} (bytes string old new : List ℕ) (r : Result (Unit {0}) E) → counted_at bytes ≡ Ok string → OnOk r (is_utf8 string ≡ true) → OnOk r (new ≡ old ++ quoted string) → OnOk r (WritesTypedScalar 12 bytes old new)
 unfolding scalar_text
-string_written v string bytes old new (Ok x) is here valid text =
-    let whole = utf8_is bytes valid in record {
-      part = tree.string bytes;
-      is = ap (λ u. bare_tree (jsonb_value u)) is ∙ ap (λ (s : List ℕ). bare_tree (seen.text s)) (sym here) ∙ rw whole refl;
-      text = text;
-    }
-string_written v string bytes old new (Err e) is here valid text = tt
+string_written bytes string old new (Ok x) is valid written =
+    let whole = utf8_is string valid in
+    let found : typed 12 bytes ≡ Ok (seen.text string) = ap (λ (f : Reading (List ℕ)). f >>= (λ s. Ok (seen.text s))) is in
+    typed_scalar 12 bytes old new (quoted string) (seen.text string) (tree.string string) found (rw whole refl) refl written
+string_written bytes string old new (Err e) is valid written = tt
+
+-- a string after its length in one byte
+pub short_counted : (bytes first rest : List ℕ) (len : ℕ) → 0 < length bytes → slice_index bytes 0 < 128 → first ≡ take 1 bytes → rest ≡ drop 1 bytes → len ≡ slice_index first 0 → len ≤ length rest → counted_at bytes ≡ Ok (take len rest)
+unfolding sevens_split
+short_counted [] first rest len some below head tail is room = absurd (omega (arith, some))
+short_counted (b ∷ bytes) first rest len some below head tail is room =
+    let same : len ≡ b = is ∙ ap (λ (l : List ℕ). slice_index l 0) head in
+    let fits : b ≤ length bytes = subst (λ (n : ℕ). n ≤ length bytes) same (subst (λ (l : List ℕ). len ≤ length l) tail room) in
+    counted_in b bytes below fits ∙ ap₂ (λ (n : ℕ) (l : List ℕ). Ok (take n l)) (sym same) (sym tail)
+  where
+    counted_in : (b : ℕ) (bytes : List ℕ) → b < 128 → b ≤ length bytes → counted_at (b ∷ bytes) ≡ Ok (take b bytes)
+    counted_in b bytes below fits = elim (leb_tells (suc b) 128) [
+      | inl t ↦ (elim (leb_tells (suc b) (2 ^ 32)) [
+        | inl u ↦ (elim (leb_tells b (length bytes)) [ inl w ↦ rw (t.0, u.0, w.0) refl | inr w ↦ absurd (omega (arith, w.1, fits)) ])
+        | inr u ↦ absurd (omega (arith, u.1, below))
+      ])
+      | inr t ↦ absurd (omega (arith, t.1, below))
+    ]
+
+-- what has a bare tree is no container
+bare_as_tree : (depth : ℕ) (s : JsonbValue) (part : tree.Scalar) → bare_tree s ≡ Ok (tree.scalar part, 1) → tree_of depth s ≡ bare_tree s
+bare_as_tree depth (container f n bytes) part h = absurd cc
+bare_as_tree depth s part h = scalar_tree depth s refl refl
 
 -- a scalar counts one
-pub scalar_as_tree : (depth : ℕ) (value : JsonbValue) (budget : ℕ) (old new : List ℕ) → is_array_in value ≡ false → is_object_in value ≡ false → 0 < budget → WritesScalar value old new → WritesTree depth value budget (budget - 1) old new
+scalar_as_tree : (depth type_byte : ℕ) (bytes : List ℕ) (budget left : ℕ) (old new : List ℕ) → left + 1 ≡ budget → WritesTypedScalar type_byte bytes old new → WritesTyped depth type_byte bytes budget left old new
 unfolding document_text
-scalar_as_tree depth value budget old new a o some w = record {
-  tree = tree.scalar w.part;
-  count = 1;
-  is = scalar_tree depth value a o ∙ w.is;
-  taken = omega (arith, some);
-  text = w.text;
-}
+scalar_as_tree depth type_byte bytes budget left old new one w =
+    let s = w.scalar in record {
+      value = w.value;
+      is = w.is;
+      tree = record {
+        tree = tree.scalar s.part;
+        count = 1;
+        is = bare_as_tree depth w.value s.part s.is ∙ s.is;
+        taken = omega (arith, one);
+        text = s.text;
+      };
+    }
 
-pub scalar_kept : {E : Type 0} (r : Result (Unit {0}) E) (value : JsonbValue) (old new : List ℕ) → OnOk r (WritesScalar value old new) → OnErr r (new ≡ old) → take (length old) new ≡ old
-scalar_kept (Ok x) value old new w same = kept_after old new (scalar_text w.part) w.text
-scalar_kept (Err e) value old new w same = kept_same old new same
+pub scalar_counted : {E : Type 0} (r : Result (Unit {0}) E) (depth type_byte : ℕ) (bytes : List ℕ) (budget left : ℕ) (old new : List ℕ) → OnOk r (left + 1 ≡ budget) → OnOk r (WritesTypedScalar type_byte bytes old new) → OnOk r (WritesTyped depth type_byte bytes budget left old new)
+scalar_counted (Ok x) depth type_byte bytes budget left old new one w = scalar_as_tree depth type_byte bytes budget left old new one w
+scalar_counted (Err e) depth type_byte bytes budget left old new one w = tt
+
+pub scalar_kept : {E : Type 0} (r : Result (Unit {0}) E) (type_byte : ℕ) (bytes old new : List ℕ) → OnOk r (WritesTypedScalar type_byte bytes old new) → OnErr r (new ≡ old) → take (length old) new ≡ old
+scalar_kept (Ok x) type_byte bytes old new w same = let s = w.scalar in kept_after old new (scalar_text s.part) s.text
+scalar_kept (Err e) type_byte bytes old new w same = kept_same old new same

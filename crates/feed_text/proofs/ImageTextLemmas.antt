@@ -97,7 +97,7 @@ none_written c at before le = record { text = []; gives = none_given c; within =
 -- the text of some cells was written, and there is room for the others
 pub record WritesWithRoom (old left : ImageCells) (at : ℕ) (before after : List ℕ) (end : ℕ) : Type 0 where
   pub writes : WritesFields old left at before after end
-  pub room : end + 98 * cells_count left ≤ length after
+  pub room : end + 216 * cells_count left ≤ length after
 
 -- nothing was appended yet
 pub none_appended : (c : ImageCells) (before : List ℕ) → AppendsFields c c before before

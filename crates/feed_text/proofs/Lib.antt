@@ -11,6 +11,9 @@ pub mod DiffTextLemmas
 pub mod BufferLemmas
 pub mod FieldTextLemmas
 pub mod ImageTextLemmas
+pub mod StringLemmas
+pub mod PrefixLemmas
 pub mod OrderLemmas
 pub mod DirectLemmas
 pub mod ContainerLemmas
+pub mod RowTextLemmas

@@ -8,6 +8,7 @@ use Rattle.rows_jsonb.specs.JsonbValues.{JsonbValue, elem_in, object_key, count_
 use Rattle.rows_times.specs.Readings.{Reading}
 use Rattle.rows_jsonb.specs.DocumentTrees.{tree_of, bare_tree, items, member_trees}
 use Rattle.feed_writers.specs.Quoting.{quoted}
+use Rattle.feed_text.specs.Containers.{typed}
 use Rattle.feed_text.specs.JsonText.{document_text, scalar_text, item_texts, member_texts}
 
 -- a comma, except before the first element
@@ -28,6 +29,18 @@ pub record WritesTree (depth : ℕ) (value : JsonbValue) (budget left : ℕ) (ol
   pub is : tree_of depth value ≡ Ok (tree, count)
   pub taken : count + left ≡ budget
   pub text : new ≡ old ++ document_text tree
+
+-- the same for the value with this type byte that the bytes begin with
+pub record WritesTyped (depth type_byte : ℕ) (bytes : List ℕ) (budget left : ℕ) (old new : List ℕ) : Type 0 where
+  pub value : JsonbValue
+  pub is : typed type_byte bytes ≡ Ok value
+  pub tree : WritesTree depth value budget left old new
+
+-- the value with this type byte that the bytes begin with is a scalar, and its text was appended
+pub record WritesTypedScalar (type_byte : ℕ) (bytes : List ℕ) (old new : List ℕ) : Type 0 where
+  pub value : JsonbValue
+  pub is : typed type_byte bytes ≡ Ok value
+  pub scalar : WritesScalar value old new
 
 -- the same for the elements of an array
 pub record WritesItems (depth : ℕ) (value : JsonbValue) (budget left : ℕ) (old new : List ℕ) : Type 0 where

@@ -13,7 +13,7 @@ pub record WritesField (is_null : Bool) (format : CellFormat) (bytes : List ℕ)
   pub text : List ℕ
   pub read : field_at is_null format bytes ≡ Ok (value, rest)
   pub is : text_of value ≡ Ok text
-  pub most : end ≤ at + 76
+  pub most : end ≤ at + 194
   pub written : take end new ≡ take at old ++ text
 
 -- the same; or the text before `at` is unchanged, and nothing more is stated

@@ -10,7 +10,9 @@ pub mod DiffText
 pub mod CellText
 pub mod CellContent
 pub mod Buffers
+pub mod Containers
 pub mod KeyOrder
 pub mod DirectText
 pub mod FieldText
 pub mod ImageText
+pub mod RowText

@@ -1,46 +1,179 @@
 //! The scalars of JSON documents, directly from MySQL's binary JSON.
 
-ghost use Rattle.std.specs.Prelude.{◌≡◌, ◌++◌, ◌∷◌, OnOk, OnErr, codes, true, if◌then◌else◌};
+ghost use Rattle.std.specs.Prelude.{◌≡◌, ◌++◌, ◌∷◌, OnOk, OnErr};
 ghost use Rattle.std.specs.Fmt.{decimal, signed_decimal};
-ghost use Rattle.std.specs.Str.{is_utf8};
-ghost use Rattle.rows_jsonb.specs.JsonbViews.{jsonb_value};
-ghost use Rattle.feed_writers.specs.Quoting.{quoted};
 ghost use Rattle.feed_text.specs.Buffers.{text_in};
 ghost use Rattle.feed_text.specs.ValueText.{double_text};
-ghost use Rattle.feed_text.specs.DirectText.{WritesScalar, separator};
+ghost use Rattle.feed_text.specs.DirectText.{WritesTypedScalar};
 
 use crate::buffer::TextBuffer;
 use crate::direct_parts::NotDirect;
+use crate::short_strings::append_first;
+use byteorder::{ByteOrder, LittleEndian};
 use feed_writers::{put_byte, put_hexadecimal, put_number, put_signed};
-use rows_jsonb::Value;
 use std::alloc::Allocator;
-use std::str;
+use wire_buf::ParseBuf;
+use wire_ints::{IntRepr, VarLen};
 
 /// The maximum length of a number's text in bytes.
 const NUMBER_LEN_MAX: usize = 24;
 
-/// Appends the text of a scalar, or nothing. It gives up on opaque values.
-#[tactic(auto, unfolding(crate::specs::JsonText::scalar_text))]
+/// Appends the text of the scalar with this type byte that the bytes begin with, or nothing. It gives up on opaque values.
+#[inline(always)]
 pub(crate) fn write_scalar<A: Allocator>(
     out: &mut TextBuffer<A>,
-    scalar: &Value<'_>,
+    type_byte: u8,
+    bytes: &[u8],
 ) -> Result<(), NotDirect>
-    ensures ok { OnOk result (WritesScalar (jsonb_value scalar.now) (text_in out.old) (text_in out.new)) }
+    ensures ok { OnOk result (WritesTypedScalar type_byte bytes.now (text_in out.old) (text_in out.new)) }
     ensures err { OnErr result (text_in out.new ≡ text_in out.old) }
 {
-    match scalar {
-        Value::Null => append(out, b"null"),
-        Value::Bool(boolean) => append_boolean(out, *boolean),
-        Value::I16(number) => append_int(out, i64::from(*number)),
-        Value::I32(number) => append_int(out, i64::from(*number)),
-        Value::I64(number) => append_int(out, *number),
-        Value::U16(number) => append_uint(out, u64::from(*number)),
-        Value::U32(number) => append_uint(out, u64::from(*number)),
-        Value::U64(number) => append_uint(out, *number),
-        Value::F64(bits) => append_double(out, *bits),
-        Value::String(string) => append_string(out, string.str_raw()),
+    match type_byte {
+        4 => append_literal(out, bytes),
+        5 => append_i16(out, bytes),
+        6 => append_u16(out, bytes),
+        7 => append_i32(out, bytes),
+        8 => append_u32(out, bytes),
+        9 => append_i64(out, bytes),
+        10 => append_u64(out, bytes),
+        11 => append_f64(out, bytes),
+        12 => append_counted(out, bytes),
         _ => Err(NotDirect),
     }
+}
+
+/// Appends `null`, `true` or `false`, or nothing.
+#[inline(always)]
+fn append_literal<A: Allocator>(out: &mut TextBuffer<A>, bytes: &[u8]) -> Result<(), NotDirect>
+    ensures ok { OnOk result (WritesTypedScalar 4 bytes.now (text_in out.old) (text_in out.new)) }
+    ensures err { OnErr result (text_in out.new ≡ text_in out.old) }
+{
+    if bytes.is_empty() {
+        return Err(NotDirect);
+    }
+    match bytes[0] {
+        0 => append(out, b"null"),
+        1 => append(out, b"true"),
+        2 => append(out, b"false"),
+        _ => Err(NotDirect),
+    }
+}
+
+/// Appends a signed number of 16 bits, or nothing.
+#[inline(always)]
+fn append_i16<A: Allocator>(out: &mut TextBuffer<A>, bytes: &[u8]) -> Result<(), NotDirect>
+    ensures ok { OnOk result (WritesTypedScalar 5 bytes.now (text_in out.old) (text_in out.new)) }
+    ensures err { OnErr result (text_in out.new ≡ text_in out.old) }
+{
+    let Some(number) = ParseBuf(bytes).checked_eat_i16_le() else {
+        return Err(NotDirect);
+    };
+    append_int(out, i64::from(number))
+}
+
+/// Appends an unsigned number of 16 bits, or nothing.
+#[inline(always)]
+fn append_u16<A: Allocator>(out: &mut TextBuffer<A>, bytes: &[u8]) -> Result<(), NotDirect>
+    ensures ok { OnOk result (WritesTypedScalar 6 bytes.now (text_in out.old) (text_in out.new)) }
+    ensures err { OnErr result (text_in out.new ≡ text_in out.old) }
+{
+    let Some(number) = ParseBuf(bytes).checked_eat_u16_le() else {
+        return Err(NotDirect);
+    };
+    append_uint(out, u64::from(number))
+}
+
+/// Appends a signed number of 32 bits, or nothing.
+#[inline(always)]
+fn append_i32<A: Allocator>(out: &mut TextBuffer<A>, bytes: &[u8]) -> Result<(), NotDirect>
+    ensures ok { OnOk result (WritesTypedScalar 7 bytes.now (text_in out.old) (text_in out.new)) }
+    ensures err { OnErr result (text_in out.new ≡ text_in out.old) }
+{
+    let Some(number) = ParseBuf(bytes).checked_eat_i32_le() else {
+        return Err(NotDirect);
+    };
+    append_int(out, i64::from(number))
+}
+
+/// Appends an unsigned number of 32 bits, or nothing.
+#[inline(always)]
+fn append_u32<A: Allocator>(out: &mut TextBuffer<A>, bytes: &[u8]) -> Result<(), NotDirect>
+    ensures ok { OnOk result (WritesTypedScalar 8 bytes.now (text_in out.old) (text_in out.new)) }
+    ensures err { OnErr result (text_in out.new ≡ text_in out.old) }
+{
+    let Some(number) = ParseBuf(bytes).checked_eat_u32_le() else {
+        return Err(NotDirect);
+    };
+    append_uint(out, u64::from(number))
+}
+
+/// Appends a signed number of 64 bits, or nothing.
+#[inline(always)]
+fn append_i64<A: Allocator>(out: &mut TextBuffer<A>, bytes: &[u8]) -> Result<(), NotDirect>
+    ensures ok { OnOk result (WritesTypedScalar 9 bytes.now (text_in out.old) (text_in out.new)) }
+    ensures err { OnErr result (text_in out.new ≡ text_in out.old) }
+{
+    let Some(number) = ParseBuf(bytes).checked_eat_i64_le() else {
+        return Err(NotDirect);
+    };
+    append_int(out, number)
+}
+
+/// Appends an unsigned number of 64 bits, or nothing.
+#[inline(always)]
+fn append_u64<A: Allocator>(out: &mut TextBuffer<A>, bytes: &[u8]) -> Result<(), NotDirect>
+    ensures ok { OnOk result (WritesTypedScalar 10 bytes.now (text_in out.old) (text_in out.new)) }
+    ensures err { OnErr result (text_in out.new ≡ text_in out.old) }
+{
+    let Some(number) = ParseBuf(bytes).checked_eat_u64_le() else {
+        return Err(NotDirect);
+    };
+    append_uint(out, number)
+}
+
+/// Appends a double, or nothing.
+#[inline(always)]
+fn append_f64<A: Allocator>(out: &mut TextBuffer<A>, bytes: &[u8]) -> Result<(), NotDirect>
+    ensures ok { OnOk result (WritesTypedScalar 11 bytes.now (text_in out.old) (text_in out.new)) }
+    ensures err { OnErr result (text_in out.new ≡ text_in out.old) }
+{
+    let Some(bits) = ParseBuf(bytes).checked_eat_u64_le() else {
+        return Err(NotDirect);
+    };
+    append_double(out, bits)
+}
+
+/// Appends a string that is after its length, or nothing.
+#[inline(always)]
+fn append_counted<A: Allocator>(out: &mut TextBuffer<A>, bytes: &[u8]) -> Result<(), NotDirect>
+    ensures ok { OnOk result (WritesTypedScalar 12 bytes.now (text_in out.old) (text_in out.new)) }
+    ensures err { OnErr result (text_in out.new ≡ text_in out.old) }
+{
+    if bytes.is_empty() || bytes[0] >= 128 {
+        return append_long(out, bytes);
+    }
+    let (first, rest) = bytes.split_at(1);
+    let len = usize::from(first[0]);
+    if rest.len() < len {
+        return Err(NotDirect);
+    }
+    append_first(out, rest, len)
+}
+
+/// Appends a string that is after its length in any number of bytes, or nothing.
+#[inline(never)]
+fn append_long<A: Allocator>(out: &mut TextBuffer<A>, bytes: &[u8]) -> Result<(), NotDirect>
+    ensures ok { OnOk result (WritesTypedScalar 12 bytes.now (text_in out.old) (text_in out.new)) }
+    ensures err { OnErr result (text_in out.new ≡ text_in out.old) }
+{
+    let mut rest = ParseBuf(bytes);
+    let Ok(len) = VarLen::deserialize(&mut rest) else {
+        return Err(NotDirect);
+    };
+    if rest.len() < len as usize {
+        return Err(NotDirect);
+    }
+    append_first(out, rest.0, len as usize)
 }
 
 /// Appends bytes, or nothing.
@@ -53,18 +186,8 @@ fn append<A: Allocator>(out: &mut TextBuffer<A>, bytes: &[u8]) -> Result<(), Not
     Ok(())
 }
 
-/// Appends `true` or `false`, or nothing.
-fn append_boolean<A: Allocator>(out: &mut TextBuffer<A>, boolean: bool) -> Result<(), NotDirect>
-    ensures ok { OnOk result (text_in out.new ≡ text_in out.old ++ (if boolean then codes "true" else codes "false")) }
-    ensures err { OnErr result (text_in out.new ≡ text_in out.old) }
-{
-    if boolean {
-        return append(out, b"true");
-    }
-    append(out, b"false")
-}
-
 /// Appends an integer, or nothing.
+#[inline(always)]
 fn append_int<A: Allocator>(out: &mut TextBuffer<A>, number: i64) -> Result<(), NotDirect>
     ensures ok { OnOk result (text_in out.new ≡ text_in out.old ++ signed_decimal number) }
     ensures err { OnErr result (text_in out.new ≡ text_in out.old) }
@@ -95,36 +218,5 @@ fn append_double<A: Allocator>(out: &mut TextBuffer<A>, bits: u64) -> Result<(),
     let text = out.bytes.as_mut_slice();
     let end = put_byte(text, out.len, b'd');
     out.len = put_hexadecimal(text, end, &bits.to_be_bytes());
-    Ok(())
-}
-
-/// Appends a quoted string, or nothing.
-pub(crate) fn append_string<A: Allocator>(
-    out: &mut TextBuffer<A>,
-    bytes: &[u8],
-) -> Result<(), NotDirect>
-    ensures ok { OnOk result (text_in out.new ≡ text_in out.old ++ quoted bytes.now) }
-    ensures utf8 { OnOk result (is_utf8 bytes.now ≡ true) }
-    ensures err { OnErr result (text_in out.new ≡ text_in out.old) }
-{
-    let Ok(_text) = str::from_utf8(bytes) else {
-        return Err(NotDirect);
-    };
-    out.put_quoted(bytes)?;
-    Ok(())
-}
-
-/// Appends a comma, except before the first element.
-pub(crate) fn append_separator<A: Allocator>(
-    out: &mut TextBuffer<A>,
-    is_first: bool,
-) -> Result<(), NotDirect>
-    ensures ok { OnOk result (text_in out.new ≡ text_in out.old ++ separator is_first) }
-    ensures err { OnErr result (text_in out.new ≡ text_in out.old) }
-{
-    if is_first {
-        return Ok(());
-    }
-    out.put(b',')?;
     Ok(())
 }

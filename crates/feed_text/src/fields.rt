@@ -8,13 +8,19 @@ ghost use Rattle.rows_cells.specs.declared.format.CellFormat.TheVariants.{Signed
 ghost use Rattle.feed_text.specs.FieldText.{WritesOrNone};
 
 use crate::parts::{datetime_parts, time_parts};
-use crate::short::{FEW_DIGITS, SHORT_BYTES_MAX, put_date, put_span};
+use crate::short::{FEW_DIGITS, put_date, put_span};
 use crate::short_decimals::write_few_quoted;
 use feed_writers::{put_byte, put_bytes, put_number, put_plain_quoted, put_quoted, put_signed};
 use rows_cells::{
     CellFormat, CellRef, ImageField, Width, read_bytes, read_datetime, read_few_bytes, read_signed,
     read_time, read_unsigned, split_decimal,
 };
+
+/// The maximum length of the text of a field that is written here, in bytes.
+pub(crate) const VALUE_LEN_MAX: usize = 194;
+
+/// The maximum number of bytes whose quoted text is written here.
+const VALUE_BYTES_MAX: usize = 64;
 
 /// Writes the text of a field.
 #[inline(always)]
@@ -23,11 +29,14 @@ pub(crate) fn put_field<'a>(
     at: usize,
     field: ImageField<'a>,
 ) -> Option<(usize, &'a [u8])>
-    requires { at + 76 ≤ length text.old }
+    requires { at + 194 ≤ length text.old }
     ensures { WritesOrNone field.entry.is_null field.entry.format field.entry.bytes.now at text.old text.new result }
 {
     if field.is_null {
         return Some((put_bytes(text, at, b"NULL"), field.bytes));
+    }
+    if let CellFormat::Signed(Width::Four) = field.format {
+        return put_signed_of(text, at, field.bytes, Width::Four);
     }
     match field.format {
         CellFormat::Signed(width) => put_signed_field(text, at, field.bytes, width),
@@ -127,7 +136,7 @@ fn put_unsigned_of<'a>(
 #[inline(always)]
 #[tactic(auto, unfolding(crate::specs::CellText::text_of))]
 fn put_few_field<'a>(text: &mut [u8], at: usize, bytes: &'a [u8]) -> Option<(usize, &'a [u8])>
-    requires { at + 76 ≤ length text.old }
+    requires { at + 194 ≤ length text.old }
     ensures { WritesOrNone false (Counted One) bytes.now at text.old text.new result }
 {
     if let Some((window, len, rest)) = read_few_bytes(bytes) {
@@ -147,12 +156,12 @@ fn put_bytes_field<'a>(
     bytes: &'a [u8],
     width: Width,
 ) -> Option<(usize, &'a [u8])>
-    requires { at + 76 ≤ length text.old }
+    requires { at + 194 ≤ length text.old }
     ensures { WritesOrNone false (Counted width) bytes.now at text.old text.new result }
 {
     match read_bytes(bytes, width) {
         Ok((content, rest)) => {
-            if content.len() > SHORT_BYTES_MAX {
+            if content.len() > VALUE_BYTES_MAX {
                 return None;
             }
             Some((put_quoted(text, at, content), rest))

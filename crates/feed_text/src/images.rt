@@ -6,18 +6,18 @@ ghost use Rattle.feed_text.specs.ImageText.{WritesFields, AppendsFields, PutsCel
 
 use crate::buffer::TextBuffer;
 use crate::cells::{LABEL_LEN_MAX, put_label};
-use crate::fields::put_field;
-use crate::short::SHORT_LEN_MAX;
+use crate::fields::{VALUE_LEN_MAX, put_field};
 use rows_cells::ImageCells;
 use rows_times::RowsError;
 use std::alloc::{Allocator, Global};
 
 /// The maximum length of a label and a short text, in bytes.
-const FIELD_LEN_MAX: usize = LABEL_LEN_MAX + SHORT_LEN_MAX;
+pub(crate) const FIELD_LEN_MAX: usize = LABEL_LEN_MAX + VALUE_LEN_MAX;
 
 /// Writes the texts of cells as long as each is short; returns the offset of the end, and the remaining cells. If there isn't
 /// room for that many short texts, none is written.
-fn put_fields<'p, 'a>(
+#[inline(always)]
+pub(crate) fn put_fields<'p, 'a>(
     text: &mut [u8],
     at: usize,
     cells: ImageCells<'p, 'a>,

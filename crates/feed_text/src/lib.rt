@@ -18,12 +18,15 @@ mod fields;
 mod images;
 mod json_scalars;
 mod key_order;
+mod key_prefixes;
 pub mod laws;
 mod parts;
 mod pieces;
 mod quoting;
+mod rows;
 mod short;
 mod short_decimals;
+mod short_strings;
 mod values;
 
 pub use buffer::TextBuffer;

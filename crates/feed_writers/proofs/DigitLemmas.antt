@@ -5,11 +5,11 @@ use Rattle.std.specs.List.{prefix_len}
 use Rattle.std.proofs.lemmas.Bool.{ne_eqb, ltb-true, ltb-false}
 use Rattle.std.proofs.lemmas.Fmt.{decimal_digit, decimal_step, length-decimal-le}
 use Rattle.std.proofs.lemmas.Bool.Decides.{leb_tells}
-use Rattle.std.proofs.lemmas.List.{replicate_more, take-take, length-take-le}
-use Rattle.std.proofs.Math.Seq.{take-add, take-append_seam, drop-append_seam, take-length}
+use Rattle.std.proofs.lemmas.List.{replicate_more, take-take, length-take-le, take-append-le}
+use Rattle.std.proofs.Math.Seq.{take-add, take-append_seam, drop-append_seam}
 use Rattle.std.proofs.Math.Nat.{pow-suc, mul_comm, div-div-eq-div-mul, pow-le-pow_right}
 use Rattle.std.proofs.lemmas.Nat.{pow-add, le_bytes_8}
-use Rattle.std.specs.Int.{w64, byte_at, bytes_low_first, to_le_bytes, from_le_bytes}
+use Rattle.std.specs.Int.{w16, w64, byte_at, bytes_low_first, to_le_bytes, from_le_bytes}
 use Rattle.std.specs.Fmt.{decimal, digits}
 use Rattle.rows_times.specs.TimeTexts.{padded_decimal}
 use Rattle.feed_writers.specs.declared.digits.TheConstants.{PAIRS}
@@ -222,7 +222,7 @@ starts (suc k) n few some h =
           record { x = w.x; r = w.r ++ (48 + n % 10) ∷ []; is = digit_after (decimal n) (decimal (n / 10)) w.r w.x (48 + n % 10) (decimal_step n s.1 h) w.is; digit = w.digit }
     ]
 
-one_zero_more : (l : List ℕ) → length (take_while (λ d. d == 48) (48 ∷ l)) ≡ suc (length (take_while (λ d. d == 48) l))
+pub one_zero_more : (l : List ℕ) → length (take_while (λ d. d == 48) (48 ∷ l)) ≡ suc (length (take_while (λ d. d == 48) l))
 one_zero_more l = let e : 1 + prefix_len (λ d. d == 48) l ≡ suc (prefix_len (λ d. d == 48) l) = omega arith in rw e refl
 
 zeros_then : (j x : ℕ) (r : List ℕ) → 48 < x → length (take_while (λ d. d == 48) (replicate j 48 ++ x ∷ r)) ≡ j
@@ -230,21 +230,21 @@ zeros_then zero x r h = let no : (x == 48) ≡ false = ne_eqb x 48 (λ e. omega 
 zeros_then (suc j) x r h = one_zero_more (replicate j 48 ++ x ∷ r) ∙ ap suc (zeros_then j x r h)
 
 -- the number of digits that are left after the leading zeros of eight, for a number that isn't 0 and for 0
-pub middle_counted : (n z m end : ℕ) (digits : List ℕ) → n < 100000000 → length digits ≡ 8 → end ≡ 8 → take end digits ≡ padded_decimal 4 (n / 10000) ++ padded_decimal 4 (n % 10000) → z ≡ length (take_while (λ d. d == 48) digits) → m ≡ min z 7
+pub middle_counted : (n m : ℕ) (digits : List ℕ) → n < 100000000 → length digits ≡ 8 → digits ≡ padded_decimal 4 (n / 10000) ++ padded_decimal 4 (n % 10000) → m ≡ min (length (take_while (λ d. d == 48) digits)) 7
     → 8 - m ≡ length (decimal n)
-middle_counted n z m end digits small size e8 are counted least =
-    let is = sym (take-length digits) ∙ ap (λ (j : ℕ). take j digits) (size ∙ sym e8) ∙ are in
-    let eight : digits ≡ replicate (8 - length (decimal n)) 48 ++ decimal n = is ∙ eight_padded n (omega (arith, small)) ∙ padded_of 8 n in
+middle_counted n m digits small size are least =
+    let z = length (take_while (λ d. d == 48) digits) in
+    let eight : digits ≡ replicate (8 - length (decimal n)) 48 ++ decimal n = are ∙ eight_padded n (omega (arith, small)) ∙ padded_of 8 n in
     elim (leb_tells 1 n) [
       | inr t ↦
           let none : n ≡ 0 = omega (arith, t.1) in
           let all : digits ≡ replicate 8 48 = eight ∙ ap (λ k. replicate (8 - length (decimal k)) 48 ++ decimal k) none ∙ rw (decimal_digit 0 (omega arith)) refl in
-          let zeros : z ≡ 8 = counted ∙ ap (λ (l : List ℕ). length (take_while (λ d. d == 48) l)) {y = replicate 8 48} all in
+          let zeros : z ≡ 8 = ap (λ (l : List ℕ). length (take_while (λ d. d == 48) l)) {y = replicate 8 48} all in
           omega (arith, least, zeros, none, count_one n (omega arith))
       | inl s ↦
           let w = starts (length (decimal n)) n (omega arith) s.1 (omega (arith, small)) in
           let few : length (decimal n) ≤ 8 = length-decimal-le 8 n (omega (arith, small)) (omega (arith, small)) (omega (arith, small)) in
-          let zeros : z ≡ 8 - length (decimal n) = counted ∙ ap (λ (l : List ℕ). length (take_while (λ d. d == 48) l)) (eight ∙ ap (λ (t : List ℕ). replicate (8 - length (decimal n)) 48 ++ t) w.is) ∙ zeros_then (8 - length (decimal n)) w.x w.r w.digit in
+          let zeros : z ≡ 8 - length (decimal n) = ap (λ (l : List ℕ). length (take_while (λ d. d == 48) l)) (eight ∙ ap (λ (t : List ℕ). replicate (8 - length (decimal n)) 48 ++ t) w.is) ∙ zeros_then (8 - length (decimal n)) w.x w.r w.digit in
           let some : length (decimal n) ≡ suc (length w.r) = ap length w.is in
           omega (arith, least, zeros, few, some)
     ]
@@ -337,10 +337,9 @@ pub below_eight : (n count : ℕ) → count ≤ 8 → n < 10 ^ count → n < 100
 below_eight n count le small = let ten : 0 < 10 = omega arith in omega (arith, small, pow-le-pow_right {n = 10} ten le)
 
 -- only the first `count` of eight bytes that were written count
-pub prefix_counts : (at count r end : ℕ) (old new digits all piece shown : List ℕ) → at ≤ length old → count ≤ 8 → length digits ≡ 8 → end ≡ 8 → take end digits ≡ all → drop (8 - count) all ≡ shown → take count piece ≡ drop (8 - count) digits
+pub prefix_counts : (at count r : ℕ) (old new digits all piece shown : List ℕ) → at ≤ length old → count ≤ 8 → digits ≡ all → drop (8 - count) all ≡ shown → take count piece ≡ drop (8 - count) digits
     → r ≡ at + length piece → length piece ≡ 8 → take r new ≡ take at old ++ piece → take (at + count) new ≡ take at old ++ shown
-prefix_counts at count r end old new digits all piece shown room le size e8 are last shifted r8 p8 written =
-    let eight : digits ≡ all = sym (take-length digits) ∙ ap (λ (j : ℕ). take j digits) (size ∙ sym e8) ∙ are in
+prefix_counts at count r old new digits all piece shown room le are last shifted r8 p8 written =
     let prefix = take at old in
     let len : length prefix ≡ at = length-take-le at old room in
     sym (take-take (at + count) r new (omega (arith, le, r8, p8)))
@@ -348,8 +347,92 @@ prefix_counts at count r end old new digits all piece shown room le size e8 are 
     ∙ ap (λ (j : ℕ). take (j + count) (prefix ++ piece)) (sym len)
     ∙ take-add (length prefix) count (prefix ++ piece)
     ∙ ap₂ (λ (a b : List ℕ). a ++ take count b) (take-append_seam prefix piece) (drop-append_seam prefix piece)
-    ∙ ap (λ (t : List ℕ). prefix ++ t) (shifted ∙ ap (drop (8 - count)) eight ∙ last)
+    ∙ ap (λ (t : List ℕ). prefix ++ t) (shifted ∙ ap (drop (8 - count)) are ∙ last)
 
 pub padded_zeros : padded_decimal 6 0 ≡ 48 ∷ 48 ∷ 48 ∷ 48 ∷ 48 ∷ 48 ∷ []
 unfolding padded_decimal digits
 padded_zeros = refl
+
+-- ---- digits as the bytes of a number
+
+-- the two bytes of a pair are a number
+pub pair_number : (n tens ones whole : ℕ) → n < 100 → tens ≡ get_or PAIRS (n * 2) 0 → ones ≡ get_or PAIRS (n * 2 + 1) 0 → whole ≡ from_le_bytes w16 (tens ∷ ones ∷ []) → whole ≡ 48 + n / 10 + 256 * (48 + n % 10)
+pair_number n tens ones whole h a b is =
+    let p = PAIRS_at n h in
+    let x : tens ≡ 48 + n / 10 = a ∙ p.0 in
+    let y : ones ≡ 48 + n % 10 = b ∙ p.1 in
+    is ∙ rw (x, y) (omega arith)
+
+-- four digits are two pairs
+pub four_number : (n first second whole : ℕ) → n < 10000 → first ≡ 48 + n / 100 / 10 + 256 * (48 + n / 100 % 10) → second ≡ 48 + (n - 100 * (n / 100)) / 10 + 256 * (48 + (n - 100 * (n / 100)) % 10) → whole ≡ first + 65536 * second
+    → whole ≡ 48 + n / 1000 + 256 * (48 + n / 100 % 10) + 65536 * (48 + n / 10 % 10) + 16777216 * (48 + n % 10)
+four_number n first second whole h a b is = omega (arith, h, a, b, is)
+
+-- the bytes of a number of eight bytes
+bytes_eight : (a b c d e f g h whole : ℕ) → a < 256 → b < 256 → c < 256 → d < 256 → e < 256 → f < 256 → g < 256 → h < 256
+    → whole ≡ a + 256 * b + 65536 * c + 16777216 * d + 4294967296 * (e + 256 * f + 65536 * g + 16777216 * h)
+    → to_le_bytes w64 whole ≡ a ∷ b ∷ c ∷ d ∷ e ∷ f ∷ g ∷ h ∷ []
+bytes_eight a b c d e f g h whole la lb lc ld le lf lg lh is =
+    let one : whole % 256 ≡ a = omega (arith, la, is) in
+    let two : whole / 256 % 256 ≡ b = omega (arith, la, lb, is) in
+    let three : whole / 65536 % 256 ≡ c = omega (arith, la, lb, lc, is) in
+    let four : whole / 16777216 % 256 ≡ d = omega (arith, la, lb, lc, ld, is) in
+    let five : whole / 4294967296 % 256 ≡ e = omega (arith, la, lb, lc, ld, le, is) in
+    let six : whole / 1099511627776 % 256 ≡ f = omega (arith, la, lb, lc, ld, le, lf, is) in
+    let seven : whole / 281474976710656 % 256 ≡ g = omega (arith, la, lb, lc, ld, le, lf, lg, is) in
+    let eight : whole / 72057594037927936 % 256 ≡ h = omega (arith, la, lb, lc, ld, le, lf, lg, lh, is) in
+    rw (one, two, three, four, five, six, seven, eight) refl
+
+-- four digits, each by itself
+pub four_apart : (n : ℕ) → n < 10000 → padded_decimal 4 n ≡ (48 + n / 1000) ∷ (48 + n / 100 % 10) ∷ (48 + n / 10 % 10) ∷ (48 + n % 10) ∷ []
+four_apart n h =
+    let a : n / 100 / 10 ≡ n / 1000 = omega arith in
+    let b : n % 100 / 10 ≡ n / 10 % 10 = omega arith in
+    let c : n % 100 % 10 ≡ n % 10 = omega arith in
+    padded_two_more 1 n (omega (arith, h)) ∙ rw (padded_pair (n / 100) (omega (arith, h)), padded_pair (n % 100) (omega arith), a, b, c) refl
+
+abbrev four_value : ℕ → ℕ
+four_value n = 48 + n / 1000 + 256 * (48 + n / 100 % 10) + 65536 * (48 + n / 10 % 10) + 16777216 * (48 + n % 10)
+
+-- eight digits are twice four
+pub eight_bytes : (n first second whole : ℕ) → n < 100000000 → first ≡ four_value (n / 10000) → second ≡ four_value (n - 10000 * (n / 10000)) → whole ≡ first + 4294967296 * second
+    → to_le_bytes w64 whole ≡ padded_decimal 4 (n / 10000) ++ padded_decimal 4 (n % 10000)
+eight_bytes n first second whole h a b is =
+    let high = n / 10000 in
+    let low = n % 10000 in
+    let same : n - 10000 * (n / 10000) ≡ low = omega arith in
+    let c : second ≡ four_value low = b ∙ ap four_value same in
+    let ha : high < 10000 = omega (arith, h) in
+    let lo : low < 10000 = omega arith in
+    bytes_eight (48 + high / 1000) (48 + high / 100 % 10) (48 + high / 10 % 10) (48 + high % 10) (48 + low / 1000) (48 + low / 100 % 10) (48 + low / 10 % 10) (48 + low % 10) whole
+    (omega (arith, ha)) (omega arith) (omega arith) (omega arith) (omega (arith, lo)) (omega arith) (omega arith) (omega arith) (is ∙ rw (a, c) refl)
+    ∙ rw (four_apart high ha, four_apart low lo) refl
+
+-- ---- a number below 100 without a leading zero
+
+-- a byte may be overwritten
+pub short_pair : (at one end more n tens ones : ℕ) (old mid new : List ℕ) → n < 100 → at + 2 ≤ length old → (10 ≤ n → more ≡ 1) → (n < 10 → more ≡ 0) → tens ≡ get_or PAIRS (n * 2) 0 → ones ≡ get_or PAIRS (n * 2 + 1) 0
+    → one ≡ at + 1 → take one mid ≡ take at old ++ tens ∷ [] → take end new ≡ take (at + more) mid ++ ones ∷ [] → take end new ≡ take at old ++ decimal n
+short_pair at one end more n tens ones old mid new h room high low a b next first last =
+    let p = PAIRS_at n h in
+    let len : length (take at old) ≡ at = length-take-le at old (omega (arith, room)) in
+    let kept : take at mid ≡ take at old =
+    sym (take-take at one mid (omega (arith, next))) ∙ ap (take at) first ∙ take-append-le at (take at old) (tens ∷ []) (omega (arith, len)) ∙ take-take at at old (omega arith) in
+    elim (leb_tells 10 n) [
+      | inl t ↦
+          let both : at + more ≡ one = omega (arith, high t.1, next) in
+          last ∙ ap (λ (i : ℕ). take i mid ++ ones ∷ []) both ∙ ap (λ (l : List ℕ). l ++ ones ∷ []) first ∙ append_assoc (take at old) (tens ∷ []) (ones ∷ [])
+          ∙ ap (λ (l : List ℕ). take at old ++ l) (rw (a, b, p.0, p.1) (sym (padded_pair n h)) ∙ decimal_two n t.1 h)
+      | inr t ↦
+          let none : at + more ≡ at = omega (arith, low (omega (arith, t.1))) in
+          let few : n < 10 = omega (arith, t.1) in
+          let same : n % 10 ≡ n = omega (arith, few) in
+          last ∙ ap (λ (i : ℕ). take i mid ++ ones ∷ []) none ∙ ap (λ (l : List ℕ). l ++ ones ∷ []) kept
+          ∙ ap (λ (l : List ℕ). take at old ++ l) (rw (b, p.1, same) (sym (decimal_digit n few)))
+    ]
+
+pub short_pair_len : (more n : ℕ) → n < 100 → (10 ≤ n → more ≡ 1) → (n < 10 → more ≡ 0) → more + 1 ≡ length (decimal n)
+short_pair_len more n h high low = elim (leb_tells 10 n) [
+  | inl t ↦ omega (arith, high t.1, count_two n t.1 h)
+  | inr t ↦ let few : n < 10 = omega (arith, t.1) in omega (arith, low few, count_one n few)
+]

@@ -4,3 +4,4 @@ pub mod EscapeLemmas
 pub mod QuotedLemmas
 pub mod ColumnLabelLemmas
 pub mod BlockLemmas
+pub mod LeadingZeroLemmas

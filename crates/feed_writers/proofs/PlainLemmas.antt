@@ -2,7 +2,7 @@
 use Rattle.std.proofs.Common.{◌≡◌, ℕ, zero, suc, ◌+◌, ◌-◌, ◌%◌, ◌^◌, ◌<◌, ◌≤◌, ltb, eqb, Bool, true, false, not, ◌&&◌, ◌==◌, ◌⊎◌, inl, inr, cond, T, List, [], ◌∷◌, length, take, drop, get_or, map, replicate, Fits, w8, refl, sym, ap, ap₂, ◌∙◌, subst, arith, add-one, get_or-take, not-suc-le-zero}
 use Rattle.std.proofs.lemmas.Bool.{eqb-true, cases_order}
 use Rattle.std.proofs.lemmas.Simd.{length-chunk, leading_from_mask_l, chunk-fits, zip2_splat, mask_l-mod, trailing_mask_l}
-use Rattle.std.proofs.lemmas.List.{length-map, take_all}
+use Rattle.std.proofs.lemmas.List.{length-map}
 use Rattle.std.proofs.lemmas.List.Sums.{prefix_len-le-length, prefix_len_passes}
 use Rattle.std.specs.Bool.{OnTrue}
 use Rattle.std.specs.List.{prefix_len}
@@ -161,31 +161,3 @@ plain_counted d n k room le i q =
     let all = prefix_len-le-length (λ x. not (is_stop x)) (take n d) in
     let long = length-chunk 0 n d (omega (arith, room)) in
     ap is_plain_byte (sym (get_or-take n d i 0 (omega (arith, long, all, counted, le, q)))) ∙ no_stop _ (prefix_len_passes (λ x. not (is_stop x)) (take n d) i 0 (omega (arith, counted, le, q)))
-
--- ---- leading zeros of digits
-abbrev other : ℕ → ℕ → ℕ
-other a b = cond (not (eqb a b)) 255 0
-
-abbrev is_other : ℕ → Bool
-is_other x = not (x == 48)
-
-others : (v : List ℕ) → map (top 7) (map (λ x. other x 48) v) ≡ map is_other v
-others [] = refl
-others (x ∷ v) = ap₂ (λ a b. a ∷ b) (one (eqb x 48)) (others v)
-  where
-    one : (b : Bool) → top 7 (cond (not b) 255 0) ≡ not b
-    one true = refl
-    one false = refl
-
--- the first lane that differs, if one does
-pub zeros_counted : (d : List ℕ) (m : ℕ) → length d ≡ 8 → m ≡ mask_l (map (top 7) (zip2 other (take 8 d) (replicate 8 48))) % 2 ^ 64 → (m ≡ 0 → ⊥) → count_trailing_zeros 64 m ≡ length (take_while (λ x. x == 48) d)
-zeros_counted d m eight is some =
-    let v = take 8 d in
-    let all : v ≡ d = take_all 8 d (omega (arith, eight)) in
-    let long : length v ≡ 8 = ap length all ∙ eight in
-    let e : m ≡ mask_l (map is_other v) = is ∙ ap (λ l. mask_l l % 2 ^ 64) (ap (map (top 7)) (zip2_splat other v 8 48 long) ∙ others v) ∙ mask_l-mod (map is_other v) 64 (omega (arith, length-map v is_other, long)) in
-    ap (count_trailing_zeros 64) e ∙ trailing_mask_l is_other 64 v (omega (arith, long)) (omega (arith, sym e, positive m some)) ∙ passed_count (λ x. x == 48) v ∙ ap (λ (l : List ℕ). length (take_while (λ x. x == 48) l)) all
-  where
-    positive : (k : ℕ) → (k ≡ 0 → ⊥) → 0 < k
-    positive zero h = absurd (h refl)
-    positive (suc k) h = omega arith

@@ -1,11 +1,10 @@
 //! Bytes and decimal numbers.
 
-ghost use Rattle.std.specs.Prelude.{◌≡◌, ◌≤◌, ◌<◌, ◌^◌, ◌+◌, ◌-◌, ◌/◌, ◌%◌, ◌==◌, ◌++◌, ◌∷◌, [], length, take, take_while, drop};
+ghost use Rattle.std.specs.Prelude.{◌≡◌, ◌≤◌, ◌<◌, ◌^◌, ◌+◌, ◌-◌, ◌*◌, ◌/◌, ◌%◌, ◌==◌, ◌++◌, ◌∷◌, [], length, min, take, take_while, drop, All};
 ghost use Rattle.std.specs.Fmt.{decimal, signed_decimal};
 ghost use Rattle.rows_times.specs.TimeTexts.{padded_decimal};
 
 use itoa::write_digits;
-use std::simd::prelude::*;
 
 /// The two digits of each number below 100.
 static PAIRS: [u8; 200] =
@@ -178,24 +177,57 @@ fn put_middle(text: &mut [u8], at: usize, number: u32) -> usize
     ensures most { result ≤ at + 8 }
     ensures text { take result text.new ≡ take at text.old ++ decimal number }
 {
-    let mut digits = [b'0'; 8];
-    put_eight_bytes(&mut digits, 0, number);
-    let count = 8 - leading_zeros(&digits).min(7);
+    let digits = eight_digits(number);
+    let count = 8 - leading_zeros(digits);
     put_bytes(text, at, &last_bytes_first(digits, count));
     at + count
 }
 
-/// The number of zeros before the first nonzero digit of eight.
+/// The two digits of a number below 100, as the bytes of a number in little-endian order.
 #[inline(always)]
-fn leading_zeros(digits: &[u8; 8]) -> usize
-    ensures { result ≡ length (take_while (λ d. d == 48) digits.now) }
+fn two_digits(number: u32) -> u32
+    requires { number < 100 }
+    ensures { result ≡ 48 + number / 10 + 256 * (48 + number % 10) }
 {
-    let others = u8x8::from_slice(digits).simd_ne(u8x8::splat(b'0'));
-    let mask = others.to_bitmask();
-    if mask == 0 {
-        return 8;
-    }
-    mask.trailing_zeros() as usize
+    let from = number as usize * 2;
+    u32::from(u16::from_le_bytes([PAIRS[from], PAIRS[from + 1]]))
+}
+
+/// The same for the four digits of a number below 10,000.
+#[inline(always)]
+fn four_digits(number: u32) -> u32
+    requires { number < 10000 }
+    ensures { result ≡ 48 + number / 1000 + 256 * (48 + number / 100 % 10) + 65536 * (48 + number / 10 % 10) + 16777216 * (48 + number % 10) }
+{
+    let hundreds = number / 100;
+    two_digits(hundreds) + 65_536 * two_digits(number - 100 * hundreds)
+}
+
+/// The eight digits of a number below 100,000,000. They are computed as the bytes of one number, so that none goes through memory.
+#[inline(always)]
+fn eight_digits(number: u32) -> [u8; 8]
+    requires { number < 100000000 }
+    ensures { result ≡ padded_decimal 4 (number / 10000) ++ padded_decimal 4 (number % 10000) }
+{
+    let high = number / 10_000;
+    let (first, second) = (four_digits(high), four_digits(number - 10_000 * high));
+    (u64::from(first) + 4_294_967_296 * u64::from(second)).to_le_bytes()
+}
+
+/// Eight digits 0, as the bytes of a number.
+const ZEROS: u64 = 0x3030_3030_3030_3030;
+
+/// The highest bit of a number. It stops the count at the last of eight digits.
+const TOP_BIT: u64 = 0x8000_0000_0000_0000;
+
+/// The number of leading zeros of eight digits, at most seven: those before the digit with the lowest set bit of their values.
+#[inline(always)]
+fn leading_zeros(digits: [u8; 8]) -> usize
+    requires { All (λ d. (48 ≤ d) × (d ≤ 57)) digits }
+    ensures { result ≡ min (length (take_while (λ d. d == 48) digits)) 7 }
+{
+    let values = u64::from_le_bytes(digits) - ZEROS;
+    (values + TOP_BIT).trailing_zeros() as usize / 8
 }
 
 /// Writes a number with `count` digits, at most eight.
@@ -225,9 +257,7 @@ fn put_last_of_eight(text: &mut [u8], at: usize, count: usize, number: u32) -> u
     ensures end { result ≡ at + count }
     ensures text { take result text.new ≡ take at text.old ++ padded_decimal count number }
 {
-    let mut digits = [b'0'; 8];
-    put_eight_bytes(&mut digits, 0, number);
-    put_bytes(text, at, &last_bytes_first(digits, count));
+    put_bytes(text, at, &last_bytes_first(eight_digits(number), count));
     at + count
 }
 
@@ -260,8 +290,7 @@ fn put_eight_bytes(text: &mut [u8], at: usize, number: u32) -> usize
     ensures end { result ≡ at + 8 }
     ensures text { take result text.new ≡ take at text.old ++ (padded_decimal 4 (number / 10000) ++ padded_decimal 4 (number % 10000)) }
 {
-    let end = put_four(text, at, number / 10_000);
-    put_four(text, end, number % 10_000)
+    put_bytes(text, at, &eight_digits(number))
 }
 
 /// Writes a number in decimal.
@@ -278,9 +307,40 @@ pub fn put_number(text: &mut [u8], at: usize, number: u64) -> usize
     put_long(text, at, number)
 }
 
+/// Writes a number below 100 in decimal. Both digits are stored in any case, so that there is no branch.
+#[inline(always)]
+fn put_below_hundred(text: &mut [u8], at: usize, number: u32) -> usize
+    requires small { number < 100 }
+    requires room { at + 2 ≤ length text.old }
+    ensures end { result ≡ at + length (decimal number) }
+    ensures most { result ≤ at + 2 }
+    ensures text { take result text.new ≡ take at text.old ++ decimal number }
+{
+    let from = number as usize * 2;
+    let _end = put_byte(text, at, PAIRS[from]);
+    put_byte(text, at + at_least(number, 10), PAIRS[from + 1])
+}
+
 /// Writes a number of nine digits or more in decimal.
-#[inline]
+#[inline(always)]
 fn put_long(text: &mut [u8], at: usize, number: u64) -> usize
+    requires long { 100000000 ≤ number }
+    requires room { at + 20 ≤ length text.old }
+    ensures end { result ≡ at + length (decimal number) }
+    ensures most { result ≤ at + 20 }
+    ensures text { take result text.new ≡ take at text.old ++ decimal number }
+{
+    let prefix = number / 100_000_000;
+    if prefix >= 100 {
+        return put_longer(text, at, number);
+    }
+    let end = put_below_hundred(text, at, prefix as u32);
+    put_eight_bytes(text, end, (number % 100_000_000) as u32)
+}
+
+/// The same for a number that may have more than ten digits.
+#[inline(never)]
+fn put_longer(text: &mut [u8], at: usize, number: u64) -> usize
     requires long { 100000000 ≤ number }
     requires room { at + 20 ≤ length text.old }
     ensures end { result ≡ at + length (decimal number) }
@@ -298,18 +358,16 @@ fn put_long(text: &mut [u8], at: usize, number: u64) -> usize
     put_eight_bytes(text, end, last)
 }
 
-/// Writes a signed number in decimal.
+/// Writes a signed number in decimal. The `-` is stored in any case, so that there is no branch on the sign.
 #[inline(always)]
 pub fn put_signed(text: &mut [u8], at: usize, number: i64) -> usize
     requires { at + 21 ≤ length text.old }
     ensures most { result ≤ at + 21 }
     ensures text { take result text.new ≡ take at text.old ++ signed_decimal number }
 {
-    if number >= 0 {
-        return put_number(text, at, number as u64);
-    }
-    let end = put_byte(text, at, b'-');
-    put_number(text, end, number.unsigned_abs())
+    text[at] = b'-';
+    let start = at + usize::from(number < 0);
+    put_number(text, start, number.unsigned_abs())
 }
 
 /// Writes a number with leading zeros up to a minimum width.

@@ -2,7 +2,8 @@
 //! bytes. If `EventStreamReader` runs out of memory, the event is read again.
 
 use events_frames::{BinlogFileHeader, EventError};
-use events_stream::{Event, EventStreamReader};
+use events_reader::EventStreamReader;
+use events_stream::{Event, ReadEvents};
 use rows_consts::BinlogVersion;
 use std::alloc::Global;
 use std::io::{self, Write};

@@ -13,7 +13,7 @@ ghost use Rattle.events_queries.specs.LoadQueries.{IsLoadQuery, load_query_encod
 ghost use Rattle.events_gtids.specs.Gtids.{IsGtid, gtid_encoded};
 ghost use Rattle.std.specs.Fn.{FnReturnsAt};
 ghost use Rattle.mysql_binlog_events.specs.DataAgain.{IsDataSameAgain};
-ghost use Rattle.events_stream.specs.Readings.{ReaderState, Change, first_reading};
+ghost use Rattle.events_reader.specs.Readings.{ReaderState, Change, first_reading};
 ghost use Rattle.mysql_binlog_events.specs.Newest.{AcceptsAll, newest_described, newest_table_map};
 ghost use Rattle.mysql_binlog_events.specs.WrittenAgain.{IsWrittenBack, IsReadWithSum};
 ghost use Rattle.mysql_binlog_events.specs.ReadAgain.{IsReadAsEncoded, IsReadAgain, IsSameAgain, IsDescriptionReadAgain, IsDescriptionSameAgain, IsRowsReadAgain, IsRowsSameAgain, NothingFollows, AnythingFollows};
@@ -34,16 +34,18 @@ pub use events_gtids::laws::{
 };
 pub use events_queries::laws::{
     equal_load_queries_say_the_same, equal_queries_say_the_same, equal_status_vars_say_the_same,
-    equal_variables_are_the_same, load_queries_are_written_whole, queries_are_written_whole,
-    variables_are_read, worked_names, worked_queries, worked_variables,
+    equal_values_say_the_same, equal_variables_are_the_same, load_queries_are_written_whole,
+    queries_are_written_whole, variables_are_read, worked_names, worked_queries, worked_variables,
+};
+pub use events_reader::laws::{
+    accepted_events_have_no_error, events_are_accepted_in_one_way, table_maps_change_no_reading,
 };
 pub use events_rows::laws::{
     default_contexts_are_those_of_writing, equal_data_say_the_same, equal_events_say_the_same,
     images_are_those_of_the_kind, types_are_read_back, worked_contexts,
 };
 pub use events_stream::laws::{
-    accepted_events_have_no_error, events_are_accepted_in_one_way, files_end_once,
-    files_give_few_items, table_maps_change_no_reading, whole_events_fail_only_as_too_short,
+    files_end_once, files_give_few_items, whole_events_fail_only_as_too_short,
 };
 
 /// Bytes that begin with the encoding of a body are read as this body.

@@ -3,8 +3,8 @@
 //!
 //! Each part is a crate, which is re-exported completely: `events_frames` has frames, headers, footers, format descriptions and
 //! event errors, `events_bodies` the bodies with a fixed layout, `events_queries` the bodies with statements and their status
-//! variables, `events_gtids` those with GTIDs, `events_rows` rows events by type, `events_data` bodies of any type, and
-//! `events_stream` the readers of streams and files, and the writer. The parts use those of `mysql_binlog_rows` and `mysql_wire`.
+//! variables, `events_gtids` those with GTIDs, `events_rows` rows events by type, `events_data` bodies of any type,
+//! `events_reader` the reader of a log, and `events_stream` owned events, files and the writer. The parts use those of `mysql_binlog_rows` and `mysql_wire`.
 #![tactic(auto)]
 
 pub mod laws;
@@ -23,10 +23,11 @@ pub use events_gtids::{AnonymousGtidEvent, GtidEvent};
 pub use events_queries::{
     ExecuteLoadQueryEvent, QueryEvent, StatusVar, StatusVarVal, StatusVars, StatusVarsIterator,
 };
+pub use events_reader::EventStreamReader;
 pub use events_rows::{
     DeleteRows, DeleteRowsEvent, DeleteRowsEventV1, DeleteRowsV1, HasAfter, HasBefore,
     PartialUpdateRows, PartialUpdateRowsEvent, PostHeaderLens, RowsEventData, RowsEventOf,
     RowsKind, UpdateRows, UpdateRowsEvent, UpdateRowsEventV1, UpdateRowsV1, WriteRows,
     WriteRowsEvent, WriteRowsEventV1, WriteRowsV1,
 };
-pub use events_stream::{BinlogFile, Event, EventStreamReader, write_event};
+pub use events_stream::{BinlogFile, Event, ReadEvents, write_event};

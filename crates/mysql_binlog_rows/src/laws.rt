@@ -1,4 +1,10 @@
-//! The laws of the parts. Each is a function without code; its contract is the law.
+//! The laws of the parts and of the whole. Each is a function without code; its contract is the law.
+
+ghost use Rattle.std.specs.Prelude.{◌≡◌};
+ghost use Rattle.rows_events.specs.RowPairs.{planned_table, mapped_table};
+ghost use Rattle.rows_images.specs.PlanViews.{IsPlanOf};
+ghost use Rattle.rows_images.specs.declared.plan.ColumnPlan.{ColumnPlan};
+ghost use Rattle.rows_meta.specs.declared.table_map.TableMapEvent.{TableMapEvent};
 
 pub use rows_cells::laws::{
     cells_are_read, images_are_read, kept_values_are_those_of_cells, lists_of_rows_are_read,
@@ -21,6 +27,12 @@ pub use rows_meta::laws::{equal_maps_have_equal_contents, maps_are_written_compl
 pub use rows_optional::laws::{entries_are_read, equal_fields_are_the_same, lists_are_read};
 pub use rows_times::laws::{packed_fields_are_read_back, times_by_cases, worked_time};
 pub use rows_values::laws::{
-    equal_columns_and_times_are_the_same, equal_rows_are_the_same, equal_values_are_the_same,
-    worked_bits, worked_time_values,
+    equal_bits_are_the_same, equal_columns_and_times_are_the_same, equal_rows_are_the_same,
+    equal_values_are_the_same, worked_bits, worked_time_values,
 };
+
+/// A plan that was made of a table map has all that rows need of the map: `rows_by` with the plan gives what `rows` gives with the
+/// map.
+pub fn plans_give_the_rows_of_their_maps()
+    ensures { (plan : ColumnPlan) (map : TableMapEvent) → IsPlanOf plan map → planned_table plan ≡ mapped_table map }
+{}

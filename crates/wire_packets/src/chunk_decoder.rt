@@ -1,4 +1,4 @@
-ghost use Rattle.std.specs.Prelude.{◌≡◌, ◌+◌, ◌≤◌, ◌++◌, length, OnOk};
+ghost use Rattle.std.specs.Prelude.{◌≡◌, ◌+◌, ◌≤◌, ◌++◌, length, OnOk, IfOk, IfSome};
 ghost use Rattle.wire_packets.specs.Reading.{payload_len_at};
 ghost use Rattle.wire_packets.specs.Chunks.{held_header, EatsHeader, DecodesChunk};
 
@@ -43,6 +43,8 @@ impl ChunkDecoder {
     ) -> Result<Option<ChunkInfo>, PacketCodecError>
         ensures chunk { DecodesChunk max_allowed_packet self.old (held_header self.old ++ src.old.items)
             (held_header self.new ++ src.new.items) dst.old.items dst.new.items result }
+        // After a chunk the next header is still in `src`.
+        ensures idle { IfOk result (λ found. IfSome found (λ info. self.new ≡ ChunkDecoder.Idle)) }
         // A header that is still in `src` is checked against the limit as soon as it is complete.
         ensures limit { self.old ≡ ChunkDecoder.Idle → 4 ≤ length src.old.items
             → OnOk result (length dst.old.items + payload_len_at src.old.items ≤ max_allowed_packet) }

@@ -78,6 +78,46 @@ fn chunks_are_read(alloc: Global) -> bool {
         && payload.as_slice() == [5, 6].as_slice()
 }
 
+// Two chunks in one buffer: each call takes one, and leaves the next header.
+fn chunks_in_one_buffer(alloc: Global) -> bool {
+    let mut chunks = BytesMut::new(alloc);
+    let mut payload = Vec::new(alloc);
+    let mut decoder = ChunkDecoder::Idle;
+    chunks
+        .extend_from_slice(&[1, 0, 0, 7, 5, 1, 0, 0, 9, 6])
+        .is_ok()
+        && decoder.decode(&mut chunks, &mut payload, 2) == Ok(Some(ChunkInfo::Last(7)))
+        && decoder == ChunkDecoder::Idle
+        && chunks.as_slice() == [1, 0, 0, 9, 6].as_slice()
+        && decoder.decode(&mut chunks, &mut payload, 2) == Ok(Some(ChunkInfo::Last(9)))
+        && payload.as_slice() == [5, 6].as_slice()
+}
+
+fn chunk_past_the_limit(alloc: Global) -> bool {
+    let mut chunks = BytesMut::new(alloc);
+    let mut payload = Vec::new(alloc);
+    let mut decoder = ChunkDecoder::Idle;
+    chunks.extend_from_slice(&[3, 0, 0, 0]).is_ok()
+        && decoder.decode(&mut chunks, &mut payload, 2) == Err(PacketCodecError::PacketTooLarge)
+        && decoder == ChunkDecoder::Idle
+        && chunks.as_slice() == [3, 0, 0, 0].as_slice()
+}
+
+fn chunk_of_a_longer_packet(alloc: Global) -> bool {
+    let mut chunks = BytesMut::new(alloc);
+    let mut longest = Vec::new(alloc);
+    let mut payload = Vec::new(alloc);
+    let mut decoder = ChunkDecoder::Idle;
+    longest.resize(MAX_PAYLOAD_LEN, 7).is_ok()
+        && packet_to_chunks(0, longest.as_slice(), &mut chunks) == Ok(2)
+        && decoder.decode(&mut chunks, &mut payload, MAX_PAYLOAD_LEN)
+            == Ok(Some(ChunkInfo::Middle(0)))
+        && payload.len() == MAX_PAYLOAD_LEN
+        && decoder.decode(&mut chunks, &mut payload, MAX_PAYLOAD_LEN)
+            == Ok(Some(ChunkInfo::Last(1)))
+        && chunks.is_empty()
+}
+
 fn packets_are_read(alloc: Global) -> bool {
     let mut codec = PacketCodec::with_number(10, 7);
     let mut stream = BytesMut::new(alloc);
@@ -246,6 +286,9 @@ fn packets(rt: HostRuntime) {
     assert!(rt; packet_past_the_limit(alloc));
     assert!(rt; chunk_of_greatest_length(alloc));
     assert!(rt; chunks_are_read(alloc));
+    assert!(rt; chunks_in_one_buffer(alloc));
+    assert!(rt; chunk_past_the_limit(alloc));
+    assert!(rt; chunk_of_a_longer_packet(alloc));
     assert!(rt; packets_are_read(alloc));
     assert!(rt; payload_lent_from_the_buffer());
     assert!(rt; nothing_lent_after_a_fault(alloc));

@@ -193,11 +193,32 @@ fn interrupted_calls_are_tried_again() -> bool {
     let mut reader = Watched::new(Device::new(b"ab", &steps));
     let mut writer = Watched::new(Device::new(b"", &steps));
     let mut two = [0; 2];
-    reader.pull(&mut two).ok() == Some(1)
+    reader.pull_uninterrupted(&mut two).ok() == Some(1)
         && two == *b"a\0"
         && !reader.failed()
-        && writer.push(b"xy").ok() == Some(1)
+        && writer.push_uninterrupted(b"xy").ok() == Some(1)
         && !writer.failed()
+}
+
+/// Whether the call was interrupted.
+fn is_interrupted(called: IoResult<usize>) -> bool {
+    match called {
+        Ok(_) => false,
+        Err(error) => error.kind() == ErrorKind::Interrupted,
+    }
+}
+
+fn interruptions_are_no_failures() -> bool {
+    let steps = [Some(ErrorKind::Interrupted), None];
+    let mut reader = Watched::new(Device::new(b"ab", &steps));
+    let mut writer = Watched::new(Device::new(b"", &steps));
+    let mut two = [0; 2];
+    is_interrupted(reader.pull(&mut two))
+        && !reader.failed()
+        && reader.pull(&mut two).ok() == Some(1)
+        && is_interrupted(writer.push(b"xy"))
+        && !writer.failed()
+        && writer.push(b"xy").ok() == Some(1)
 }
 
 fn memory_grows_with_the_bytes_that_come(alloc: Global) -> bool {
@@ -222,5 +243,6 @@ fn streams(rt: HostRuntime) {
     assert!(rt; watched_writer_that_is_full());
     assert!(rt; failing_reader_and_writer());
     assert!(rt; interrupted_calls_are_tried_again());
+    assert!(rt; interruptions_are_no_failures());
     assert!(rt; memory_grows_with_the_bytes_that_come(alloc));
 }

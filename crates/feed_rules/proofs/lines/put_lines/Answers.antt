@@ -6,19 +6,21 @@ use Rattle.feed_rules.proofs.RowLineLemmas.{none_put, more_put, all_put, lines_f
 use Rattle.feed_rules.proofs.lines.put_lines.Goals as goal
 
 pub loop-rest-init : goal.loop-rest-init
-loop-rest-init g c = none_put (row_shape c.args.plan) c.args.start.now c.args.rows_data.now (text_in c.args.text.now) c.args.rows_data.now refl
+loop-rest-init g c =
+    c.put_short_lines-rest.ensures.lines c.args.rows_data.now (text_in c.args.text.now) (none_put (row_shape c.args.plan) c.args.start.now c.args.rows_data.now (text_in c.args.text.now) c.args.rows_data.now refl)
 
 pub loop-rest-preserved : goal.loop-rest-preserved
 loop-rest-preserved g c =
     let some : 0 < length c.loop-rest.rest.now = search (arith, rules) in
-    more_put (row_shape c.args.plan) c.args.start.now c.args.rows_data.now (text_in c.args.text.now) c.loop-rest.rest.now c.in_ok-rest.rest.now (text_in c.loop-rest.text) _ _ _ some c.loop-rest.invariant
-    c.in_ok-put_text.ensures.ok c.in_ok-rest.ensures.ok c.in_ok-put.ensures.ok
+    c.put_short_lines-rest-in-loop-rest.ensures.lines c.args.rows_data.now (text_in c.args.text.now)
+    (more_put (row_shape c.args.plan) c.args.start.now c.args.rows_data.now (text_in c.args.text.now) c.loop-rest.rest.now c.in_ok-next.next.now (text_in c.loop-rest.text) _ _ _ some c.loop-rest.invariant
+    c.in_ok-put_text.ensures.ok c.in_ok-next.ensures.ok c.in_ok-put.ensures.ok)
 
-pub returns-in_err-rest-clause-err : goal.returns-in_err-rest-clause-err
-returns-in_err-rest-clause-err g c =
+pub returns-in_err-next-clause-err : goal.returns-in_err-next-clause-err
+returns-in_err-next-clause-err g c =
     let some : 0 < length c.loop-rest.rest.now = search (arith, rules) in
-    IfErr-of_same _ _ _ c.from_residual-in_err-rest.ensures
-    (lines_failed (row_shape c.args.plan) c.args.start.now c.args.rows_data.now (text_in c.args.text.now) c.loop-rest.rest.now (text_in c.loop-rest.text) _ some c.loop-rest.invariant c.in_err-rest.ensures.err)
+    IfErr-of_same _ _ _ c.from_residual-in_err-next.ensures
+    (lines_failed (row_shape c.args.plan) c.args.start.now c.args.rows_data.now (text_in c.args.text.now) c.loop-rest.rest.now (text_in c.loop-rest.text) _ some c.loop-rest.invariant c.in_err-next.ensures.err)
 
 pub returns-clause-ok : goal.returns-clause-ok
 returns-clause-ok g c =

@@ -1,7 +1,7 @@
 use Rattle.std.proofs.Common.{length}
 use Rattle.rows_cells.specs.RowViews.{row_shape}
 use Rattle.feed_text.specs.Buffers.{text_in}
-use Rattle.feed_rules.proofs.RowLineLemmas.{IsUnderway}
+use Rattle.feed_rules.specs.RowLines.{IsUnderway}
 use Rattle.feed_rules.proofs.lines.put_lines.Given as goal
 
 -- the lines so far, and those of the remaining rows

@@ -1,6 +1,8 @@
-use Rattle.std.proofs.Common.{refl}
-use Rattle.feed_writers.proofs.PlainLemmas.{zeros_counted}
+use Rattle.std.proofs.Common.{◌≡◌, length, rules}
+use Rattle.feed_writers.proofs.LeadingZeroLemmas.{zeros_of_eight}
 use Rattle.feed_writers.proofs.digits.leading_zeros.Goals as goal
 
 pub returns : goal.returns
-returns c = zeros_counted c.args.digits.now _ c.told-digits refl c.if-mask-eq0.false
+returns c =
+    let size : length c.args.digits ≡ 8 = search rules in
+    zeros_of_eight c.args.digits c.from_le_bytes-values.result size c.requires c.from_le_bytes-values.ensures

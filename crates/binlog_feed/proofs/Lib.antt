@@ -1,0 +1,13 @@
+mod GtidFieldLemmas
+mod LineLemmas
+mod KindLemmas
+mod WholeLemmas
+mod CompleteReports
+mod ServingLemmas
+mod CellFeedLemmas
+mod FeedLemmas
+mod RowFeedLemmas
+mod TruncationLemmas
+mod RepairLemmas
+mod RestLemmas
+mod FollowableLemmas

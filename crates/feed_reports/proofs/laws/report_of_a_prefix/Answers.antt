@@ -1,5 +1,0 @@
-use Rattle.feed_reports.proofs.PrefixLemmas.{file_transactions-append}
-use Rattle.feed_reports.proofs.laws.report_of_a_prefix.Goals as goal
-
-pub returns : goal.returns
-returns c = file_transactions-append

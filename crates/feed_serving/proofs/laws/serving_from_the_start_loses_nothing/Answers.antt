@@ -1,5 +1,0 @@
-use Rattle.feed_serving.proofs.ServingLemmas.{serves-the-file}
-use Rattle.feed_serving.proofs.laws.serving_from_the_start_loses_nothing.Goals as goal
-
-pub returns : goal.returns
-returns c = serves-the-file

@@ -1,8 +1,0 @@
-use Rattle.std.proofs.Common.{refl}
-use Rattle.wire_packets.specs.Framing.{slice_of, chunks}
-use Rattle.feed_streams.specs.Requests.{dump_request}
-use Rattle.feed_streams.proofs.worked.worked_requests.Goals as goal
-
-pub returns : goal.returns
-unfolding slice_of chunks dump_request
-returns c = refl
