@@ -60,7 +60,7 @@ fn append_literal<A: Allocator>(out: &mut TextBuffer<A>, bytes: &[u8]) -> Result
 }
 
 /// Appends a signed number of 16 bits, or nothing.
-#[inline(always)]
+#[inline(never)]
 fn append_i16<A: Allocator>(out: &mut TextBuffer<A>, bytes: &[u8]) -> Result<(), NotDirect>
     ensures ok { OnOk result (WritesTypedScalar 5 bytes.now (text_in out.old) (text_in out.new)) }
     ensures err { OnErr result (text_in out.new ≡ text_in out.old) }
@@ -72,7 +72,7 @@ fn append_i16<A: Allocator>(out: &mut TextBuffer<A>, bytes: &[u8]) -> Result<(),
 }
 
 /// Appends an unsigned number of 16 bits, or nothing.
-#[inline(always)]
+#[inline(never)]
 fn append_u16<A: Allocator>(out: &mut TextBuffer<A>, bytes: &[u8]) -> Result<(), NotDirect>
     ensures ok { OnOk result (WritesTypedScalar 6 bytes.now (text_in out.old) (text_in out.new)) }
     ensures err { OnErr result (text_in out.new ≡ text_in out.old) }
@@ -84,7 +84,7 @@ fn append_u16<A: Allocator>(out: &mut TextBuffer<A>, bytes: &[u8]) -> Result<(),
 }
 
 /// Appends a signed number of 32 bits, or nothing.
-#[inline(always)]
+#[inline(never)]
 fn append_i32<A: Allocator>(out: &mut TextBuffer<A>, bytes: &[u8]) -> Result<(), NotDirect>
     ensures ok { OnOk result (WritesTypedScalar 7 bytes.now (text_in out.old) (text_in out.new)) }
     ensures err { OnErr result (text_in out.new ≡ text_in out.old) }
@@ -96,7 +96,7 @@ fn append_i32<A: Allocator>(out: &mut TextBuffer<A>, bytes: &[u8]) -> Result<(),
 }
 
 /// Appends an unsigned number of 32 bits, or nothing.
-#[inline(always)]
+#[inline(never)]
 fn append_u32<A: Allocator>(out: &mut TextBuffer<A>, bytes: &[u8]) -> Result<(), NotDirect>
     ensures ok { OnOk result (WritesTypedScalar 8 bytes.now (text_in out.old) (text_in out.new)) }
     ensures err { OnErr result (text_in out.new ≡ text_in out.old) }
@@ -108,7 +108,7 @@ fn append_u32<A: Allocator>(out: &mut TextBuffer<A>, bytes: &[u8]) -> Result<(),
 }
 
 /// Appends a signed number of 64 bits, or nothing.
-#[inline(always)]
+#[inline(never)]
 fn append_i64<A: Allocator>(out: &mut TextBuffer<A>, bytes: &[u8]) -> Result<(), NotDirect>
     ensures ok { OnOk result (WritesTypedScalar 9 bytes.now (text_in out.old) (text_in out.new)) }
     ensures err { OnErr result (text_in out.new ≡ text_in out.old) }
@@ -120,7 +120,7 @@ fn append_i64<A: Allocator>(out: &mut TextBuffer<A>, bytes: &[u8]) -> Result<(),
 }
 
 /// Appends an unsigned number of 64 bits, or nothing.
-#[inline(always)]
+#[inline(never)]
 fn append_u64<A: Allocator>(out: &mut TextBuffer<A>, bytes: &[u8]) -> Result<(), NotDirect>
     ensures ok { OnOk result (WritesTypedScalar 10 bytes.now (text_in out.old) (text_in out.new)) }
     ensures err { OnErr result (text_in out.new ≡ text_in out.old) }

@@ -53,7 +53,7 @@ pub(crate) fn put_field<'a>(
 }
 
 /// Writes the text of a signed number.
-#[inline(always)]
+#[inline(never)]
 fn put_signed_field<'a>(
     text: &mut [u8],
     at: usize,
@@ -91,7 +91,7 @@ fn put_signed_of<'a>(
 }
 
 /// Writes the text of an unsigned number.
-#[inline(always)]
+#[inline(never)]
 fn put_unsigned_field<'a>(
     text: &mut [u8],
     at: usize,
@@ -133,7 +133,7 @@ fn put_unsigned_of<'a>(
 }
 
 /// Writes the text of a few bytes after a length of one byte.
-#[inline(always)]
+#[inline(never)]
 #[tactic(auto, unfolding(crate::specs::CellText::text_of))]
 fn put_few_field<'a>(text: &mut [u8], at: usize, bytes: &'a [u8]) -> Option<(usize, &'a [u8])>
     requires { at + 194 ≤ length text.old }
@@ -148,7 +148,7 @@ fn put_few_field<'a>(text: &mut [u8], at: usize, bytes: &'a [u8]) -> Option<(usi
 }
 
 /// Writes the text of a few bytes.
-#[inline(always)]
+#[inline(never)]
 #[tactic(auto, unfolding(crate::specs::CellText::text_of))]
 fn put_bytes_field<'a>(
     text: &mut [u8],
@@ -171,7 +171,7 @@ fn put_bytes_field<'a>(
 }
 
 /// Writes the text of a DATETIME.
-#[inline(always)]
+#[inline(never)]
 #[tactic(auto, unfolding(crate::specs::CellText::text_of, crate::specs::ShortTexts::short_text))]
 fn put_datetime_field<'a>(
     text: &mut [u8],
@@ -192,7 +192,7 @@ fn put_datetime_field<'a>(
 }
 
 /// Writes the text of a TIME.
-#[inline(always)]
+#[inline(never)]
 #[tactic(auto, unfolding(crate::specs::CellText::text_of, crate::specs::ShortTexts::short_text))]
 fn put_time_field<'a>(
     text: &mut [u8],
@@ -213,7 +213,7 @@ fn put_time_field<'a>(
 }
 
 /// Writes the text of a decimal with few digits.
-#[inline(always)]
+#[inline(never)]
 fn put_decimal_field<'a>(
     text: &mut [u8],
     at: usize,
