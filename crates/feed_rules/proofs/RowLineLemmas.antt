@@ -25,7 +25,7 @@ use Rattle.feed_text.specs.ImageText.{cells_text, Cells, cells_then, PutsCells, 
 use Rattle.feed_text.specs.RowText.{AreRowTexts, row_line}
 use Rattle.feed_rules.specs.declared.verdict.Verdict.{Verdict}
 use Rattle.feed_rules.specs.Rows.{image_texts, row_texts, value_or_none, walked_texts, event_texts}
-use Rattle.feed_rules.specs.RowLines.{row_verdict, IsRowError, with_text, image_text_at, with_texts, images_texts_at, row_texts_at, rows_texts_at, PutsImage, PutsImages, PutsRow, PutsLines, PutsRows, IsRowsError, IsUnderway, line_of}
+use Rattle.feed_rules.specs.RowLines.{row_verdict, IsRowError, with_text, image_text_at, with_texts, images_texts_at, row_texts_at, rows_texts_at, PutsImage, PutsImages, PutsRow, PutsLines, PutsRows, IsRowsError, IsAppendedSoFar, line_of}
 use Rattle.feed_rules.specs.Texts.{images_text}
 
 -- ---- readings without a value
@@ -206,7 +206,7 @@ walked_more images texts w is = of_fault w.fault
 
 module _ (shapes : List ImageShape) (start bytes before : List ℕ) where
   -- no line yet
-  pub none_put : (whole : List ℕ) → whole ≡ bytes → IsUnderway shapes start bytes whole before before
+  pub none_put : (whole : List ℕ) → whole ≡ bytes → IsAppendedSoFar shapes start bytes whole before before
   none_put whole e = rw e (record { texts = []; steps = length bytes; enough = omega arith; are = sym (same (walked_texts (walk (row_at shapes) (length bytes) bytes))); appended = sym (append-nil before) })
     where
       same : (o : Option (List (List (List ℕ)))) → option_map (λ m. [] ++ m) o ≡ o
@@ -222,8 +222,8 @@ module _ (shapes : List ImageShape) (start bytes before : List ℕ) where
   lines_append f (x ∷ one) texts = ap (λ (l : List ℕ). f x ++ l) (lines_append f one texts) ∙ sym (append_assoc (f x) (flat_map f one) (f texts))
 
   -- one more line
-  pub more_put : (rest after now begun put new : List ℕ) → 0 < length rest → IsUnderway shapes start bytes rest before now → begun ≡ now ++ start → PutsRow shapes rest after begun put → new ≡ put ++ 10 ∷ []
-      → IsUnderway shapes start bytes after before new
+  pub more_put : (rest after now begun put new : List ℕ) → 0 < length rest → IsAppendedSoFar shapes start bytes rest before now → begun ≡ now ++ start → PutsRow shapes rest after begun put → new ≡ put ++ 10 ∷ []
+      → IsAppendedSoFar shapes start bytes after before new
   more_put rest after now begun put new some u e p f = on u.steps u.enough u.are
     where
       text_is : new ≡ before ++ flat_map (line_of start) (u.texts ++ p.texts ∷ [])
@@ -233,7 +233,7 @@ module _ (shapes : List ImageShape) (start bytes before : List ℕ) where
           f ∙ ap (λ (l : List ℕ). l ++ 10 ∷ []) (p.appended ∙ ap (λ (l : List ℕ). l ++ images_text p.texts) e ∙ append_assoc now start (images_text p.texts)) ∙ append_assoc now (start ++ images_text p.texts) (10 ∷ []) in
           own ∙ ap (λ (l : List ℕ). l ++ line) u.appended ∙ append_assoc before (flat_map (line_of start) u.texts) line ∙ ap (λ (l : List ℕ). before ++ l) (sym (lines_append (line_of start) u.texts p.texts))
 
-      on : (n : ℕ) → length rest ≤ n → walked_texts (walk (row_at shapes) (length bytes) bytes) ≡ option_map (λ m. u.texts ++ m) (walked_texts (walk (row_at shapes) n rest)) → IsUnderway shapes start bytes after before new
+      on : (n : ℕ) → length rest ≤ n → walked_texts (walk (row_at shapes) (length bytes) bytes) ≡ option_map (λ m. u.texts ++ m) (walked_texts (walk (row_at shapes) n rest)) → IsAppendedSoFar shapes start bytes after before new
       on zero le are = absurd (omega (arith, le, some))
       on (suc n) le are = record {
         texts = u.texts ++ p.texts ∷ [];
@@ -246,8 +246,8 @@ module _ (shapes : List ImageShape) (start bytes before : List ℕ) where
       }
 
   -- lines of rows that have one image each
-  pub short_put : (s : ImageShape) → shapes ≡ s ∷ [] → (texts : List (List ℕ)) (rest after now new : List ℕ) → IsUnderway shapes start bytes rest before now → AreRowTexts s texts rest after → new ≡ now ++ flat_map (row_line start) texts
-      → IsUnderway shapes start bytes after before new
+  pub short_put : (s : ImageShape) → shapes ≡ s ∷ [] → (texts : List (List ℕ)) (rest after now new : List ℕ) → IsAppendedSoFar shapes start bytes rest before now → AreRowTexts s texts rest after → new ≡ now ++ flat_map (row_line start) texts
+      → IsAppendedSoFar shapes start bytes after before new
   short_put s one [] rest after now new u are is = rw (is, append-nil now, sym are) u
   short_put s one (text ∷ texts) rest after now new u (mid, row, more) is =
       let line : now ++ row_line start text ≡ (now ++ start) ++ (text ++ 10 ∷ []) = sym (append_assoc now start (text ++ 10 ∷ [])) in
@@ -257,7 +257,7 @@ module _ (shapes : List ImageShape) (start bytes before : List ℕ) where
       short_put s one texts mid after (now ++ row_line start text) new next more (is ∙ sym (append_assoc now (row_line start text) (flat_map (row_line start) texts)))
 
   -- all lines
-  pub all_put : (rest now : List ℕ) → length rest ≡ 0 → IsUnderway shapes start bytes rest before now → PutsLines shapes start bytes before now
+  pub all_put : (rest now : List ℕ) → length rest ≡ 0 → IsAppendedSoFar shapes start bytes rest before now → PutsLines shapes start bytes before now
   unfolding row_texts
   all_put [] now e u = record {
     texts = u.texts;
@@ -284,7 +284,7 @@ module _ (shapes : List ImageShape) (start bytes before : List ℕ) where
       of (Ok x) h k = ap walked_texts (walk_on (row_at shapes) n rest (Ok x) some le h) ∙ of_item x.0 (walk (row_at shapes) n x.1) (none_before (image_texts x.0) (λ ts. (ts, x.1)) k)
       of (Err e) h k = ap walked_texts (walk_on (row_at shapes) n rest (Err e) some le h)
 
-  pub lines_failed : (rest now : List ℕ) (v : Verdict) → 0 < length rest → IsUnderway shapes start bytes rest before now → IsRowError (row_texts_at shapes rest) v
+  pub lines_failed : (rest now : List ℕ) (v : Verdict) → 0 < length rest → IsAppendedSoFar shapes start bytes rest before now → IsRowError (row_texts_at shapes rest) v
       → IsRowsError (walked_texts (walk (row_at shapes) (length bytes) bytes)) v
   lines_failed rest now v some u (inl h) =
       inl (h.0, u.are ∙ ap (λ (o : Option (List (List (List ℕ)))). option_map (λ m. u.texts ++ m) o) (stops_at u.steps rest some u.enough h.1))

@@ -82,7 +82,7 @@ pub record PutsLines (shapes : List ImageShape) (start bytes before after : List
   pub appended : after ≡ before ++ flat_map (line_of start) texts
 
 -- the lines of the first rows were appended, and `rest` are the bytes after these rows
-pub record IsUnderway (shapes : List ImageShape) (start bytes rest before now : List ℕ) : Type 0 where
+pub record IsAppendedSoFar (shapes : List ImageShape) (start bytes rest before now : List ℕ) : Type 0 where
   pub texts : List (List (List ℕ))
   pub steps : ℕ
   pub enough : length rest ≤ steps

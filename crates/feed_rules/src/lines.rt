@@ -4,7 +4,7 @@ ghost use Rattle.std.specs.Prelude.{◌≡◌, ◌≤◌, ◌++◌, ℕ, List, l
 ghost use Rattle.rows_cells.specs.ImageViews.{image_shape};
 ghost use Rattle.rows_cells.specs.RowViews.{row_shape};
 ghost use Rattle.feed_text.specs.Buffers.{text_in};
-ghost use Rattle.feed_rules.specs.RowLines.{row_verdict, IsRowError, image_text_at, images_texts_at, row_texts_at, rows_texts_at, PutsImage, PutsImages, PutsRow, PutsLines, PutsRows, IsRowsError, IsUnderway};
+ghost use Rattle.feed_rules.specs.RowLines.{row_verdict, IsRowError, image_text_at, images_texts_at, row_texts_at, rows_texts_at, PutsImage, PutsImages, PutsRow, PutsLines, PutsRows, IsRowsError, IsAppendedSoFar};
 ghost use Rattle.feed_rules.specs.Rows.{event_texts};
 ghost use Rattle.rows_images.specs.ImageShapes.{table_plan};
 ghost use Rattle.rows_events.specs.Views.{body_of};
@@ -121,8 +121,8 @@ fn put_short_lines<'a, A: Allocator>(
     rows_data: &'a [u8],
     text: &mut TextBuffer<A>,
 ) -> &'a [u8]
-    ensures lines { (bytes before : List ℕ) → IsUnderway (row_shape plan.entry) start.now bytes rows_data.now before (text_in text.old)
-        → IsUnderway (row_shape plan.entry) start.now bytes result.now before (text_in text.new) }
+    ensures lines { (bytes before : List ℕ) → IsAppendedSoFar (row_shape plan.entry) start.now bytes rows_data.now before (text_in text.old)
+        → IsAppendedSoFar (row_shape plan.entry) start.now bytes result.now before (text_in text.new) }
     ensures most { length result.now ≤ length rows_data.now }
 {
     if !is_tried {

@@ -36,9 +36,9 @@ fn put_short_row<'a>(
 }
 
 impl<A: Allocator> TextBuffer<A> {
-    /// Appends a line for each of the first rows, up to one that has a cell whose text may be long, that can't be read or takes
-    /// no bytes; returns the bytes from that row on. Each line begins with `start`. The caller appends the others. Out of memory:
-    /// it ends at the row that it has no room for.
+    /// Appends a line for each of some first rows, none to all of them, and returns the bytes after these rows; the caller appends
+    /// the others. Each line begins with `start`. It stops at a row that has a cell whose text may be long, that can't be read or
+    /// takes no bytes, and at one that there is no memory for.
     #[inline(never)]
     pub fn put_short_rows<'a>(
         &mut self,
