@@ -3,6 +3,7 @@ use Rattle.std.specs.Prelude.{◌≡◌, ◌↔◌, ℕ, ◌++◌, List, [], len
 use Rattle.wire_buf.specs.LenencSplit.{split_number, split_lenenc}
 use Rattle.wire_buf.specs.Encoding.{Encoding, Begins}
 
+-- a function from bytes to the value that they begin with, and the bytes after it
 abbrev pub Reader : Type 0 → Type 0
 Reader A = List ℕ → Option (A × List ℕ)
 
@@ -45,6 +46,7 @@ dependent_reader first second x = first x >>= λ p. second p.0 p.1
 abbrev pub short_string_bytes_reader : Reader (List ℕ)
 short_string_bytes_reader = dependent_reader (split_number 1) bytes_reader
 
+-- a length-encoded string
 abbrev pub lenenc_string_bytes_reader : Reader (List ℕ)
 lenenc_string_bytes_reader = dependent_reader split_lenenc bytes_reader
 

@@ -32,12 +32,14 @@ pub data Change : Type 0 where
   Update : Change
   Delete : Change
 
+-- the change of a row with these images
 abbrev pub change_by : RowImages → Change
 change_by images.Before = Delete
 change_by images.After = Insert
 change_by images.BeforeAndAfter = Update
 change_by images.BeforeAndPartialAfter = Update
 
+-- the change of an event's rows
 abbrev pub change_of : RowsBody → Change
 change_of r = change_by (images_of r.event_type)
 
@@ -56,6 +58,7 @@ image_texts (image ∷ images) = do
   texts ← image_texts images
   Ok (text ∷ texts)
 
+-- the texts of the cells of each row, if all can be read
 unfoldable pub row_texts : List (List (List ColumnValue)) → Reading (List (List (List ℕ)))
 row_texts [] = Ok []
 row_texts (row ∷ rows) = do
@@ -63,6 +66,7 @@ row_texts (row ∷ rows) = do
   more ← row_texts rows
   Ok (texts ∷ more)
 
+-- the value, if there is one
 abbrev pub value_or_none : {A : Type 0} → Reading A → Option A
 value_or_none (Ok x) = Some x
 value_or_none (Err e) = None
@@ -79,6 +83,7 @@ event_texts r p = walked_texts (event_rows r p)
 unfoldable pub texts_of_rows : RowsBody → TableMap → Option (List (List (List ℕ)))
 texts_of_rows r t = event_texts r (plan_by t)
 
+-- the rows with these texts, or `Row` if there are none
 abbrev pub rows_by : RowsBody → TableMap → Option (List (List (List ℕ))) → Result (List Row) Verdict
 rows_by r t None = Err verdicts.Row
 rows_by r t (Some texts) = Ok (map (λ images. record { on_rows = change_of r; database = t.database; table = t.table; images = images }) texts)
@@ -90,10 +95,12 @@ rows_result m r = elim (length r.rows_data == 0) [
   | false ↦ elim m [ None ↦ Err verdicts.NoTableMap | Some t ↦ rows_by r t (texts_of_rows r t) ]
 ]
 
+-- why there are no rows
 abbrev pub fault_in : Result (List Row) Verdict → Option Verdict
 fault_in (Ok rows) = None
 fault_in (Err v) = Some v
 
+-- the rows, or none
 abbrev pub rows_in : Result (List Row) Verdict → List Row
 rows_in (Ok rows) = rows
 rows_in (Err v) = []

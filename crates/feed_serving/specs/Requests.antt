@@ -14,12 +14,15 @@ use Rattle.feed_rules.specs.declared.verdict.Verdict.TheVariants as verdicts
 abbrev pub is_dump : List ℕ → Bool
 is_dump p = nat_le 11 (length p) && (slice_index p 0 == 18)
 
+-- the position, in four bytes
 abbrev pub position_in : List ℕ → ℕ
 position_in p = little_number 4 (drop 1 p)
 
+-- the flags, in two bytes
 abbrev pub flags_in : List ℕ → ℕ
 flags_in p = little_number 2 (drop 5 p)
 
+-- the name of the log
 abbrev pub name_in : List ℕ → List ℕ
 name_in p = drop 11 p
 

@@ -11,6 +11,7 @@ use Rattle.rows_jsonb.specs.declared.diff.JsonDiffOperation.TheVariants.{REPLACE
 use Rattle.feed_writers.specs.Quoting.{quoted}
 use Rattle.feed_text.specs.JsonText.{document_text}
 
+-- the word of an operation
 abbrev pub operation_text : JsonDiffOperation → List ℕ
 operation_text REPLACE = codes "replace "
 operation_text INSERT = codes "insert "
@@ -20,6 +21,7 @@ operation_text REMOVE = codes "remove "
 abbrev pub document_part : JsonbValue → Reading (List ℕ)
 document_part v = tree_in v >>= λ t. Ok (32 ∷ document_text t)
 
+-- the text of the new value, if there is one
 abbrev pub value_part : Option JsonbValue → Reading (List ℕ)
 value_part None = Ok []
 value_part (Some v) = document_part v
@@ -28,6 +30,7 @@ value_part (Some v) = document_part v
 abbrev pub diff_text : Diff → Reading (List ℕ)
 diff_text d = value_part d.1.1 >>= λ v. Ok (operation_text d.0 ++ (quoted d.1.0 ++ v))
 
+-- the text of each update, in order
 unfoldable pub diff_texts : List Diff → Reading (List (List ℕ))
 diff_texts [] = Ok []
 diff_texts (d ∷ ds) = diff_text d >>= λ t. diff_texts ds >>= λ ts. Ok (t ∷ ts)
@@ -36,5 +39,6 @@ diff_texts (d ∷ ds) = diff_text d >>= λ t. diff_texts ds >>= λ ts. Ok (t ∷
 abbrev pub bracketed : List (List ℕ) → List ℕ
 bracketed texts = codes "diff[" ++ (join_with_byte 44 texts ++ codes "]")
 
+-- the text of all updates of a cell
 abbrev pub diffs_text : List Diff → Reading (List ℕ)
 diffs_text ds = diff_texts ds >>= λ ts. Ok (bracketed ts)

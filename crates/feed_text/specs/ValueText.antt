@@ -12,6 +12,7 @@ use Rattle.feed_text.specs.Times.{date_text, span_text}
 abbrev pub float_text : ℕ → List ℕ
 float_text bits = 102 ∷ encode_lower (to_be_bytes w32 bits)
 
+-- the text of a DOUBLE: `d` and its 64 bits in hexadecimal digits, the highest byte first
 abbrev pub double_text : ℕ → List ℕ
 double_text bits = 100 ∷ encode_lower (to_be_bytes w64 bits)
 

@@ -9,6 +9,7 @@ use Rattle.rows_cells.specs.declared.format.Width.TheVariants as width
 use Rattle.rows_cells.specs.declared.format.CellFormat.{CellFormat}
 use Rattle.rows_cells.specs.declared.format.CellFormat.TheVariants as format
 
+-- the width of a number in bytes
 abbrev pub width_bytes : Width → ℕ
 width_bytes width.One = 1
 width_bytes width.Two = 2
@@ -26,6 +27,7 @@ pub data Size : Type 0 where
 abbrev pub decimal_size : ℕ → ℕ → Size
 decimal_size precision scale = if nat_le scale precision then exactly (packed_size (precision - scale) scale) else unreadable BadDecimal
 
+-- the size of a cell's content, by its format
 abbrev pub cell_size : CellFormat → Size
 cell_size (format.Signed w) = exactly (width_bytes w)
 cell_size (format.Unsigned w) = exactly (width_bytes w)

@@ -65,6 +65,7 @@ cell_micros_text micros =
     if unsigned_abs micros == 0 then []
     else 46 ∷ (if int_lt micros (pos 0) then 45 ∷ padded_decimal 5 (unsigned_abs micros) else padded_decimal 6 (unsigned_abs micros))
 
+-- the text of a timestamp: seconds, and the fraction if it has one
 unfoldable pub timestamp_text : ℤ × ℤ → List ℕ
 timestamp_text t = signed_decimal t.0 ++ cell_micros_text t.1
 

@@ -7,6 +7,7 @@ use Rattle.rows_cells.specs.declared.format.Width.TheVariants as width
 use Rattle.rows_cells.specs.declared.format.CellFormat.{CellFormat}
 use Rattle.rows_cells.specs.declared.format.CellFormat.TheVariants as format
 
+-- the format of an integer of this width
 abbrev pub number_format : Bool → Width → CellFormat
 number_format true w = format.Unsigned w
 number_format false w = format.Signed w
@@ -63,6 +64,7 @@ metadata_format column.MYSQL_TYPE_GEOMETRY metadata = by_one blob_format metadat
 metadata_format column.MYSQL_TYPE_VECTOR metadata = by_one blob_format metadata
 metadata_format other metadata = format.NoCells
 
+-- the format of a column's cells, by its real type, its metadata and whether it is unsigned
 abbrev pub column_format : ColumnType → List ℕ → Bool → CellFormat
 column_format column.MYSQL_TYPE_TINY metadata unsigned = number_format unsigned width.One
 column_format column.MYSQL_TYPE_SHORT metadata unsigned = number_format unsigned width.Two

@@ -19,6 +19,7 @@ pub record IsEventRow (shapes : List ImageShape) (row : List (List ColumnValue))
 
 -- The rest of this file computes what `IsEventRow` states, as the law `rows_are_read` says.
 
+-- the images of these shapes, one after the other, and the bytes after them
 unfoldable pub images_at : List ImageShape → List ℕ → Reading (List (List ColumnValue) × List ℕ)
 images_at [] bytes = Ok ([], bytes)
 images_at (s ∷ ss) bytes = do
@@ -30,5 +31,6 @@ images_at (s ∷ ss) bytes = do
 abbrev pub takes_some : {A : Type 0} → ℕ → A × List ℕ → Reading (A × List ℕ)
 takes_some n x = if nat_lt (length x.1) n then Ok x else Err EmptyPair
 
+-- the row that bytes begin with, and the bytes after it; a row takes at least one byte
 unfoldable pub row_at : List ImageShape → List ℕ → Reading (List (List ColumnValue) × List ℕ)
 row_at shapes bytes = images_at shapes bytes >>= takes_some (length bytes)

@@ -38,6 +38,7 @@ abbrev pub format_by : Bool → CellFormat → CellFormat
 format_by true format.Json = format.JsonDiffs
 format_by b f = f
 
+-- the format of a column's cell in an image: diffs, if the column's bit of partial updates is set
 abbrev pub format_in : List ℕ → ImageColumn → CellFormat
 format_in bits c = format_by (bit bits c.json_column) c.format
 
@@ -67,10 +68,12 @@ pub record IsImage (shape : ImageShape) (row : List ColumnValue) (bytes : List �
 
 -- The rest of this file computes what `IsImage` states, as the law `images_are_read` says: a value and the bytes after it, the cells of these columns, an image.
 
+-- the cell that bytes begin with, or NULL, and the bytes after it
 abbrev pub field_at : Bool → CellFormat → List ℕ → Reading (CellValue × List ℕ)
 field_at true format bytes = Ok (null, bytes)
 field_at false format bytes = cell_at format bytes
 
+-- the cells of these columns, in order; `nulls` has a bit for each, from bit k on
 unfoldable pub cells_at : List ℕ → List ℕ → ℕ → List ImageColumn → List ℕ → Reading (List ColumnValue × List ℕ)
 cells_at bits nulls k [] bytes = Ok ([], bytes)
 cells_at bits nulls k (c ∷ cs) bytes = do
@@ -83,20 +86,25 @@ abbrev pub lenenc_error : List ℕ → RowsError
 lenenc_error [] = EndOfBody
 lenenc_error (b ∷ bytes) = if (b == 251) || (b == 255) then UnknownNumber else EndOfBody
 
+-- the integer that was split off, or why there is none
 abbrev pub lenenc_of : List ℕ → Option (ℕ × List ℕ) → Reading (ℕ × List ℕ)
 lenenc_of bytes None = Err (lenenc_error bytes)
 lenenc_of bytes (Some x) = Ok x
 
+-- the length-encoded integer that bytes begin with, and the bytes after it
 unfoldable pub lenenc_at : List ℕ → Reading (ℕ × List ℕ)
 lenenc_at bytes = lenenc_of bytes (split_lenenc bytes)
 
+-- the bits of partial updates, if the options have them: one for each of j JSON columns
 abbrev pub bits_at : ℕ → ℕ × List ℕ → Reading (List ℕ × List ℕ)
 bits_at j options = if options.0 % 2 == 1 then at_width ((j + 7) / 8) options.1 else Ok ([], options.1)
 
+-- the part before the null bits: in an image with partial updates of j JSON columns, the options and the bits
 abbrev pub shared_at : Option ℕ → List ℕ → Reading (List ℕ × List ℕ)
 shared_at None bytes = Ok ([], bytes)
 shared_at (Some j) bytes = lenenc_at bytes >>= bits_at j
 
+-- the image of this shape that bytes begin with, and the bytes after it
 unfoldable pub image_at : ImageShape → List ℕ → Reading (List ColumnValue × List ℕ)
 image_at shape bytes = do
   bits ← shared_at shape.json_columns bytes

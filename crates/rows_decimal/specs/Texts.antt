@@ -22,6 +22,7 @@ whole_text ds = if length (significant ds) == 0 then 48 ∷ [] else glyphs (sign
 abbrev pub fraction_text : List ℕ → List ℕ
 fraction_text ds = if length ds == 0 then [] else 46 ∷ glyphs ds
 
+-- `-` if the decimal is negative
 abbrev pub sign_text : Bool → List ℕ
 sign_text negative = if negative then 45 ∷ [] else []
 

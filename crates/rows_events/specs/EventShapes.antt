@@ -29,6 +29,7 @@ shapes_by p n is_partial (Some before) (Some after) = do
   second ← shape_by p n is_partial after
   Ok (first ∷ second ∷ [])
 
+-- the layouts of an event's images by the plan of its table, or why there are none
 abbrev pub event_shapes : RowsBody → TablePlan → Reading (List ImageShape)
 event_shapes r p = shapes_by p r.columns (has_partial_after (images_of r.event_type)) r.before r.after
 

@@ -12,6 +12,7 @@ abbrev pub bit_is_set : Option Bool → Bool
 bit_is_set None = false
 bit_is_set (Some b) = b
 
+-- whether a column's bit is set
 abbrev pub is_picked : (ℕ → Option Bool) → PlannedColumn → Bool
 is_picked bit c = bit_is_set (bit c.image.column)
 

@@ -35,6 +35,7 @@ pub record Table : Type 0 where
   pub names : List (Reading (List ℕ))
   pub keys : List (Reading ℕ)
 
+-- what the plan uses of a table map's columns and of its optional metadata
 abbrev pub table_columns_of : List ColumnMeta → Extracted → Table
 table_columns_of columns e = record {
   columns = columns;
@@ -45,6 +46,7 @@ table_columns_of columns e = record {
   keys = key_indexes e.simple_key e.prefixed_key;
 }
 
+-- the type, or the error of a cell
 abbrev pub known_type : Result ColumnType BadColumnType → Reading ColumnType
 known_type (Ok t) = Ok t
 known_type (Err e) = Err Cell
@@ -54,14 +56,17 @@ abbrev pub column_real_type : Option ColumnMeta → Reading ColumnType
 column_real_type None = Err Metadata
 column_real_type (Some c) = known_type (real_type_of c)
 
+-- the metadata of a column, or none
 abbrev pub metadata_of : Option ColumnMeta → List ℕ
 metadata_of None = []
 metadata_of (Some c) = c.metadata
 
+-- whether a column's type is known and of this kind
 abbrev pub is_of : (ColumnType → Bool) → Reading ColumnType → Bool
 is_of kind (Ok t) = kind t
 is_of kind (Err e) = false
 
+-- whether a type is JSON
 abbrev pub is_json : ColumnType → Bool
 is_json MYSQL_TYPE_JSON = true
 is_json _ = false
@@ -75,6 +80,7 @@ abbrev pub sign_or_signed : Option Bool → Bool
 sign_or_signed None = false
 sign_or_signed (Some b) = b
 
+-- whether column i is unsigned: the bit of the numeric columns before it
 abbrev pub sign_at : Table → ℕ → ColumnType → Bool
 sign_at t i real = if is_numeric real then sign_or_signed (slice_get t.signs (count_before is_numeric t i)) else false
 
@@ -83,6 +89,7 @@ abbrev pub charset_or_none : Option (Reading ℕ) → Reading ℕ
 charset_or_none None = Ok 0
 charset_or_none (Some r) = r
 
+-- the character set of column i, counted among the columns of its kind; 0 for types without one
 abbrev pub charset_at : Table → ℕ → ColumnType → Reading ℕ
 charset_at t i real =
     if is_character real then charset_or_none (t.charset (count_before is_character t i))
@@ -94,6 +101,7 @@ abbrev pub name_or_index : ℕ → Option (Reading (List ℕ)) → Reading (List
 name_or_index i None = Ok (64 ∷ decimal i)
 name_or_index i (Some r) = r
 
+-- the name of column i
 abbrev pub name_at : List (Reading (List ℕ)) → ℕ → Reading (List ℕ)
 name_at names i = name_or_index i (slice_get names i)
 
@@ -113,6 +121,7 @@ abbrev pub is_next : ℕ → Option (Reading ℕ) → Reading Bool
 is_next i None = Ok false
 is_next i (Some index) = index >>= λ j. Ok (j == i)
 
+-- whether column i is in the primary key
 abbrev pub key_at : Table → ℕ → Reading Bool
 key_at t i = is_next i (first_item (keys_after t.keys i))
 

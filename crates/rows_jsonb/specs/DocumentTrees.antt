@@ -18,9 +18,11 @@ use Rattle.rows_jsonb.specs.JsonTrees.{Tree, scalar, array, object, Items, no_it
 abbrev pub Counted : Type 0 → Type 0
 Counted A = A × ℕ
 
+-- the string, if it is UTF-8
 abbrev pub utf8 : List ℕ → Reading (List ℕ)
 utf8 s = if is_utf8 s then Ok s else Err malformed
 
+-- the tree of a scalar; it is one value
 abbrev pub leaf : tree.Scalar → Reading (Counted Tree)
 leaf s = Ok (scalar s, 1)
 
@@ -67,6 +69,7 @@ abbrev pub entries : (JsonbValue → Reading (Counted Tree)) → Bool → Contai
 entries below true f n bytes = items below (elem f n bytes) 0 n >>= (λ t. Ok (array t.0, t.1 + 1))
 entries below false f n bytes = member_trees below (key f n bytes) (elem f n bytes) 0 n no_members >>= (λ t. Ok (object t.0, t.1 + 1))
 
+-- the tree of a value, given how a container is read
 abbrev pub tree_step : (ContainerFormat → ℕ → List ℕ → Reading (Counted Tree)) → JsonbValue → Reading (Counted Tree)
 tree_step inside null = leaf tree.null
 tree_step inside (boolean b) = leaf (tree.boolean b)
@@ -99,9 +102,11 @@ container_len _ = 0
 abbrev pub within_budget : ℕ → Counted Tree → Reading Tree
 within_budget size t = if nat_le t.1 (1 + size) then Ok t.0 else Err malformed
 
+-- the maximum nesting depth, as in MySQL
 abbrev pub max_depth : ℕ
 max_depth = 100
 
+-- the tree of a value, within the depth and within the number of values that its bytes allow
 abbrev pub tree_in : JsonbValue → Reading Tree
 tree_in s = tree_of max_depth s >>= within_budget (container_len s)
 

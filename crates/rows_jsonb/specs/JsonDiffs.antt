@@ -47,6 +47,7 @@ IsJsonbFault _ = ⊥
 
 -- The rest of this file computes what `IsDiff` states, as the law `diffs_are_read` says: the diff that bytes begin with, and the bytes after it.
 
+-- the operation that bytes begin with, and the bytes after it
 abbrev pub operation_at : List ℕ → Reading (JsonDiffOperation × List ℕ)
 operation_at [] = Err malformed
 operation_at (n ∷ bytes) =
@@ -60,6 +61,7 @@ abbrev pub text_of_length : Option (ℕ × List ℕ) → Reading (List ℕ × Li
 text_of_length None = Err malformed
 text_of_length (Some n) = if nat_le n.0 (length n.1) then Ok (take n.0 n.1, drop n.0 n.1) else Err malformed
 
+-- a length-encoded text, and the bytes after it
 unfoldable pub text_at : List ℕ → Reading (List ℕ × List ℕ)
 text_at bytes = text_of_length (split_lenenc bytes)
 
@@ -70,10 +72,12 @@ embedded_at bytes = do
   value ← document content.0
   Ok (Some value, content.1)
 
+-- the new value, unless the operation removes one, and the bytes after it
 abbrev pub diff_value_at : JsonDiffOperation → List ℕ → Reading (Option JsonbValue × List ℕ)
 diff_value_at REMOVE bytes = Ok (None, bytes)
 diff_value_at op bytes = embedded_at bytes
 
+-- the diff that bytes begin with, and the bytes after it
 unfoldable pub diff_at : List ℕ → Reading (Diff × List ℕ)
 diff_at bytes = do
   op ← operation_at bytes

@@ -5,6 +5,7 @@ use Rattle.rows_decimal.specs.Decimals.{DecimalParts}
 use Rattle.std.specs.Ordering.{nat_cmp, match_ordering}
 use Rattle.std.specs.Cmp.Lexicographic.{slice_cmp}
 
+-- a value without elements
 pub data Scalar : Type 0 where
   null : Scalar
   boolean : Bool → Scalar
@@ -17,11 +18,13 @@ pub data Scalar : Type 0 where
   opaque : ℕ → List ℕ → Scalar
 
 mutual
+  -- a value with all that it contains
   pub data Tree : Type 0 where
     scalar : Scalar → Tree
     array : Items → Tree
     object : Members → Tree
 
+  -- the elements of an array, in order
   pub data Items : Type 0 where
     no_items : Items
     item : Tree → Items → Items

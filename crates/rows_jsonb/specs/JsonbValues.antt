@@ -42,12 +42,14 @@ malformed = Jsonb None
 abbrev pub sized : {A : Type 0} → ℕ → List ℕ → A → Reading A
 sized n bytes v = if nat_lt (length bytes) n then Err malformed else Ok v
 
+-- the value of a literal
 abbrev pub literal : Option LiteralType → Reading JsonbValue
 literal None = Err malformed
 literal (Some JSONB_NULL_LITERAL) = Ok null
 literal (Some JSONB_TRUE_LITERAL) = Ok (boolean true)
 literal (Some JSONB_FALSE_LITERAL) = Ok (boolean false)
 
+-- the literal in one byte
 abbrev pub literal_at : List ℕ → Reading JsonbValue
 literal_at bytes = sized 1 bytes (slice_index bytes 0) >>= (λ n. literal (literal_of n))
 
@@ -56,6 +58,7 @@ abbrev pub counted_string : Option (ℕ × List ℕ) → Reading (List ℕ)
 counted_string None = Err malformed
 counted_string (Some p) = if nat_lt p.0 (2 ^ 32) && nat_le p.0 (length p.1) then Ok (take p.0 p.1) else Err malformed
 
+-- the bytes after their length, which is a VarLen
 abbrev pub counted_at : List ℕ → Reading (List ℕ)
 counted_at bytes = counted_string (sevens_split 5 bytes)
 
@@ -64,9 +67,11 @@ abbrev pub has_number : ℕ → List ColumnType → Bool
 has_number n [] = false
 has_number n (t ∷ ts) = (column_type_number t == n) || has_number n ts
 
+-- whether a column type has this number
 unfoldable pub is_column_type : ℕ → Bool
 is_column_type n = has_number n column_types
 
+-- an opaque value: the number of its column type, then its bytes after their length
 abbrev pub opaque_at : List ℕ → Reading JsonbValue
 opaque_at bytes = if nat_lt (length bytes) 1 then Err malformed
     else if is_column_type (slice_index bytes 0) then counted_at (drop 1 bytes) >>= (λ s. Ok (opaque (slice_index bytes 0) s))
@@ -76,6 +81,7 @@ opaque_at bytes = if nat_lt (length bytes) 1 then Err malformed
 abbrev pub container_in : ContainerFormat → ℕ → ℕ → List ℕ → Reading JsonbValue
 container_in f n size bytes = if nat_lt (length bytes) size || nat_lt size (header_size f n) then Err (Jsonb (Some SizeOverflow)) else Ok (container f n (take size bytes))
 
+-- the container that bytes begin with, by its count and its size
 abbrev pub container_at : ContainerFormat → List ℕ → Reading JsonbValue
 container_at f bytes = if nat_lt (length bytes) (2 * offset_size f.is_large) then Err malformed
     else container_in f (little_number (offset_size f.is_large) bytes) (little_number (offset_size f.is_large) (drop (offset_size f.is_large) bytes)) bytes
@@ -139,6 +145,7 @@ abbrev pub of_type : Option JsonbType → List ℕ → Reading JsonbValue
 of_type None bytes = Err malformed
 of_type (Some t) bytes = json_value_at t bytes
 
+-- the value of a document: its type byte, then the value; no bytes are null
 abbrev pub document : List ℕ → Reading JsonbValue
 document [] = Ok null
 document (b ∷ bytes) = of_type (jsonb_type_of b) bytes
@@ -163,6 +170,7 @@ entry_of large (Some t) at bytes =
     if is_inlined large t then json_value_at t (take (offset_size large) (drop (at + 1) bytes))
     else pointed t (little_number (offset_size large) (drop (at + 1) bytes)) (at + value_entry_size large) bytes
 
+-- the value of the value entry at an offset: inside the entry, or at the offset that it holds
 abbrev pub entry_at : Bool → ℕ → List ℕ → Reading JsonbValue
 entry_at large at bytes = entry_of large (jsonb_type_of (slice_index bytes at)) at bytes
 
@@ -174,6 +182,7 @@ elem f n bytes pos = entry_at f.is_large (value_entry_offset f n pos) bytes
 abbrev pub key_in : ℕ → ℕ → ℕ → List ℕ → Reading (List ℕ)
 key_in offset len least bytes = if nat_lt offset least || nat_lt (length bytes) (offset + len) then Err (Jsonb (Some InvalidKeyOffsetPointer)) else Ok (take len (drop offset bytes))
 
+-- key number pos of an object of n members
 abbrev pub key : ContainerFormat → ℕ → List ℕ → ℕ → Reading (List ℕ)
 key f n bytes pos =
     let entry = drop (key_entry_offset f.is_large pos) bytes in

@@ -17,10 +17,12 @@ plain_size column.MYSQL_TYPE_TYPED_ARRAY = None
 plain_size column.MYSQL_TYPE_VARCHAR = Some 4
 plain_size t = Some (1 + metadata_size t)
 
+-- the size of an element's metadata with its type: that of a plain type, or else one byte more than that of what it contains
 abbrev pub size_or : Option ℕ → Option ℕ → Option ℕ
 size_or None inner = option_map (λ n. 1 + n) inner
 size_or (Some n) inner = Some n
 
+-- the size of the metadata of an array whose element has this type
 abbrev pub element_size : Option ColumnType → Option ℕ → Option ℕ
 element_size None inner = None
 element_size (Some t) inner = size_or (plain_size t) inner
@@ -41,6 +43,7 @@ abbrev pub split_optional : Option ℕ → List ℕ → Option (List ℕ × List
 split_optional None bytes = None
 split_optional (Some n) bytes = if nat_le n (length bytes) then Some (take n bytes, drop n bytes) else None
 
+-- the metadata of a column whose type has number n, and the bytes after it
 abbrev pub split_metadata : ℕ → Option (List ℕ) → Option (List ℕ × List ℕ)
 split_metadata n None = None
 split_metadata n (Some bytes) = split_optional (size_by_type (column_type n) bytes) bytes
@@ -50,10 +53,12 @@ pub record ColumnMeta : Type 0 where
   pub number : ℕ
   pub metadata : List ℕ
 
+-- the metadata, or none
 abbrev pub own_metadata : Option (List ℕ × List ℕ) → List ℕ
 own_metadata None = []
 own_metadata (Some x) = x.0
 
+-- the bytes after the metadata, if they are known
 abbrev pub after_metadata : Option (List ℕ × List ℕ) → Option (List ℕ)
 after_metadata None = None
 after_metadata (Some x) = Some x.1

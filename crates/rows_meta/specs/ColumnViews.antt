@@ -33,6 +33,7 @@ abbrev pub some_type : Result ColumnType BadColumnType → Result (Option Column
 some_type (Ok t) = Ok (Some t)
 some_type (Err e) = Err e
 
+-- the real type of a column whose type is known, or the error
 abbrev pub type_by : ColumnMeta → Option ColumnType → Result ColumnType BadColumnType
 type_by c None = Err (Unknown (record { 0 = c.number }))
 type_by c (Some t) = real_type t c.metadata

@@ -22,6 +22,7 @@ PairEncoding = Both NumberEncoding NumberEncoding
 
 -- The rest of this file computes the entry that bytes begin with, as the law `entries_are_read` says.
 
+-- a value, or this error if there is none
 abbrev pub found : {A : Type 0} → RowsError → Option A → Reading A
 found e None = Err e
 found e (Some x) = Ok x

@@ -19,38 +19,47 @@ abbrev pub last_of : {A : Type 0} → (Field → Option A) → List Field → Op
 last_of pick [] = None
 last_of pick (f ∷ fs) = or_else (last_of pick fs) (pick f)
 
+-- the field SIGNEDNESS: whether each numeric column is unsigned
 abbrev pub signs_in : Field → Option (List Bool)
 signs_in (signedness bits) = Some bits
 signs_in _ = None
 
+-- the field DEFAULT_CHARSET: the default, and the pairs of the other columns
 abbrev pub charset_in : Field → Option (ℕ × List ℕ)
 charset_in (default_charset c) = Some c
 charset_in _ = None
 
+-- the field COLUMN_CHARSET: a character set for each column
 abbrev pub charsets_in : Field → Option (List ℕ)
 charsets_in (column_charset value) = Some value
 charsets_in _ = None
 
+-- the field COLUMN_NAME
 abbrev pub names_in : Field → Option (List ℕ)
 names_in (column_name value) = Some value
 names_in _ = None
 
+-- the field SIMPLE_PRIMARY_KEY
 abbrev pub simple_key_in : Field → Option (List ℕ)
 simple_key_in (simple_primary_key value) = Some value
 simple_key_in _ = None
 
+-- the field PRIMARY_KEY_WITH_PREFIX
 abbrev pub prefixed_key_in : Field → Option (List ℕ)
 prefixed_key_in (primary_key_with_prefix value) = Some value
 prefixed_key_in _ = None
 
+-- the field ENUM_AND_SET_DEFAULT_CHARSET
 abbrev pub enum_charset_in : Field → Option (ℕ × List ℕ)
 enum_charset_in (enum_and_set_default_charset c) = Some c
 enum_charset_in _ = None
 
+-- the field ENUM_AND_SET_COLUMN_CHARSET
 abbrev pub enum_charsets_in : Field → Option (List ℕ)
 enum_charsets_in (enum_and_set_column_charset value) = Some value
 enum_charsets_in _ = None
 
+-- what the columns use of the optional metadata: the value of each field that is there
 pub record Extracted : Type 0 where
   pub signs : Option (List Bool)
   pub charset : Option (ℕ × List ℕ)

@@ -38,8 +38,10 @@ TakesBytes {A} read = (bytes : List ℕ) (x : A × List ℕ) → read bytes ≡ 
 abbrev pub numbers : List ℕ → List (Reading ℕ)
 numbers = items_of lenenc_at
 
+-- the length-encoded strings up to the end of the bytes
 abbrev pub strings : List ℕ → List (Reading (List ℕ))
 strings = items_of string_at
 
+-- the pairs of length-encoded integers up to the end of the bytes
 abbrev pub pairs : List ℕ → List (Reading (ℕ × ℕ))
 pairs = items_of pair_at

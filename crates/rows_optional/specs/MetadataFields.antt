@@ -26,6 +26,7 @@ bits_in n value =
     else if nat_lt ((n + 7) / 8) (length value) then Err RemainingBytes
     else Ok (bits_from (highest_bit value) 0 n)
 
+-- whether a known type is numeric
 abbrev pub numeric : Option ColumnType → Bool
 numeric None = false
 numeric (Some t) = is_numeric t
@@ -88,6 +89,7 @@ tagged_at bytes = do
   value ← string_at tag.1
   Ok ((slice_index tag.0 0, value.0), value.1)
 
+-- the type and the value of each field, in order
 abbrev pub tagged : List ℕ → List (Reading (ℕ × List ℕ))
 tagged = items_of tagged_at
 
@@ -95,5 +97,6 @@ tagged = items_of tagged_at
 abbrev pub read_field : List ℕ → Reading (ℕ × List ℕ) → Reading Field
 read_field columns field = field >>= λ f. field_in columns f.0 f.1
 
+-- the fields of the optional metadata of a table with these column types, in order
 abbrev pub fields : List ℕ → List ℕ → List (Reading Field)
 fields columns bytes = map (read_field columns) (tagged bytes)

@@ -20,6 +20,7 @@ abbrev pub signs_or_none : Option (List Bool) → List Bool
 signs_or_none None = []
 signs_or_none (Some signs) = signs
 
+-- the first item, if there is one
 abbrev pub first_item : {A : Type 0} → List A → Option A
 first_item [] = None
 first_item (x ∷ items) = Some x
@@ -33,9 +34,11 @@ pub data CharsetEntry : Type 0 where
   of_column : ℕ → ℕ → CharsetEntry
   plain : ℕ → CharsetEntry
 
+-- the character set of the column with this index, in 16 bits
 abbrev pub pair_entry : ℕ × ℕ → CharsetEntry
 pair_entry p = of_column p.0 (p.1 % 65536)
 
+-- the character set of the next column, in 16 bits
 abbrev pub number_entry : ℕ → CharsetEntry
 number_entry n = plain (n % 65536)
 
@@ -49,9 +52,11 @@ abbrev pub charset_entries : Option (ℕ × List ℕ) → Option (List ℕ) → 
 charset_entries with_default each =
     chained (map (map_reading pair_entry) (pairs (pair_bytes with_default))) (map (map_reading number_entry) (numbers (bytes_or_none each)))
 
+-- the default character set
 abbrev pub default_of : Option (ℕ × List ℕ) → Option ℕ
 default_of with_default = option_map (λ (d : ℕ × List ℕ). d.0 % 65536) with_default
 
+-- the default, as an entry that can be read
 abbrev pub default_item : Option ℕ → Option (Reading ℕ)
 default_item default = option_map (λ (n : ℕ). Ok n) default
 

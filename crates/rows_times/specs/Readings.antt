@@ -3,9 +3,11 @@ use Rattle.std.specs.declared.result.Result.{Result}
 use Rattle.std.specs.declared.result.Result.TheVariants.{Ok, Err}
 use Rattle.rows_times.specs.declared.fault.RowsError.{RowsError}
 
+-- the result of reading: a value, or why there is none
 abbrev pub Reading : Type 0 → Type 0
 Reading A = Result A RowsError
 
+-- the next step on the value of the first; the first error ends it
 infixl 10 ◌>>=◌
 abbrev pub ◌>>=◌ : {A B : Type 0} → Reading A → (A → Reading B) → Reading B
 (Ok x) >>= f = f x

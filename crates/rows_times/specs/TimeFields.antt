@@ -8,9 +8,11 @@ use Rattle.rows_times.specs.declared.times.mysql_time.MysqlTimestampType.TheVari
 abbrev pub packed_micros : ℤ → ℕ
 packed_micros packed = unsigned_abs packed % 16777216
 
+-- the packed time without its fraction: the magnitude above the lowest 24 bits
 abbrev pub packed_whole : ℤ → ℕ
 packed_whole packed = unsigned_abs packed / 16777216
 
+-- whether a packed time is negative
 abbrev pub is_below_zero : ℤ → Bool
 is_below_zero packed = int_lt packed (pos 0)
 

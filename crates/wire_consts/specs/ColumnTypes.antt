@@ -3,6 +3,7 @@ use Rattle.std.specs.Prelude.{ℕ, Bool, true, false}
 use Rattle.wire_consts.specs.declared.column_type.ColumnType.{ColumnType}
 use Rattle.wire_consts.specs.declared.column_type.ColumnType.TheVariants.{MYSQL_TYPE_DECIMAL, MYSQL_TYPE_TINY, MYSQL_TYPE_SHORT, MYSQL_TYPE_LONG, MYSQL_TYPE_FLOAT, MYSQL_TYPE_DOUBLE, MYSQL_TYPE_NULL, MYSQL_TYPE_TIMESTAMP, MYSQL_TYPE_LONGLONG, MYSQL_TYPE_INT24, MYSQL_TYPE_DATE, MYSQL_TYPE_TIME, MYSQL_TYPE_DATETIME, MYSQL_TYPE_YEAR, MYSQL_TYPE_NEWDATE, MYSQL_TYPE_VARCHAR, MYSQL_TYPE_BIT, MYSQL_TYPE_TIMESTAMP2, MYSQL_TYPE_DATETIME2, MYSQL_TYPE_TIME2, MYSQL_TYPE_TYPED_ARRAY, MYSQL_TYPE_VECTOR, MYSQL_TYPE_UNKNOWN, MYSQL_TYPE_JSON, MYSQL_TYPE_NEWDECIMAL, MYSQL_TYPE_ENUM, MYSQL_TYPE_SET, MYSQL_TYPE_TINY_BLOB, MYSQL_TYPE_MEDIUM_BLOB, MYSQL_TYPE_LONG_BLOB, MYSQL_TYPE_BLOB, MYSQL_TYPE_VAR_STRING, MYSQL_TYPE_STRING, MYSQL_TYPE_GEOMETRY}
 
+-- the number of a column type
 abbrev pub column_type_number : ColumnType → ℕ
 column_type_number MYSQL_TYPE_DECIMAL = 0
 column_type_number MYSQL_TYPE_TINY = 1
@@ -39,6 +40,7 @@ column_type_number MYSQL_TYPE_VAR_STRING = 253
 column_type_number MYSQL_TYPE_STRING = 254
 column_type_number MYSQL_TYPE_GEOMETRY = 255
 
+-- the types whose columns the signedness field has a bit for
 abbrev pub is_numeric : ColumnType → Bool
 is_numeric MYSQL_TYPE_TINY = true
 is_numeric MYSQL_TYPE_SHORT = true
@@ -50,6 +52,7 @@ is_numeric MYSQL_TYPE_DOUBLE = true
 is_numeric MYSQL_TYPE_NEWDECIMAL = true
 is_numeric _ = false
 
+-- the types whose columns have a character set
 abbrev pub is_character : ColumnType → Bool
 is_character MYSQL_TYPE_STRING = true
 is_character MYSQL_TYPE_VAR_STRING = true
@@ -57,6 +60,7 @@ is_character MYSQL_TYPE_VARCHAR = true
 is_character MYSQL_TYPE_BLOB = true
 is_character _ = false
 
+-- the types whose columns have the character set of ENUM and SET
 abbrev pub is_enum_or_set : ColumnType → Bool
 is_enum_or_set MYSQL_TYPE_ENUM = true
 is_enum_or_set MYSQL_TYPE_SET = true
