@@ -1,6 +1,7 @@
 mod GtidFieldLemmas
 mod LineLemmas
 mod KindLemmas
+mod LookingBackLemmas
 mod WholeLemmas
 mod CompleteReports
 mod ServingLemmas
@@ -9,5 +10,6 @@ mod FeedLemmas
 mod RowFeedLemmas
 mod TruncationLemmas
 mod RepairLemmas
+mod LastCommitLemmas
 mod RestLemmas
 mod FollowableLemmas

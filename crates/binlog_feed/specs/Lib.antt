@@ -46,6 +46,8 @@ pub use Rattle.feed_runs.specs.Runs
 pub use Rattle.feed_runs.specs.Laws as RunLaws
 pub mod Repair
 pub mod Lines
+pub mod LookingBack
+pub mod LastCommits
 pub use Rattle.feed_runs.specs.Rehearsing
 pub mod WorkedRuns
 pub use Rattle.feed_text.specs.Pieces

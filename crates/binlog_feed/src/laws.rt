@@ -9,13 +9,13 @@ ghost use Rattle.rows_events.specs.RowsEvents.{RowsBody};
 ghost use Rattle.rows_meta.specs.TableMaps.{TableMap};
 ghost use Rattle.feed_rules.specs.Bodies.{gtid_in, is_description_body};
 ghost use Rattle.feed_rules.specs.Rows.{plan_by, rows_result, rows_in, fault_in};
-ghost use Rattle.feed_rules.specs.Kinds.{Kind, Rows, newest_map, is_inside, Gtid};
+ghost use Rattle.feed_rules.specs.Kinds.{Kind, Rows, Begin, NextGtid, newest_map, since_begin, is_inside, is_waiting, waiting, Gtid};
 ghost use Rattle.feed_rules.specs.Transactions.{lines_at, Line, Transaction};
 ghost use Rattle.binlog_feed.specs.EventRows.{AreRowsOf};
 ghost use Rattle.std.specs.List.{starts_with};
 ghost use Rattle.feed_rules.specs.Events.{Event};
 ghost use Rattle.feed_rules.specs.Rules.{rules, good, shown, Rules};
-ghost use Rattle.feed_rules.specs.Texts.{line_text, begin_line, commit_line, text_of};
+ghost use Rattle.feed_rules.specs.Texts.{line_text, begin_line, commit_line};
 ghost use Rattle.feed_rules.specs.Laws.{IsOpen, IsCompleteAtEvent, Each};
 ghost use Rattle.feed_reports.specs.Events.{events};
 ghost use Rattle.feed_reports.specs.Reports.{file_events, file_transactions};
@@ -24,10 +24,14 @@ ghost use Rattle.feed_streams.specs.Requests.{dump_request};
 ghost use Rattle.feed_streams.specs.declared.format.PayloadFormat.{PayloadFormat as Format};
 ghost use Rattle.feed_serving.specs.Serving.{answer, served};
 ghost use Rattle.feed_serving.specs.Laws.{ServesTheFile, StopsAtDamage, IsOfTheFile};
-ghost use Rattle.feed_kept.specs.Kept.{kept};
-ghost use Rattle.feed_streams.specs.ResumePositions.{last_position};
-ghost use Rattle.feed_runs.specs.Laws.{GivesTheRest};
+ghost use Rattle.wire_buf.specs.Encoding.{AreBytes};
+ghost use Rattle.feed_streams.specs.Streams.{stream_transactions};
+ghost use Rattle.feed_runs.specs.declared.step.Step.{Step};
+ghost use Rattle.feed_runs.specs.Laws.{GivesTheRest, IsFollowable};
+ghost use Rattle.feed_runs.specs.Runs.{run};
+ghost use Rattle.binlog_feed.specs.LastCommits.{EndsWithLastCommit};
 ghost use Rattle.binlog_feed.specs.Lines.{IsLine, HasLines};
+ghost use Rattle.binlog_feed.specs.LookingBack.{HasNewest, IsGtid, IsMap, ends_transaction, takes_gtid, replaces_gtid, replaces_map};
 ghost use Rattle.binlog_feed.specs.Repair.{TruncatedTextIsRepaired};
 
 pub use crate::worked_reports::worked_reports;
@@ -72,6 +76,18 @@ pub fn a_line_for_each_row()
 /// If a transaction is open, there is a begin with no begin, commit, rollback or description after it.
 pub fn inside_is_an_open_begin()
     ensures { (past : List Kind) → is_inside past ≡ true → IsOpen past }
+{}
+
+/// Whether a transaction is open, which GTID waits, and which table map an id has, said of the events so far:
+///
+/// - A transaction is open exactly if some begin has no commit, rollback or format description after it.
+/// - A GTID waits exactly if some GTID has no begin, statement or format description after it; it is the newest of these.
+/// - The table map of an id is the newest with it that has no begin after it.
+pub fn the_newest_event_decides()
+    ensures inside { (past : List Kind) → (is_inside past ≡ true) ↔ HasNewest (λ k. k ≡ Begin) ends_transaction past }
+    ensures waits { (past : List Kind) → (is_waiting past ≡ true) ↔ HasNewest IsGtid takes_gtid past }
+    ensures gtid { (past : List Kind) (g : Gtid) → (waiting past ≡ Some g) ↔ HasNewest (λ k. k ≡ NextGtid g) replaces_gtid past }
+    ensures map { (past : List Kind) (id : ℕ) (m : TableMap) → (newest_map (since_begin past) id ≡ Some m) ↔ HasNewest (IsMap id m) (replaces_map id) past }
 {}
 
 /// Each shown transaction is complete at one of the events before the first fault: it reaches from a begin to the commit that
@@ -136,9 +152,15 @@ pub fn transactions_have_lines()
     ensures between { (f : List ℕ → ℕ) (l : List Event) → Each HasLines (shown (rules f) l) }
 {}
 
-/// The position of the last transaction that events show is the number in the last commit line of their text, which ends with
-/// that line. Condition: the positions fit in 32 bits, as those in event headers do.
+/// The position of the last transaction is the number in the last commit line of the text, which ends with that line: of the
+/// transactions that events show, that a stream of packets shows, and that a run over dropped connections prints. So a follower
+/// asks again from the position in the last commit line that it printed.
+///
+/// Conditions: the positions fit in 32 bits, as those in the headers of a list of bytes do; for a run, those of
+/// `broken_runs_are_whole`.
 pub fn the_last_commit_line_has_the_last_position()
-    ensures { (f : List ℕ → ℕ) (l : List Event) → Each (λ t. t.position < 2 ^ 32) (shown (rules f) l)
-        → kept (text_of (shown (rules f) l)) ≡ (length (text_of (shown (rules f) l)), last_position (shown (rules f) l)) }
+    ensures events { (f : List ℕ → ℕ) (l : List Event) → Each (λ t. t.position < 2 ^ 32) (shown (rules f) l) → EndsWithLastCommit (shown (rules f) l) }
+    ensures stream { (f : List ℕ → ℕ) (format : Format) (limit : ℕ) (s : List ℕ) → AreBytes s → EndsWithLastCommit (stream_transactions (rules f) format limit s) }
+    ensures run { (f : List ℕ → ℕ) (format : Format) (b : List ℕ) (steps : List Step) → AreBytes b → IsFollowable (rules f) format b
+        → EndsWithLastCommit (run (rules f) format b steps).transactions }
 {}
