@@ -12,4 +12,5 @@ mod TruncationLemmas
 mod RepairLemmas
 mod LastCommitLemmas
 mod RestLemmas
+mod IndependenceLemmas
 mod FollowableLemmas

@@ -45,6 +45,7 @@ pub use Rattle.feed_kept.specs.Worked as WorkedKept
 pub use Rattle.feed_runs.specs.Runs
 pub use Rattle.feed_runs.specs.Laws as RunLaws
 pub mod Repair
+pub mod Rests
 pub mod Lines
 pub mod LookingBack
 pub mod LastCommits

@@ -1,7 +1,7 @@
 //! Laws of the parts, each stated as the contract of a function that does nothing, and worked examples, computed from the
 //! definitions.
 
-ghost use Rattle.std.specs.Prelude.{◌≡◌, ◌↔◌, ◌⊎◌, ℕ, List, [], Some, None, true, length, false, codes, nat_eq, ◌++◌, ◌<◌, ◌/◌, ◌^◌, Option};
+ghost use Rattle.std.specs.Prelude.{◌≡◌, ◌↔◌, ◌⊎◌, ℕ, List, [], drop, Some, None, true, length, false, codes, nat_eq, ◌++◌, ◌<◌, ◌/◌, ◌^◌, Option};
 ghost use Rattle.events_frames.specs.Descriptions.{Description, IsDescription};
 ghost use Rattle.events_gtids.specs.Gtids.{GtidBody, IsGtid};
 ghost use Rattle.rows_events.specs.EventShapes.{event_rows};
@@ -9,19 +9,20 @@ ghost use Rattle.rows_events.specs.RowsEvents.{RowsBody};
 ghost use Rattle.rows_meta.specs.TableMaps.{TableMap};
 ghost use Rattle.feed_rules.specs.Bodies.{gtid_in, is_description_body};
 ghost use Rattle.feed_rules.specs.Rows.{plan_by, rows_result, rows_in, fault_in};
-ghost use Rattle.feed_rules.specs.Kinds.{Kind, Rows, Begin, NextGtid, newest_map, since_begin, is_inside, is_waiting, waiting, Gtid};
+ghost use Rattle.feed_rules.specs.Kinds.{Kind, Rows, Begin, NextGtid, kinds, newest_map, since_begin, is_inside, is_waiting, waiting, Gtid};
 ghost use Rattle.feed_rules.specs.Transactions.{lines_at, Line, Transaction};
 ghost use Rattle.binlog_feed.specs.EventRows.{AreRowsOf};
 ghost use Rattle.std.specs.List.{starts_with};
-ghost use Rattle.feed_rules.specs.Events.{Event};
+ghost use Rattle.feed_rules.specs.Events.{Event, in_force};
 ghost use Rattle.feed_rules.specs.Rules.{rules, good, shown, Rules};
 ghost use Rattle.feed_rules.specs.Texts.{line_text, begin_line, commit_line};
-ghost use Rattle.feed_rules.specs.Laws.{IsOpen, IsCompleteAtEvent, Each};
+ghost use Rattle.feed_rules.specs.Laws.{IsOpen, IsBetween, IsCompleteAtEvent, Each};
 ghost use Rattle.feed_reports.specs.Events.{events};
-ghost use Rattle.feed_reports.specs.Reports.{file_events, file_transactions};
+ghost use Rattle.feed_reports.specs.Reports.{Report, file_events, file_transactions};
 ghost use Rattle.feed_rules.specs.declared.verdict.Verdict.{Verdict};
 ghost use Rattle.feed_streams.specs.Requests.{dump_request};
 ghost use Rattle.feed_streams.specs.declared.format.PayloadFormat.{PayloadFormat as Format};
+ghost use Rattle.feed_serving.specs.Positions.{past_at, is_between_transactions};
 ghost use Rattle.feed_serving.specs.Serving.{answer, served};
 ghost use Rattle.feed_serving.specs.Laws.{ServesTheFile, StopsAtDamage, IsOfTheFile};
 ghost use Rattle.wire_buf.specs.Encoding.{AreBytes};
@@ -33,6 +34,7 @@ ghost use Rattle.binlog_feed.specs.LastCommits.{EndsWithLastCommit};
 ghost use Rattle.binlog_feed.specs.Lines.{IsLine, HasLines};
 ghost use Rattle.binlog_feed.specs.LookingBack.{HasNewest, IsGtid, IsMap, ends_transaction, takes_gtid, replaces_gtid, replaces_map};
 ghost use Rattle.binlog_feed.specs.Repair.{TruncatedTextIsRepaired};
+ghost use Rattle.binlog_feed.specs.Rests.{IsUndamagedUpTo, HasRest};
 
 pub use crate::worked_reports::worked_reports;
 pub use crate::worked_rules::{worked_checksums, worked_kinds, worked_rows};
@@ -136,6 +138,16 @@ pub fn requests_are_their_fields()
 /// if the answer is complete. Condition: the limits of server and reader hold each payload.
 pub fn one_answer_gives_the_rest()
     ensures { (f : List ℕ → ℕ) (format : Format) (limit reading : ℕ) (b : List ℕ) (position : ℕ) → GivesTheRest (rules f) format limit reading b position }
+{}
+
+/// From a position between transactions on, only the bytes after it and the format description in force there decide the rest of
+/// the report: two logs with the same bytes after two such positions, and no fault before them, have the same rest of the text and
+/// the same verdict, whatever table maps came before. A position between transactions, as a server finds it in the bytes, is one
+/// where no transaction is open and no GTID waits.
+pub fn equal_bytes_have_equal_rests()
+    ensures rests { (f : List ℕ → ℕ) (b c : List ℕ) (p q : ℕ) → IsUndamagedUpTo (rules f) b p → IsUndamagedUpTo (rules f) c q
+        → in_force (past_at b p) ≡ in_force (past_at c q) → drop p b ≡ drop q c → (rest : Report) × HasRest (rules f) b p rest × HasRest (rules f) c q rest }
+    ensures between { (b : List ℕ) (position : ℕ) → is_between_transactions b position ≡ true → IsBetween (kinds (past_at b position)) }
 {}
 
 /// From any prefix of a report's text, `kept` keeps the complete transactions, and finds the position after the last of them.
