@@ -16,9 +16,9 @@ use Rattle.feed_streams.specs.declared.format.PayloadFormat.{PayloadFormat as Fo
 use Rattle.feed_streams.specs.declared.format.PayloadFormat.TheVariants.{Plain, SemiSync}
 use Rattle.feed_streams.specs.Streams.{holds_event, event_in, event_payloads, stream_events, stream_transactions}
 use Rattle.feed_runs.specs.declared.step.Step.{Step}
-use Rattle.feed_runs.specs.Laws.{IsFollowable}
+use Rattle.feed_runs.specs.Headline.{IsFollowable}
 use Rattle.feed_runs.specs.Runs.{run}
-use Rattle.feed_runs.proofs.RunLemmas.{with_magic-transactions, runs-are-whole}
+use Rattle.feed_runs.proofs.RunLemmas.{with_magic-transactions, once}
 use Rattle.binlog_feed.specs.Lines.{HasLines}
 use Rattle.binlog_feed.specs.LastCommits.{EndsWithLastCommit}
 use Rattle.binlog_feed.proofs.FeedLemmas.{shown-has}
@@ -128,6 +128,6 @@ runs-end f format b steps h w =
     let shown_are = with_magic-transactions (rules f) b w.magic in
     let lines = subst (Each HasLines) (sym shown_are) (shown-has f [] (good (rules f) (file_events b))) in
     let positions = positions-fit f b h (file_transactions (rules f) b) shown_are in
-    let once = (runs-are-whole f format b w).0 (onto [] steps) in
+    let first = once f format b w (onto [] steps) in
     let ts = file_transactions (rules f) b in
-    subst EndsWithLastCommit (sym once.1) (kept-all (take once.0 ts) (Each-take HasLines once.0 ts lines) (Each-take FitsPosition once.0 ts positions))
+    subst EndsWithLastCommit (sym first.1) (kept-all (take first.0 ts) (Each-take HasLines first.0 ts lines) (Each-take FitsPosition first.0 ts positions))

@@ -44,6 +44,7 @@ pub use Rattle.feed_kept.specs.Keepers
 pub use Rattle.feed_kept.specs.Worked as WorkedKept
 pub use Rattle.feed_runs.specs.Runs
 pub use Rattle.feed_runs.specs.Laws as RunLaws
+pub use Rattle.feed_runs.specs.Headline
 pub mod Repair
 pub mod Rests
 pub mod Lines

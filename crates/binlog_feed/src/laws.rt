@@ -28,7 +28,8 @@ ghost use Rattle.feed_serving.specs.Laws.{ServesTheFile, StopsAtDamage, IsOfTheF
 ghost use Rattle.wire_buf.specs.Encoding.{AreBytes};
 ghost use Rattle.feed_streams.specs.Streams.{stream_transactions};
 ghost use Rattle.feed_runs.specs.declared.step.Step.{Step};
-ghost use Rattle.feed_runs.specs.Laws.{GivesTheRest, IsFollowable};
+ghost use Rattle.feed_runs.specs.Headline.{IsFollowable};
+ghost use Rattle.feed_runs.specs.Laws.{GivesTheRest};
 ghost use Rattle.feed_runs.specs.Runs.{run};
 ghost use Rattle.binlog_feed.specs.LastCommits.{EndsWithLastCommit};
 ghost use Rattle.binlog_feed.specs.Lines.{IsLine, HasLines};
