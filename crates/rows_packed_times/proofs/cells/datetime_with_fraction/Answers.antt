@@ -3,9 +3,9 @@ use Rattle.std.proofs.lemmas.Int.{to_z-of_z, fits_signed_from_abs}
 use Rattle.std.proofs.lemmas.List.{take_rest}
 use Rattle.std.specs.Int.{w32, w64}
 use Rattle.byteorder.specs.Endian.{big_number}
-use Rattle.rows_times.specs.PackedTimes.{fraction}
-use Rattle.rows_times.proofs.PackedLemmas.{near, seen}
-use Rattle.rows_times.proofs.times.cells.datetime_with_fraction.Goals as goal
+use Rattle.rows_packed_times.specs.PackedTimes.{fraction}
+use Rattle.rows_packed_times.proofs.PackedLemmas.{near, seen}
+use Rattle.rows_packed_times.proofs.cells.datetime_with_fraction.Goals as goal
 
 pub returns : goal.returns
 returns c =

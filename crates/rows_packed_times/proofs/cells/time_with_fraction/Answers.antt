@@ -2,8 +2,8 @@ use Rattle.std.proofs.Common.{◌≡◌, ◌-ℤ◌, ◌∙◌, ℕ, pos, arith,
 use Rattle.std.proofs.lemmas.Int.{to_z-of_z}
 use Rattle.std.specs.Int.{w64}
 use Rattle.byteorder.specs.Endian.{big_number}
-use Rattle.rows_times.proofs.PackedLemmas.{near, seen, hundredths, ten_thousandths, seconds}
-use Rattle.rows_times.proofs.times.cells.time_with_fraction.Goals as goal
+use Rattle.rows_packed_times.proofs.PackedLemmas.{near, seen, hundredths, ten_thousandths, seconds}
+use Rattle.rows_packed_times.proofs.cells.time_with_fraction.Goals as goal
 
 pub returns-in-1 : goal.returns-in-1
 returns-in-1 c =

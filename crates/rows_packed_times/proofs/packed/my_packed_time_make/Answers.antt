@@ -1,7 +1,7 @@
 use Rattle.std.proofs.Common.{pos, ◌+ℤ◌, ◌*ℤ◌, ◌∙◌, ap, rules}
 use Rattle.std.proofs.lemmas.Int.{wrapping_add_is, int_wrap-add_left, to_z-of_z}
 use Rattle.std.specs.Int.{w64, int_wrap}
-use Rattle.rows_times.proofs.times.packed.my_packed_time_make.Goals as goal
+use Rattle.rows_packed_times.proofs.packed.my_packed_time_make.Goals as goal
 
 pub returns : goal.returns
 returns c =

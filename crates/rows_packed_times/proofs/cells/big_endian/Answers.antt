@@ -1,7 +1,7 @@
 use Rattle.std.proofs.Common.{arith, rules, ◌<◌}
 use Rattle.std.proofs.lemmas.Int.{ints}
-use Rattle.rows_times.proofs.PackedLemmas.{big_number_fits, big_number_below}
-use Rattle.rows_times.proofs.times.cells.big_endian.Goals as goal
+use Rattle.rows_packed_times.proofs.PackedLemmas.{big_number_fits, big_number_below}
+use Rattle.rows_packed_times.proofs.cells.big_endian.Goals as goal
 
 pub overflow_cast-result : goal.overflow_cast-result
 overflow_cast-result c =

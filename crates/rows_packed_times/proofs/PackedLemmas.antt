@@ -6,7 +6,7 @@ use Rattle.std.specs.Int.{w64, int_wrap}
 use Rattle.std.specs.Int.RustNames.{FitsSigned}
 use Rattle.byteorder.specs.Endian.{big_number}
 use Rattle.byteorder.specs.Numbers.{big_from-lt}
-use Rattle.rows_times.specs.PackedTimes.{packed_time, packed_time_int, packed_parts, packed_signed}
+use Rattle.rows_packed_times.specs.PackedTimes.{packed_time, packed_time_int, packed_parts, packed_signed}
 
 -- n bytes are below 256 ^ n, and six of them below 2 ^ 48
 pub big_number_fits : (n : ℕ) (xs : List ℕ) → ((k : ℕ) → slice_index xs k < 256) → big_number n xs < 256 ^ n

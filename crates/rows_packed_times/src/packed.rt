@@ -1,7 +1,7 @@
 //! Arithmetic of packed times: a whole part above 24 bits of microseconds.
 
 ghost use Rattle.std.specs.Prelude.{◌≡◌};
-ghost use Rattle.rows_times.specs.PackedTimes.{packed_time, packed_time_int, int_part, frac_part};
+ghost use Rattle.rows_packed_times.specs.PackedTimes.{packed_time, packed_time_int, int_part, frac_part};
 
 /// The factor of a packed time's whole part: 2^24.
 const FRACTIONS: i64 = 0x100_0000;
