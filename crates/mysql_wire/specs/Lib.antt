@@ -2,7 +2,7 @@ pub use Rattle.wire_buf.specs.Encoding
 pub use Rattle.wire_buf.specs.Eating
 pub use Rattle.wire_buf.specs.Numbers
 pub use Rattle.wire_buf.specs.Writing
-pub use Rattle.wire_buf.specs.LenencSplit
+pub use Rattle.wire_lenenc.specs.LenencSplit
 pub use Rattle.wire_buf.specs.ReadErrors
 pub use Rattle.wire_ints.specs.Ints
 pub use Rattle.wire_ints.specs.Faults

@@ -169,17 +169,17 @@ module _ (below : JsonbValue → Reading (Counted Tree)) (name : ℕ → Reading
 
 -- ---- one value
 
-pub takes_one : {A B : Type 0} (found : Reading (Counted A)) (whole : Reading (Counted B)) (f : A → B) (x : A) (y : B) (old new : ℕ) → 0 < old → whole ≡ found >>= (λ t. Ok (f t.0, t.1 + 1)) → y ≡ f x
-    → TakesBudget (old - 1) new x found → TakesBudget old new y whole
-takes_one found whole f x y old new some is same t = record {
+pub takes_one : {A B : Type 0} (found : Reading (Counted A)) (whole : Reading (Counted B)) (f : A → B) (x : A) (y : B) (old left new : ℕ) → 1 + left ≡ old → whole ≡ found >>= (λ t. Ok (f t.0, t.1 + 1)) → y ≡ f x
+    → TakesBudget left new x found → TakesBudget old new y whole
+takes_one found whole f x y old left new some is same t = record {
   count = t.count + 1;
   found_is = is ∙ rw t.found_is (ap (λ z. Ok (z, t.count + 1)) (sym same));
   taken = omega (arith, t.taken);
 }
 
-pub fails_one : {A B : Type 0} (found : Reading (Counted A)) (whole : Reading (Counted B)) (f : A → B) (old : ℕ) (e : RowsError) → 0 < old → whole ≡ found >>= (λ t. Ok (f t.0, t.1 + 1))
-    → Fails (old - 1) e found → Fails old e whole
-fails_one found whole f old e some is h = rw is (fails_on (old - 1) 1 old e found (λ t. Ok (f t.0, t.1 + 1)) (λ t. omega arith) (omega arith) h)
+pub fails_one : {A B : Type 0} (found : Reading (Counted A)) (whole : Reading (Counted B)) (f : A → B) (old left : ℕ) (e : RowsError) → 1 + left ≡ old → whole ≡ found >>= (λ t. Ok (f t.0, t.1 + 1))
+    → Fails left e found → Fails old e whole
+fails_one found whole f old left e some is h = rw is (fails_on left 1 old e found (λ t. Ok (f t.0, t.1 + 1)) (λ t. omega arith) some h)
 
 -- an exit by `?` returns the same error
 pub exits : {A B : Type 0} (view : A → B) (old new : ℕ) (r : Result A RowsError) (e : RowsError) (found : Reading (Counted B)) {P : Type 0} → P × IsErrAnd r (λ f. f ≡ e) → Fails old e found → Meets view old new r found

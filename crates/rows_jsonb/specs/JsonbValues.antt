@@ -1,6 +1,5 @@
 -- The value at an offset in MySQL's binary JSON (MySQL's source: `json_binary.h`): a scalar, or a container whose elements aren't read. If there is none, the error.
 use Rattle.std.specs.Prelude.{ℕ, ℤ, ◌+◌, ◌-◌, ◌*◌, ◌^◌, ◌==◌, ◌&&◌, ◌||◌, if◌then◌else◌, nat_lt, nat_le, Bool, true, false, List, [], ◌∷◌, length, take, drop, slice_index, Option, Some, None}
-use Rattle.std.specs.declared.result.Result.{Result}
 use Rattle.std.specs.declared.result.Result.TheVariants.{Ok, Err}
 use Rattle.byteorder.specs.Endian.{little_number}
 use Rattle.wire_buf.specs.Numbers.{little_signed}

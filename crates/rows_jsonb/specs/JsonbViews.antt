@@ -1,15 +1,11 @@
 -- The specification's values for the crate's types.
 use Rattle.std.specs.Prelude.{◌≡◌, ◌≤◌, ℕ, List, length, drop, true, false}
-use Rattle.std.specs.declared.result.Result.{Result}
-use Rattle.std.specs.declared.result.Result.TheVariants.{Ok, Err}
 use Rattle.std.specs.Cow.{cow_slice_items}
 use Rattle.wire_consts.specs.ColumnTypes.{column_type_number}
 use Rattle.wire_forms.specs.RawTexts.{raw_string}
-use Rattle.rows_times.specs.declared.fault.RowsError.{RowsError}
 use Rattle.rows_jsonb.specs.JsonbLayout.{format}
 use Rattle.rows_jsonb.specs.JsonbValues as seen
 use Rattle.rows_jsonb.specs.JsonbValues.{JsonbValue}
-use Rattle.rows_times.specs.Readings.{Reading}
 use Rattle.rows_jsonb.specs.declared.value.Value.{Value}
 use Rattle.rows_jsonb.specs.declared.value.Value.TheVariants.{Null, Bool, I16, U16, I32, U32, I64, U64, F64, String, SmallArray, LargeArray, SmallObject, LargeObject, Opaque}
 

@@ -12,6 +12,7 @@ ghost use Rattle.rows_jsonb.specs.JsonParsing.{ReturnsFound, Meets, Parses};
 use crate::dom::{JsonContainer, JsonDom, JsonNumber, JsonOpaque, JsonScalar};
 use crate::value::Value;
 use rows_decimal::Decimal;
+use rows_json_rules::{set_member, take_value};
 use rows_times::{MysqlTime, RowsError};
 use std::alloc::Global;
 use std::collections::BTreeMap;
@@ -102,10 +103,7 @@ fn parse_in(
 ) -> Result<JsonDom, RowsError>
     ensures { Meets view budget.old budget.new result (tree_of depth (jsonb_value value.now)) }
 {
-    if *budget == 0 {
-        return Err(RowsError::Jsonb(None));
-    }
-    *budget -= 1;
+    take_value(budget)?;
     if depth == 0 {
         let leaf = parse_scalar(alloc, value)?;
         return Ok(JsonDom::Scalar(leaf));
@@ -161,7 +159,7 @@ fn parse_members(
         let value = object.elem(pos)?;
         let name = text(alloc, bytes)?;
         let member = parse_in(alloc, &value, depth, budget)?;
-        drop(found.insert(name, member)?);
+        set_member(&mut found, name, member)?;
     }
     Ok(found)
 }

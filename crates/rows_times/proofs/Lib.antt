@@ -1,3 +1,2 @@
-pub mod PackedLemmas
 pub mod TimeTextLemmas
 pub mod TimeCaseLemmas

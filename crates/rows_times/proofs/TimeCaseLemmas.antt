@@ -8,12 +8,12 @@ use Rattle.std.specs.Int.{w64, int_wrap}
 use Rattle.byteorder.specs.Endian.{big_number}
 use Rattle.byteorder.specs.Numbers.{big_from-lt}
 use Rattle.wire_buf.specs.Encoding.{AreBytes}
-use Rattle.rows_times.specs.PackedTimes.{packed_time, packed_signed, time2}
+use Rattle.rows_packed_times.specs.PackedTimes.{packed_time, packed_signed, time2}
 use Rattle.rows_times.specs.declared.times.mysql_time.MysqlTimestampType.{MysqlTimestampType}
 use Rattle.rows_times.specs.declared.times.mysql_time.MysqlTimestampType.TheVariants.{MYSQL_TIMESTAMP_TIME}
 use Rattle.rows_times.specs.TimeFields.{span_fields, date_fields}
 use Rattle.rows_times.specs.TimeBits.{span_number, span_time, date_number, date_time}
-use Rattle.rows_times.proofs.PackedLemmas.{fits_pos, fits_neg}
+use Rattle.rows_packed_times.proofs.PackedLemmas.{fits_pos, fits_neg}
 
 -- ---- one number and its two parts
 

@@ -1,5 +1,5 @@
 pub mod Faults
-pub mod PackedTimes
+pub use Rattle.rows_packed_times.specs.PackedTimes
 pub mod ReadTimes
 pub mod TimeFields
 pub mod TimeBits

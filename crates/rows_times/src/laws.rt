@@ -3,7 +3,7 @@
 ghost use Rattle.std.specs.Prelude.{◌≡◌, ◌≤◌, ◌<◌, ◌-◌, ◌*◌, ◌^◌, ◌⊎◌, ◌-ℤ◌, ◌+ℤ◌, ◌*ℤ◌, ℕ, List, ◌∷◌, [], drop, pos, neg_ℤ, Some, None, true, false, codes};
 ghost use Rattle.byteorder.specs.Endian.{big_number};
 ghost use Rattle.wire_buf.specs.Encoding.{AreBytes};
-ghost use Rattle.rows_times.specs.PackedTimes.{packed_time, fraction_len, time2};
+ghost use Rattle.rows_packed_times.specs.PackedTimes.{packed_time, fraction_len, time2};
 ghost use Rattle.rows_times.specs.TimeFields.{span_fields, date_fields};
 ghost use Rattle.rows_times.specs.TimeBits.{span_number, span_time, date_number, date_time};
 ghost use Rattle.rows_times.specs.TimeTexts.{time_text};

@@ -9,37 +9,38 @@ use Rattle.rows_jsonb.proofs.Building.{none_left, exits, exits_memory, fails_fai
 use Rattle.rows_jsonb.proofs.DomLemmas.{view-Scalar, view-Array, view-Object, members_view-insert_entry}
 use Rattle.rows_jsonb.proofs.parse.+parse.Goals as goal
 
-pub parse_in-returns-then-budget-eq0 : goal.parse_in-returns-then-budget-eq0
-parse_in-returns-then-budget-eq0 t c = none_left _ _ _ c.if-budget-eq0.true
+pub parse_in-returns-in_err-take_value : goal.parse_in-returns-in_err-take_value
+parse_in-returns-in_err-take_value t c =
+    exits view _ _ _ _ _ c.from_residual.ensures (rw c.in_err-take_value.ensures.err (none_left _ _ _ c.in_err-take_value.ensures.none))
 
 pub parse_in-returns-in_err-leaf : goal.parse_in-returns-in_err-leaf
 parse_in-returns-in_err-leaf t c =
-    exits view _ _ _ _ _ c.from_residual.ensures (rw (flat_tree c.args.depth (jsonb_value c.args.value.now) c.if-depth-eq0.true) (fails_failed _ _ _ c.in_err-leaf.ensures))
+    exits view _ _ _ _ _ c.from_residual-in_err-leaf.ensures (rw (flat_tree c.args.depth (jsonb_value c.args.value.now) c.if-depth-eq0.true) (fails_failed _ _ _ c.in_err-leaf.ensures))
 
 pub parse_in-returns-then-depth-eq0 : goal.parse_in-returns-then-depth-eq0
 parse_in-returns-then-depth-eq0 t c = record {
   count = 1;
   found_is = flat_tree c.args.depth (jsonb_value c.args.value.now) c.if-depth-eq0.true ∙ c.in_ok-leaf.ensures ∙ ap (λ d. Ok (d, 1)) (sym (view-Scalar c.in_ok-leaf.leaf));
-  taken = omega arith;
+  taken = c.in_ok-take_value.ensures.ok;
 }
 
 pub parse_in-returns-in_err-items : goal.parse_in-returns-in_err-items
 parse_in-returns-in_err-items t c =
     exits view _ _ _ _ _ c.from_residual-in_err-items.ensures
-    (fails_one _ _ array _ _ (omega arith) (array_tree c.args.depth (c.args.depth - 1) (jsonb_value c.args.value.now) (omega arith) (sym c.is_array.ensures ∙ c.if-is_array.true)) c.in_err-items.ensures)
+    (fails_one _ _ array _ _ _ c.in_ok-take_value.ensures.ok (array_tree c.args.depth (c.args.depth - 1) (jsonb_value c.args.value.now) (omega arith) (sym c.is_array.ensures ∙ c.if-is_array.true)) c.in_err-items.ensures)
 
 pub parse_in-returns-then-is_array : goal.parse_in-returns-then-is_array
 parse_in-returns-then-is_array t c =
-    takes_one _ _ array _ _ _ _ (omega arith) (array_tree c.args.depth (c.args.depth - 1) (jsonb_value c.args.value.now) (omega arith) (sym c.is_array.ensures ∙ c.if-is_array.true)) (view-Array c.in_ok-items.items) c.in_ok-items.ensures
+    takes_one _ _ array _ _ _ _ _ c.in_ok-take_value.ensures.ok (array_tree c.args.depth (c.args.depth - 1) (jsonb_value c.args.value.now) (omega arith) (sym c.is_array.ensures ∙ c.if-is_array.true)) (view-Array c.in_ok-items.items) c.in_ok-items.ensures
 
 pub parse_in-returns-in_err-members : goal.parse_in-returns-in_err-members
 parse_in-returns-in_err-members t c =
     exits view _ _ _ _ _ c.from_residual-in_err-members.ensures
-    (fails_one _ _ object _ _ (omega arith) (object_tree c.args.depth (c.args.depth - 1) (jsonb_value c.args.value.now) (omega arith) (sym c.is_object.ensures ∙ c.if-is_object.true)) c.in_err-members.ensures)
+    (fails_one _ _ object _ _ _ c.in_ok-take_value.ensures.ok (object_tree c.args.depth (c.args.depth - 1) (jsonb_value c.args.value.now) (omega arith) (sym c.is_object.ensures ∙ c.if-is_object.true)) c.in_err-members.ensures)
 
 pub parse_in-returns-then-is_object : goal.parse_in-returns-then-is_object
 parse_in-returns-then-is_object t c =
-    takes_one _ _ object _ _ _ _ (omega arith) (object_tree c.args.depth (c.args.depth - 1) (jsonb_value c.args.value.now) (omega arith) (sym c.is_object.ensures ∙ c.if-is_object.true)) (view-Object c.in_ok-members.members) c.in_ok-members.ensures
+    takes_one _ _ object _ _ _ _ _ c.in_ok-take_value.ensures.ok (object_tree c.args.depth (c.args.depth - 1) (jsonb_value c.args.value.now) (omega arith) (sym c.is_object.ensures ∙ c.if-is_object.true)) (view-Object c.in_ok-members.members) c.in_ok-members.ensures
 
 pub parse_in-returns-in_err-leaf-2 : goal.parse_in-returns-in_err-leaf-2
 parse_in-returns-in_err-leaf-2 t c =
@@ -52,7 +53,7 @@ parse_in-returns t c = record {
   found_is =
       other_tree c.args.depth (c.args.depth - 1) (jsonb_value c.args.value.now) (omega arith) (sym c.is_array.ensures ∙ c.if-is_array.false) (sym c.is_object.ensures ∙ c.if-is_object.false)
       ∙ c.in_ok-leaf-2.ensures ∙ ap (λ d. Ok (d, 1)) (sym (view-Scalar c.in_ok-leaf-2.leaf));
-  taken = omega arith;
+  taken = c.in_ok-take_value.ensures.ok;
 }
 
 pub parse_items-items-init : goal.parse_items-items-init
@@ -141,8 +142,8 @@ parse_members-returns-in_err-member t c =
     exits (λ m. members_view m.entries) _ _ _ _ _ c.from_residual-in_err-member.ensures
     (rw l.invariant.1 (members_fail (tree_of c.args.depth) (object_key s) (elem_in s) (members_view l.found.entries) c.in_ok-bytes.bytes.now (string_bytes c.in_ok-name.name) l.invariant.0 l.pos (count_in s - l.pos) (count_in s - l.pos - 1) l.budget _ (jsonb_value c.in_ok-value.value) _ (omega arith) (sym c.in_ok-bytes.ensures) (sym c.in_ok-value.ensures) c.in_ok-name.ensures l.invariant.2 c.in_err-member.ensures))
 
-pub parse_members-returns-in_err-insert : goal.parse_members-returns-in_err-insert
-parse_members-returns-in_err-insert t c = exits_memory (λ m. members_view m.entries) _ _ _ _ c.from_residual-in_err-insert.ensures
+pub parse_members-returns-in_err-set_member : goal.parse_members-returns-in_err-set_member
+parse_members-returns-in_err-set_member t c = exits (λ m. members_view m.entries) _ _ _ _ _ c.from_residual-in_err-set_member.ensures (rw c.in_err-set_member.ensures.err tt)
 
 pub parse_members-members-preserved : goal.parse_members-members-preserved
 parse_members-members-preserved t c =
@@ -153,8 +154,8 @@ parse_members-members-preserved t c =
     let more : count_in s - l.pos ≡ suc left = omega arith in
     let d = c.in_ok-member.member in
     let old = members_view l.found.entries in
-    let inserted : members_view c.insert.new.self.entries ≡ put (string_bytes c.in_ok-name.name) (view d) old =
-    ap members_view c.in_ok-insert.ensures.entries ∙ members_view-insert_entry l.found.entries c.in_ok-name.name d in (
+    let inserted : members_view c.set_member.new.members.entries ≡ put (string_bytes c.in_ok-name.name) (view d) old =
+    ap members_view c.in_ok-set_member.ensures.ok ∙ members_view-insert_entry l.found.entries c.in_ok-name.name d in (
       l.invariant.0 + taken.count,
       l.invariant.1 ∙ members_turn (tree_of c.args.depth) (object_key s) (elem_in s) old (view d) c.in_ok-bytes.bytes.now (string_bytes c.in_ok-name.name) l.invariant.0 taken.count l.pos (count_in s - l.pos) left (jsonb_value c.in_ok-value.value) more (sym c.in_ok-bytes.ensures) (sym c.in_ok-value.ensures) c.in_ok-name.ensures taken.found_is
           ∙ ap (λ ms. after_members (l.invariant.0 + taken.count) (member_trees (tree_of c.args.depth) (object_key s) (elem_in s) (l.pos + 1) left ms)) (sym inserted),

@@ -1,0 +1,35 @@
+//! Two rules of JSON trees, for documents that are made to break a reader: the last of equal keys wins, and each value counts.
+#![tactic(auto)]
+
+ghost use Rattle.std.specs.Prelude.{◌≡◌, ◌+◌, OnOk, OnErr, IfErr, string_cmp};
+ghost use Rattle.std.specs.BTreeMap.{insert_entry};
+ghost use Rattle.rows_times.specs.declared.fault.RowsError.TheVariants.{Jsonb, Memory};
+
+use rows_times::RowsError;
+use std::collections::BTreeMap;
+
+/// Sets the member with this key of an object; the value of an equal key is replaced. The error is `Memory`.
+pub fn set_member<V: Drop>(
+    members: &mut BTreeMap<String, V>,
+    key: String,
+    value: V,
+) -> Result<(), RowsError>
+    ensures ok { OnOk result (members.new.entries ≡ insert_entry string_cmp members.old.entries key value) }
+    ensures err { IfErr result (λ e. e ≡ Memory) }
+{
+    drop(members.insert(key, value)?);
+    Ok(())
+}
+
+/// Subtracts one value from the budget; a budget of 0 is an error.
+pub fn take_value(budget: &mut usize) -> Result<(), RowsError>
+    ensures ok { OnOk result (1 + budget.new ≡ budget.old) }
+    ensures none { OnErr result (budget.old ≡ 0) }
+    ensures err { IfErr result (λ e. e ≡ Jsonb None) }
+{
+    if *budget == 0 {
+        return Err(RowsError::Jsonb(None));
+    }
+    *budget -= 1;
+    Ok(())
+}
