@@ -7,7 +7,7 @@ use crate::serving::NAME;
 use crc32::crc32;
 use feed_kept::kept;
 use feed_reports::report;
-use feed_rules::Verdict;
+use feed_kinds::Verdict;
 use feed_streams::Follower;
 use std::alloc::{AllocError, Global};
 use std::cell::Cell;

@@ -3,7 +3,7 @@
 use crate::samples::Pieces;
 use crc32::crc32;
 use feed_reports::report;
-use feed_rules::Verdict;
+use feed_kinds::Verdict;
 use std::alloc::Global;
 use wire_buf::Watched;
 
