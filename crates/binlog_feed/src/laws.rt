@@ -37,11 +37,11 @@ pub use crate::worked_serving::{worked_damage, worked_dumps, worked_positions};
 pub use crate::worked_streams::{
     worked_acknowledgements, worked_answers, worked_ends, worked_requests,
 };
+pub use feed_checks::laws::{descriptions_are_read, parts_are_those_of_events};
 pub use feed_kept::laws::commit_lines_are_read;
 pub use feed_kept::worked::worked_kept;
-pub use feed_reports::laws::events_are_longest;
-pub use feed_checks::laws::{descriptions_are_read, parts_are_those_of_events};
 pub use feed_kinds::laws::bodies_are_read;
+pub use feed_reports::laws::events_are_longest;
 pub use feed_rows::laws::plans_are_those_of_maps;
 pub use feed_rules::laws::{
     first_events_show_the_first_transactions, what_came_before_does_not_matter,

@@ -7,8 +7,9 @@ mod query_texts;
 mod verdict;
 
 pub use event_kind::{
-    DELETE_ROWS_EVENT, EventKind, FORMAT_DESCRIPTION_EVENT, Gtid, QUERY_EVENT, ROTATE_EVENT, TABLE_MAP_EVENT,
-    UPDATE_ROWS_EVENT, WRITE_ROWS_EVENT, XID_EVENT, on_rotate, read_rows, read_table_map,
+    DELETE_ROWS_EVENT, EventKind, FORMAT_DESCRIPTION_EVENT, Gtid, QUERY_EVENT, ROTATE_EVENT,
+    TABLE_MAP_EVENT, UPDATE_ROWS_EVENT, WRITE_ROWS_EVENT, XID_EVENT, on_rotate, read_rows,
+    read_table_map,
 };
 pub use query_texts::QueryTexts;
 pub use verdict::{Verdict, name_of, status};
