@@ -2,7 +2,7 @@
 use Rattle.std.proofs.Common.{◌≡◌, ℕ, ◌+◌, List, [], ◌∷◌, ◌++◌, length, drop, refl, sym, ap, subst, ◌∙◌, append_assoc}
 use Rattle.std.proofs.lemmas.List.{append_cancel_left, drop-drop}
 use Rattle.std.proofs.Math.Seq.{drop-append_seam}
-use Rattle.feed_rules.specs.Events.{Event, in_force}
+use Rattle.feed_kinds.specs.Events.{Event, in_force}
 use Rattle.feed_rules.specs.Checks.{fault_of}
 use Rattle.feed_rules.specs.Rules.{rules, up_to_fault, fault_after, shown_after, shown}
 use Rattle.feed_rules.specs.Transactions.{Transaction}

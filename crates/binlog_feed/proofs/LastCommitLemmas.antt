@@ -5,8 +5,8 @@ use Rattle.wire_buf.specs.Encoding.{AreBytes}
 use Rattle.wire_packets.specs.Framing.{max_chunk_len, framing, next_sequence_id}
 use Rattle.wire_packets.specs.Reading.{payload_len_at, has_chunk_of, chunk_payload, after_chunk}
 use Rattle.wire_packets.specs.Packets.{payload_in, packets_in, packets}
-use Rattle.feed_rules.specs.Words.{onto}
-use Rattle.feed_rules.specs.Events.{Event}
+use Rattle.feed_kinds.specs.Words.{onto}
+use Rattle.feed_kinds.specs.Events.{Event}
 use Rattle.feed_rules.specs.Laws.{Each}
 use Rattle.feed_rules.specs.Rules.{rules, good, shown}
 use Rattle.feed_rules.specs.Transactions.{Transaction}

@@ -13,9 +13,9 @@ use Rattle.rows_times.specs.declared.fault.RowsError.{RowsError}
 use Rattle.rows_meta.specs.TableMaps.{TableMap}
 use Rattle.rows_events.specs.EventShapes.{event_rows, event_shapes, row_read}
 use Rattle.rows_events.specs.RowsEvents.{RowsBody}
-use Rattle.feed_rules.specs.declared.verdict.Verdict.{Verdict}
-use Rattle.feed_rules.specs.Rows.{Row, change_of, image_texts, row_texts, value_or_none, walked_texts, texts_of_rows, rows_by, rows_result, rows_in, fault_in, plan_by}
-use Rattle.feed_rules.specs.Kinds.{Kind, Rows, newest_map}
+use Rattle.feed_kinds.specs.declared.verdict.Verdict.{Verdict}
+use Rattle.feed_rows.specs.Rows.{Row, change_of, image_texts, row_texts, value_or_none, walked_texts, texts_of_rows, rows_by, rows_result, rows_in, fault_in, plan_by}
+use Rattle.feed_kinds.specs.Kinds.{Kind, Rows, newest_map}
 use Rattle.feed_rules.specs.Transactions.{Changed, lines_at}
 use Rattle.binlog_feed.specs.EventRows.{AreRowsOf}
 

@@ -8,11 +8,11 @@ use Rattle.wire_packets.specs.Framing.{framings}
 use Rattle.wire_packets.specs.Packets.{packets}
 use Rattle.wire_packets.proofs.PacketLemmas.{framings_read}
 use Rattle.events_frames.specs.Events.{IsWholeEvent}
-use Rattle.feed_rules.specs.declared.verdict.Verdict.{Verdict}
-use Rattle.feed_rules.specs.declared.verdict.Verdict.TheVariants as verdicts
-use Rattle.feed_rules.specs.Words.{first, onto}
-use Rattle.feed_rules.specs.Events.{Event, in_force}
-use Rattle.feed_rules.specs.Kinds.{kind_of, kinds}
+use Rattle.feed_kinds.specs.declared.verdict.Verdict.{Verdict}
+use Rattle.feed_kinds.specs.declared.verdict.Verdict.TheVariants as verdicts
+use Rattle.feed_kinds.specs.Words.{first, onto}
+use Rattle.feed_kinds.specs.Events.{Event, in_force}
+use Rattle.feed_kinds.specs.Kinds.{kind_of, kinds}
 use Rattle.feed_rules.specs.Checks.{body_fault, context_fault, rows_fault, outer_fault, inner_fault, is_body_checked, fault_of, damage_of}
 use Rattle.feed_rules.specs.Laws.{Each}
 use Rattle.feed_rules.specs.Rules.{Rules, Judge, rules, up_to_fault, fault_after, shown_after, shown, first_fault}

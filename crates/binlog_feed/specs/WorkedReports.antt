@@ -1,7 +1,7 @@
 -- Worked reports: small files, and what is printed of each.
 use Rattle.std.specs.Prelude.{ℕ, List, [], ◌∷◌, ◌++◌, take}
-use Rattle.feed_rules.specs.declared.verdict.Verdict.{Verdict}
-use Rattle.feed_rules.specs.Events.{Event}
+use Rattle.feed_kinds.specs.declared.verdict.Verdict.{Verdict}
+use Rattle.feed_kinds.specs.Events.{Event}
 use Rattle.feed_rules.specs.Rules.{rules}
 use Rattle.binlog_feed.specs.WorkedEvents.{begin_event, map_event, write_event, with_checksum, zeros, checksummed_with, one_insert_events}
 use Rattle.feed_reports.specs.Events.{magic_number, joined}

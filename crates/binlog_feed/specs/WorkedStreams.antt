@@ -1,7 +1,7 @@
 -- Worked streams: a server's packets, what a follower prints of them, and the request for them.
 use Rattle.std.specs.Prelude.{ℕ, ◌+◌, List, [], ◌∷◌, ◌++◌, length, take, codes}
-use Rattle.feed_rules.specs.declared.verdict.Verdict.{Verdict}
-use Rattle.feed_rules.specs.Events.{Event}
+use Rattle.feed_kinds.specs.declared.verdict.Verdict.{Verdict}
+use Rattle.feed_kinds.specs.Events.{Event}
 use Rattle.feed_rules.specs.Rules.{rules}
 use Rattle.binlog_feed.specs.WorkedEvents.{zeros, begin_event, map_event, write_event, commit_event, one_insert_events, with_checksum, checksummed_with}
 use Rattle.feed_reports.specs.Reports.{Printed, printed}

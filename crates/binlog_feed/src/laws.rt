@@ -7,19 +7,19 @@ ghost use Rattle.events_gtids.specs.Gtids.{GtidBody, IsGtid};
 ghost use Rattle.rows_events.specs.EventShapes.{event_rows};
 ghost use Rattle.rows_events.specs.RowsEvents.{RowsBody};
 ghost use Rattle.rows_meta.specs.TableMaps.{TableMap};
-ghost use Rattle.feed_rules.specs.Bodies.{gtid_in, is_description_body};
-ghost use Rattle.feed_rules.specs.Rows.{plan_by, rows_result, rows_in, fault_in};
-ghost use Rattle.feed_rules.specs.Kinds.{Kind, Rows, Begin, NextGtid, kinds, newest_map, since_begin, is_inside, is_waiting, waiting, Gtid};
+ghost use Rattle.feed_kinds.specs.Bodies.{gtid_in, is_description_body};
+ghost use Rattle.feed_rows.specs.Rows.{plan_by, rows_result, rows_in, fault_in};
+ghost use Rattle.feed_kinds.specs.Kinds.{Kind, Rows, Begin, NextGtid, kinds, newest_map, since_begin, is_inside, is_waiting, waiting, Gtid};
 ghost use Rattle.feed_rules.specs.Transactions.{lines_at, Line, Transaction};
 ghost use Rattle.binlog_feed.specs.EventRows.{AreRowsOf};
 ghost use Rattle.std.specs.List.{starts_with};
-ghost use Rattle.feed_rules.specs.Events.{Event, in_force};
+ghost use Rattle.feed_kinds.specs.Events.{Event, in_force};
 ghost use Rattle.feed_rules.specs.Rules.{rules, good, shown, Rules};
 ghost use Rattle.feed_rules.specs.Texts.{line_text, begin_line, commit_line};
 ghost use Rattle.feed_rules.specs.Laws.{IsOpen, IsBetween, IsCompleteAtEvent, Each};
 ghost use Rattle.feed_reports.specs.Events.{events};
 ghost use Rattle.feed_reports.specs.Reports.{Report, file_events, file_transactions};
-ghost use Rattle.feed_rules.specs.declared.verdict.Verdict.{Verdict};
+ghost use Rattle.feed_kinds.specs.declared.verdict.Verdict.{Verdict};
 ghost use Rattle.feed_streams.specs.Requests.{dump_request};
 ghost use Rattle.feed_streams.specs.declared.format.PayloadFormat.{PayloadFormat as Format};
 ghost use Rattle.feed_serving.specs.Positions.{past_at, is_between_transactions};
@@ -44,12 +44,14 @@ pub use crate::worked_serving::{worked_damage, worked_dumps, worked_positions};
 pub use crate::worked_streams::{
     worked_acknowledgements, worked_answers, worked_ends, worked_requests,
 };
+pub use feed_checks::laws::{descriptions_are_read, parts_are_those_of_events};
 pub use feed_kept::laws::commit_lines_are_read;
 pub use feed_kept::worked::worked_kept;
+pub use feed_kinds::laws::bodies_are_read;
 pub use feed_reports::laws::events_are_longest;
+pub use feed_rows::laws::plans_are_those_of_maps;
 pub use feed_rules::laws::{
-    bodies_are_read, descriptions_are_read, first_events_show_the_first_transactions,
-    parts_are_those_of_events, plans_are_those_of_maps, what_came_before_does_not_matter,
+    first_events_show_the_first_transactions, what_came_before_does_not_matter,
 };
 pub use feed_runs::laws::{broken_runs_are_whole, packets_of_a_prefix};
 pub use feed_serving::laws::{lengths_of_packets, requests_are_packets};

@@ -16,8 +16,8 @@ mod worked_serving;
 mod worked_streams;
 
 pub use feed_kept::{Keeper, kept};
+pub use feed_kinds::{Verdict, name_of, status};
 pub use feed_reports::report;
-pub use feed_rules::{Verdict, name_of, status};
 pub use feed_runs::{Step, rehearse, rehearse_growing, rehearse_semi};
 pub use feed_serving::{Refusal, Served, serve, serve_semi};
 pub use feed_streams::{Follower, RequestError, request};

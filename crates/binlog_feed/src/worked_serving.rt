@@ -1,7 +1,7 @@
 //! Worked examples, computed from the definitions: what is sent of small files, and the results of requests.
 
 ghost use Rattle.std.specs.Prelude.{◌≡◌, [], ◌∷◌, ◌++◌, codes, take, drop};
-ghost use Rattle.feed_rules.specs.declared.verdict.Verdict.TheVariants as v;
+ghost use Rattle.feed_kinds.specs.declared.verdict.Verdict.TheVariants as v;
 ghost use Rattle.binlog_feed.specs.WorkedEvents.{description_event};
 ghost use Rattle.binlog_feed.specs.WorkedReports.{without_last_byte, broken_header};
 ghost use Rattle.binlog_feed.specs.WorkedEvents.{one_insert_events};

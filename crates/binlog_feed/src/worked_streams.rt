@@ -1,7 +1,7 @@
 //! Worked examples, computed from the definitions: streams, the text that they show and their verdict, and a request.
 
 ghost use Rattle.std.specs.Prelude.{◌≡◌, [], ◌∷◌, ◌++◌, codes};
-ghost use Rattle.feed_rules.specs.declared.verdict.Verdict.TheVariants as v;
+ghost use Rattle.feed_kinds.specs.declared.verdict.Verdict.TheVariants as v;
 ghost use Rattle.binlog_feed.specs.WorkedEvents.{insert_text, one_insert_text};
 ghost use Rattle.feed_streams.specs.Requests.{dump_request};
 ghost use Rattle.feed_streams.specs.declared.format.PayloadFormat.TheVariants.{Plain, SemiSync};

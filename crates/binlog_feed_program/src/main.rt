@@ -2,8 +2,8 @@
 #![tactic(auto)]
 
 use crc32::crc32;
+use feed_kinds::{Verdict, name_of, status};
 use feed_reports::report;
-use feed_rules::{Verdict, name_of, status};
 use feed_runs::rehearse;
 use feed_serving::{Served, serve, serve_semi};
 use feed_streams::{Follower, request};

@@ -3,7 +3,7 @@ use Rattle.std.proofs.Common.{◌≡◌, ℕ, Bool, true, false, not, List, [], 
 use Rattle.std.specs.Io.KnownBytes.{Appends, append_known}
 use Rattle.std.proofs.KnownBytes.{Appends-nil, Appends-trans}
 use Rattle.std.proofs.lemmas.List.{append-nil, append_cancel_left, length-take-le}
-use Rattle.feed_rules.specs.declared.verdict.Verdict.{Verdict}
+use Rattle.feed_kinds.specs.declared.verdict.Verdict.{Verdict}
 use Rattle.feed_reports.specs.Waiting.{bytes_of, WritesSome}
 use Rattle.feed_reports.specs.Writing.{IsInterruptedWrite}
 use Rattle.feed_reports.specs.declared.waiting.WaitingBytes.{WaitingBytes}

@@ -9,7 +9,7 @@ ghost use Rattle.feed_reports.specs.Writing.{IsInterruptedWrite};
 ghost use Rattle.feed_reports.specs.declared.waiting.TheConstants.{MAX_WAITING_LEN};
 
 use crate::writing::put_all;
-use feed_rules::Verdict;
+use feed_kinds::Verdict;
 use feed_writers::put_bytes;
 use std::alloc::{AllocError, Global};
 use std::io::Write;

@@ -3,18 +3,15 @@
 ghost use Rattle.std.specs.Prelude.{◌≡◌, ◌++◌, ◌∷◌, OnOk, Some};
 ghost use Rattle.hex.specs.Hex.{encode_lower};
 ghost use Rattle.events_queries.specs.Queries.{Query};
-ghost use Rattle.feed_writers.specs.Quoting.{quoted};
 ghost use Rattle.feed_text.specs.Buffers.{text_in};
-ghost use Rattle.feed_rules.specs.KindViews.{gtid_view};
-ghost use Rattle.feed_rules.specs.QueryTexts.{HasTexts};
-ghost use Rattle.feed_rules.specs.Rows.{change_by};
+ghost use Rattle.feed_kinds.specs.KindViews.{gtid_view};
+ghost use Rattle.feed_kinds.specs.QueryTexts.{HasTexts};
 ghost use Rattle.feed_rules.specs.Transactions.{Stated};
-ghost use Rattle.feed_rules.specs.Texts.{change_word, commit_line, gtid_text, line_text, uuid_text};
+ghost use Rattle.feed_rules.specs.Texts.{commit_line, gtid_text, line_text, uuid_text};
 
-use crate::event_kind::Gtid;
-use crate::query_texts::QueryTexts;
+use feed_kinds::{Gtid, QueryTexts};
+use feed_rows::put_two_quoted;
 use feed_text::TextBuffer;
-use rows_events::RowImages;
 use std::alloc::{AllocError, Allocator};
 
 /// Appends the text of a GTID: `-`, `uuid:number`, or `tagged` and the quoted body. Out of memory: a part of it may be appended.
@@ -61,43 +58,6 @@ pub(crate) fn put_commit<A: Allocator>(
     text.put_text(b"commit ")?;
     text.put_number(u64::from(log_pos))?;
     text.put(b'\n')
-}
-
-/// Appends the start of a row's line: the kind of change, and the names of the table. Out of memory: a part of it may be
-/// appended.
-pub(crate) fn put_row_start<A: Allocator>(
-    images: RowImages,
-    names: &[u8],
-    text: &mut TextBuffer<A>,
-) -> Result<(), AllocError>
-    ensures ok { OnOk result (text_in text.new ≡ text_in text.old ++ (change_word (change_by images) ++ names.now)) }
-{
-    text.put_text(change_word(images))?;
-    text.put_text(names)
-}
-
-/// The word for what an event with these images does to a row, and a space.
-pub(crate) fn change_word(images: RowImages) -> &'static [u8]
-    ensures { result.now ≡ change_word (change_by images) }
-{
-    match images {
-        RowImages::Before => b"delete ",
-        RowImages::After => b"insert ",
-        RowImages::BeforeAndAfter | RowImages::BeforeAndPartialAfter => b"update ",
-    }
-}
-
-/// Appends two quoted strings with a space between them.
-pub(crate) fn put_two_quoted<A: Allocator>(
-    first: &[u8],
-    second: &[u8],
-    text: &mut TextBuffer<A>,
-) -> Result<(), AllocError>
-    ensures ok { OnOk result (text_in text.new ≡ text_in text.old ++ (quoted first.now ++ 32 ∷ quoted second.now)) }
-{
-    text.put_quoted(first)?;
-    text.put(b' ')?;
-    text.put_quoted(second)
 }
 
 /// Appends a UUID in hexadecimal digits, in groups of 8, 4, 4, 4 and 12.

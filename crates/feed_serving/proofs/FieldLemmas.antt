@@ -3,7 +3,7 @@ use Rattle.std.proofs.Common.{◌≡◌, ℕ, ◌<◌, ◌^◌, Bool, true, fals
 use Rattle.std.specs.Prelude.{nat_lt, if◌then◌else◌}
 use Rattle.byteorder.specs.Endian.{little_number}
 use Rattle.wire_packets.proofs.PacketLemmas.{framings_apart}
-use Rattle.feed_rules.specs.declared.verdict.Verdict.{Verdict}
+use Rattle.feed_kinds.specs.declared.verdict.Verdict.{Verdict}
 use Rattle.feed_rules.specs.Rules.{Rules}
 use Rattle.feed_reports.specs.Events.{has_magic_number}
 use Rattle.feed_streams.specs.Requests.{dump_payload, dump_request}

@@ -7,7 +7,7 @@ use Rattle.std.proofs.lemmas.List.{append-nil, take-append-drop}
 use Rattle.wire_packets.specs.Framing.{max_chunk_len, chunk, framing, next_sequence_id}
 use Rattle.wire_packets.proofs.FramingLemmas.{same_chunk}
 use Rattle.wire_packets.proofs.PacketLemmas.{framing_short, framing_long, order}
-use Rattle.feed_rules.specs.declared.verdict.Verdict.{Verdict}
+use Rattle.feed_kinds.specs.declared.verdict.Verdict.{Verdict}
 use Rattle.feed_reports.specs.Writing.{IsInterruptedWrite}
 
 -- ---- interrupted writes

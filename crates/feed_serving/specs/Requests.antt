@@ -8,7 +8,7 @@ use Rattle.feed_serving.specs.declared.served.Refusal.{Refusal}
 use Rattle.feed_serving.specs.declared.served.Refusal.TheVariants.{NotADump, Flags, Name}
 use Rattle.feed_serving.specs.declared.served.Served.{Served}
 use Rattle.feed_serving.specs.declared.served.Served.TheVariants.{Refused, Fault}
-use Rattle.feed_rules.specs.declared.verdict.Verdict.TheVariants as verdicts
+use Rattle.feed_kinds.specs.declared.verdict.Verdict.TheVariants as verdicts
 
 -- the payload is a dump request: the command 0x12, the position, flags, the replica's server id, and the file's name to the end
 abbrev pub is_dump : List ℕ → Bool

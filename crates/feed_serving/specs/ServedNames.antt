@@ -1,6 +1,6 @@
 -- The names that the program prints for the results of a request.
 use Rattle.std.specs.Prelude.{ℕ, List, codes}
-use Rattle.feed_rules.specs.Verdicts.{verdict_name}
+use Rattle.feed_kinds.specs.Verdicts.{verdict_name}
 use Rattle.feed_serving.specs.declared.served.Refusal.{Refusal}
 use Rattle.feed_serving.specs.declared.served.Refusal.TheVariants.{NotADump, Flags, Name, Place}
 use Rattle.feed_serving.specs.declared.served.Served.{Served}

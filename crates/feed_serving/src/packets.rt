@@ -6,8 +6,8 @@ ghost use Rattle.wire_buf.specs.Watched.{inner_of, has_failed};
 ghost use Rattle.wire_packets.specs.Framing.{max_chunk_len, chunk, framing, next_sequence_id};
 ghost use Rattle.feed_reports.specs.Writing.{IsInterruptedWrite};
 
+use feed_kinds::Verdict;
 use feed_reports::put_all;
-use feed_rules::Verdict;
 use feed_writers::put_bytes;
 use std::io::Write;
 use wire_buf::Watched;

@@ -2,12 +2,12 @@
 
 ghost use Rattle.std.specs.Prelude.{◌≡◌, Ok, Err, IfOk, IfErr, option_map};
 ghost use Rattle.feed_serving.specs.Requests.{payload_of_packet, requested, IsNotAsked};
-ghost use Rattle.feed_rules.specs.declared.verdict.Verdict.TheVariants.{Memory as MemoryVerdict};
+ghost use Rattle.feed_kinds.specs.declared.verdict.Verdict.TheVariants.{Memory as MemoryVerdict};
 
 use crate::served::{Refusal, Served};
 use byteorder::{ByteOrder, LittleEndian};
 use bytes::BytesMut;
-use feed_rules::Verdict;
+use feed_kinds::Verdict;
 use std::alloc::Global;
 use wire_packets::{PacketCodec, PacketCodecError};
 

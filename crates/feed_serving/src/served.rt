@@ -3,7 +3,7 @@
 ghost use Rattle.std.specs.Prelude.{◌≡◌};
 ghost use Rattle.feed_serving.specs.ServedNames.{error_name, served_name};
 
-use feed_rules::{Verdict, name_of};
+use feed_kinds::{Verdict, name_of};
 
 /// The reason why a request is rejected.
 #[derive(Clone, Copy, Debug, PartialEq, Eq)]

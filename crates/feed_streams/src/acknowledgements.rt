@@ -3,7 +3,7 @@
 ghost use Rattle.std.specs.Prelude.{◌≡◌, ◌++◌, ◌≤◌, ◌+◌, List, ℕ, [], ◌∷◌, OnOk, OnErr, length};
 ghost use Rattle.std.specs.Int.{w64, to_le_bytes};
 ghost use Rattle.wire_packets.specs.Framing.{max_chunk_len, chunk, framing};
-ghost use Rattle.feed_rules.specs.Events.{log_pos_of};
+ghost use Rattle.feed_kinds.specs.Events.{log_pos_of};
 ghost use Rattle.feed_reports.specs.Events.{joined};
 ghost use Rattle.feed_streams.specs.Acknowledgements.{requested_acks};
 ghost use Rattle.feed_streams.specs.Streams.{Plain, event_in};

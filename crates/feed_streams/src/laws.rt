@@ -2,7 +2,7 @@
 
 ghost use Rattle.std.specs.Prelude.{◌≡◌, true};
 ghost use Rattle.events_frames.specs.Events.{IsWholeEvent};
-ghost use Rattle.feed_rules.specs.Events.{Event};
+ghost use Rattle.feed_kinds.specs.Events.{Event};
 ghost use Rattle.feed_streams.specs.Streams.{Format, holds_event, event_in, payload_of};
 
 /// The payload made of a whole event holds an event, and it is that one.

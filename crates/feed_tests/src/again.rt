@@ -4,7 +4,7 @@ use crate::following::LIMIT;
 use crate::samples::{TEXT, two_inserts};
 use crate::serving::NAME;
 use crc32::crc32;
-use feed_rules::Verdict;
+use feed_kinds::Verdict;
 use feed_serving::serve;
 use feed_streams::{Follower, RequestError, request};
 use std::alloc::Global;

@@ -2,7 +2,7 @@
 
 use crate::samples::{BEGIN, MAP, ROWS, TEXT, XID, answer_of};
 use crc32::crc32;
-use feed_rules::Verdict;
+use feed_kinds::Verdict;
 use feed_streams::{Follower, RequestError};
 use std::alloc::Global;
 use wire_buf::Watched;

@@ -5,7 +5,7 @@ use crate::reporting::is_reported;
 use crate::samples::{BEGIN, MAP, ROWS, TEXT, XID, answer_of, one_insert};
 use crate::serving::NAME;
 use crc32::crc32;
-use feed_rules::Verdict;
+use feed_kinds::Verdict;
 use feed_runs::{Step, rehearse, rehearse_growing};
 use feed_serving::{Served, serve};
 use feed_streams::{Follower, request};

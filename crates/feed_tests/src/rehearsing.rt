@@ -3,7 +3,7 @@
 use crate::failing::Full;
 use crate::samples::{TEXT, two_inserts};
 use crc32::crc32;
-use feed_rules::Verdict;
+use feed_kinds::Verdict;
 use feed_runs::{Step, rehearse, rehearse_growing};
 use std::alloc::Global;
 use std::test::*;

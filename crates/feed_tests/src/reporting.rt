@@ -2,8 +2,8 @@
 
 use crate::samples::Pieces;
 use crc32::crc32;
+use feed_kinds::Verdict;
 use feed_reports::report;
-use feed_rules::Verdict;
 use std::alloc::Global;
 use wire_buf::Watched;
 

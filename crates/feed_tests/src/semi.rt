@@ -4,7 +4,7 @@ use crate::failing::Full;
 use crate::following::LIMIT;
 use crate::samples::{BEGIN, MAP, ROWS, TEXT, XID, answer_of, one_insert};
 use crc32::crc32;
-use feed_rules::Verdict;
+use feed_kinds::Verdict;
 use feed_runs::{Step, rehearse_semi};
 use feed_serving::{Served, serve_semi};
 use feed_streams::{Follower, RequestError, request};

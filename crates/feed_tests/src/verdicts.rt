@@ -1,6 +1,6 @@
 //! Names and exit statuses.
 
-use feed_rules::{Verdict, name_of, status};
+use feed_kinds::{Verdict, name_of, status};
 use feed_serving::Served;
 use feed_streams::RequestError;
 

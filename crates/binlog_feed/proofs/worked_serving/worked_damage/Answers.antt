@@ -3,9 +3,9 @@ use Rattle.wire_buf.specs.LenencSplit.{split_number, split_lenenc}
 use Rattle.wire_packets.specs.Framing.{slice_of, chunks, framings, sequence_id_after}
 use Rattle.wire_packets.specs.Packets.{payload_in, packets_in}
 use Rattle.wire_packets.specs.Version.{number_at, after_point, numbers_at}
-use Rattle.feed_rules.specs.Bodies.{rotate_in, table_map_in}
-use Rattle.feed_rules.specs.Events.{parts, description_of, in_force}
-use Rattle.feed_rules.specs.Kinds.{kind_by}
+use Rattle.feed_kinds.specs.Bodies.{rotate_in, table_map_in}
+use Rattle.feed_kinds.specs.Events.{parts, description_of, in_force}
+use Rattle.feed_kinds.specs.Kinds.{kind_by}
 use Rattle.feed_rules.specs.Checks.{frame_fault, algorithm_fault, checksum_fault, size_fault, damage_of}
 use Rattle.feed_rules.specs.Rules.{up_to_fault, fault_after}
 use Rattle.feed_reports.specs.Events.{events_in}

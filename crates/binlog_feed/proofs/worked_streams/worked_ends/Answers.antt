@@ -18,10 +18,10 @@ use Rattle.hex.specs.Hex.{encode_with}
 use Rattle.feed_writers.specs.Quoting.{quoted}
 use Rattle.feed_text.specs.CellText.{text_of}
 use Rattle.feed_text.specs.ImageText.{cells_text}
-use Rattle.feed_rules.specs.Bodies.{query_in, rotate_in, xid_in, table_map_in, rows_event_in, gtid_in}
-use Rattle.feed_rules.specs.Events.{parts, description_of, in_force}
-use Rattle.feed_rules.specs.Rows.{image_texts, row_texts, texts_of_rows, rows_result}
-use Rattle.feed_rules.specs.Kinds.{kind_by, kinds, is_inside, waiting, since_begin, newest_map}
+use Rattle.feed_kinds.specs.Bodies.{query_in, rotate_in, xid_in, table_map_in, rows_event_in, gtid_in}
+use Rattle.feed_kinds.specs.Events.{parts, description_of, in_force}
+use Rattle.feed_rows.specs.Rows.{image_texts, row_texts, texts_of_rows, rows_result}
+use Rattle.feed_kinds.specs.Kinds.{kind_by, kinds, is_inside, waiting, since_begin, newest_map}
 use Rattle.feed_rules.specs.Checks.{frame_fault, algorithm_fault, checksum_fault, size_fault, fault_of}
 use Rattle.feed_rules.specs.Transactions.{lines_of, shown_by}
 use Rattle.feed_rules.specs.Rules.{up_to_fault, fault_after, shown_after}

@@ -1,0 +1,6 @@
+pub mod ReaderLemmas
+pub mod BodyLemmas
+pub mod BodyKindLemmas
+pub mod KindReadLemmas
+pub mod KnownBodyLemmas
+pub mod QueryTextLemmas

@@ -1,0 +1,9 @@
+pub mod Words
+pub mod Readers
+pub mod Bodies
+pub mod Events
+pub mod Kinds
+pub mod QueryTexts
+pub mod BodiesOfMaps
+pub mod KindViews
+pub mod Verdicts

@@ -1,0 +1,4 @@
+pub mod RowLineLemmas
+pub mod TableLemmas
+pub mod MapBodyLemmas
+pub mod KnownImageLemmas

@@ -1,0 +1,5 @@
+pub mod Rows
+pub mod RowTexts
+pub mod RowLines
+pub mod KnownImages
+pub mod Tables
