@@ -11,3 +11,5 @@ mod files;
 mod owned_events;
 #[cfg(test)]
 mod readers;
+#[cfg(test)]
+mod written_files;
