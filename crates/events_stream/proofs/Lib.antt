@@ -1,3 +1,4 @@
+pub mod DataLemmas
 pub mod FileLemmas
 pub mod EventLemmas
 pub mod WholeLemmas

@@ -1,7 +1,7 @@
 //! The body of an event of any type: read by its type, made owned, and written again. The `Debug` text shows all fields.
 
-use events_data::EventData;
 use events_frames::{BinlogCtx, EventError, FormatDescriptionEvent};
+use events_stream::EventData;
 use events_tests::samples::{
     BEGIN_LOAD, FULL, INCIDENT, INTVAR, LOAD, QUERY, RAND, ROTATE, UNSIGNED, UPDATE, XID,
 };

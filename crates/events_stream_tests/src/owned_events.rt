@@ -2,10 +2,9 @@
 
 use crate::files::{added, file_with};
 use events_bodies::XidEvent;
-use events_data::EventData;
 use events_frames::{EventError, EventParts, FormatDescriptionEvent};
 use events_reader::EventStreamReader;
-use events_stream::{BinlogFile, Event, ReadEvents};
+use events_stream::{BinlogFile, Event, EventData, ReadEvents};
 use events_tests::worked::{BEGIN, COMMIT, DESCRIPTION, INSERT, TABLE_MAP, changed};
 use rows_consts::{BinlogChecksumAlg, BinlogVersion};
 use std::alloc::Global;
