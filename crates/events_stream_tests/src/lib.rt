@@ -8,6 +8,8 @@ mod example;
 #[cfg(test)]
 mod files;
 #[cfg(test)]
+mod memory;
+#[cfg(test)]
 mod owned_events;
 #[cfg(test)]
 mod readers;

@@ -19,8 +19,6 @@ mod gtids;
 #[cfg(test)]
 mod headers;
 #[cfg(test)]
-mod memory;
-#[cfg(test)]
 mod parts;
 #[cfg(test)]
 mod queries;

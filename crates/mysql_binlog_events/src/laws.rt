@@ -45,7 +45,8 @@ pub use events_rows::laws::{
     images_are_those_of_the_kind, types_are_read_back, worked_contexts,
 };
 pub use events_stream::laws::{
-    files_end_once, files_give_few_items, whole_events_fail_only_as_too_short,
+    equal_bodies_say_the_same, files_end_once, files_give_few_items,
+    whole_events_fail_only_as_too_short,
 };
 
 /// Bytes that begin with the encoding of a body are read as this body.
