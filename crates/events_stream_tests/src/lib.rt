@@ -1,4 +1,4 @@
-//! Tests of events of any type, files and streams: a file for each subject.
+//! Tests of rows events, bodies of any type, owned events, files and streams: a file for each subject.
 #![tactic(auto)]
 
 #[cfg(test)]
@@ -13,5 +13,7 @@ mod memory;
 mod owned_events;
 #[cfg(test)]
 mod readers;
+#[cfg(test)]
+mod rows_by_type;
 #[cfg(test)]
 mod written_files;
