@@ -1,3 +1,5 @@
+pub mod DataLemmas
+pub mod DataEquality
 pub mod FileLemmas
 pub mod EventLemmas
 pub mod WholeLemmas

@@ -1,3 +1,6 @@
+pub mod BodyFormats
+pub mod DataReadings
+pub mod DataEncodings
 pub mod OwnedEvents
 pub mod OwnedBodies
 pub mod EventViews

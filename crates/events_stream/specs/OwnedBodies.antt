@@ -6,10 +6,10 @@ use Rattle.events_frames.specs.Contexts.{Context}
 use Rattle.events_frames.specs.Descriptions.{event_description_of}
 use Rattle.events_frames.specs.EventParts.{Describes, DescribesNothing, describes}
 use Rattle.events_frames.specs.declared.event_error.EventError.{EventError}
-use Rattle.events_data.specs.BodyFormats.{body_format_of}
-use Rattle.events_data.specs.DataReadings.{IsRead, IsReadError}
-use Rattle.events_data.specs.declared.event_data.EventData.{EventData}
-use Rattle.events_data.specs.declared.event_data.EventData.TheVariants.{FormatDescriptionEvent}
+use Rattle.events_stream.specs.BodyFormats.{body_format_of}
+use Rattle.events_stream.specs.DataReadings.{IsRead, IsReadError}
+use Rattle.events_stream.specs.declared.event_data.EventData.{EventData}
+use Rattle.events_stream.specs.declared.event_data.EventData.TheVariants.{FormatDescriptionEvent}
 use Rattle.events_stream.specs.OwnedEvents.{OwnedEvent}
 
 -- the context for reading the event's body

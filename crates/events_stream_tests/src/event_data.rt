@@ -1,7 +1,8 @@
-//! The body of an event of any type: read by its type, made owned, and written again. The `Debug` text shows all fields.
+//! The body of an event of any type: read by its type, made owned, and written again, also if memory may run out.
 
-use events_data::EventData;
+use crate::memory::is_all_or_nothing;
 use events_frames::{BinlogCtx, EventError, FormatDescriptionEvent};
+use events_stream::EventData;
 use events_tests::samples::{
     BEGIN_LOAD, FULL, INCIDENT, INTVAR, LOAD, QUERY, RAND, ROTATE, UNSIGNED, UPDATE, XID,
 };
@@ -9,6 +10,10 @@ use events_tests::worked::{DESCRIPTION, INSERT, TABLE_MAP};
 use rows_consts::{BinlogVersion, EventType};
 use std::alloc::Global;
 use wire_buf::MySerialize;
+
+/// A statement with one status variable, in the schema `test`.
+const LONG_QUERY: &[u8] =
+    b"\0\0\0\0\0\0\0\0\x04\0\0\x05\0\0\0\0\0\0test\0insert into t values (1), (2), (3), (4)";
 
 /// The body of an event of the type, if the format description lists no post-header lengths.
 fn read<'a>(
@@ -31,49 +36,58 @@ fn is_written(alloc: Global, event: &EventData<'_>, bytes: &[u8]) -> bool {
     event.serialize(&mut out).is_ok() && out.as_slice() == bytes && event.len() == bytes.len()
 }
 
-/// The `Debug` text of the event, if it is written as the bytes.
-fn text_of(alloc: Global, event: EventData<'_>, bytes: &[u8]) -> Option<String> {
-    let text = if is_written(alloc, &event, bytes) {
-        format!(in alloc; "{event:?}").ok()
-    } else {
-        None
-    };
-    drop(event);
-    text
-}
-
-/// The same for the event with bytes of its own.
-fn owned_text(alloc: Global, event: EventData<'_>, bytes: &[u8]) -> Option<String> {
-    match event.into_owned(alloc) {
-        Ok(owned) => text_of(alloc, owned, bytes),
-        Err(_) => None,
-    }
-}
-
-/// The `Debug` text of the event of the type with these bytes, if it is written as them; with bytes of its own, if it should be.
-fn text(alloc: Global, event_type: EventType, is_owned: bool, body: &[u8]) -> Option<String> {
-    let in_force = FormatDescriptionEvent::new(BinlogVersion::Version4);
-    match read(alloc, &in_force, event_type, body) {
-        Ok(event) => {
-            if is_owned {
-                owned_text(alloc, event, body)
-            } else {
-                text_of(alloc, event, body)
-            }
+/// Whether the event is written as the bytes, and its `Debug` text begins so.
+fn is_shown(alloc: Global, event: &EventData<'_>, start: &str, bytes: &[u8]) -> bool {
+    is_written(alloc, event, bytes)
+        && match format!(in alloc; "{event:?}") {
+            Ok(text) => text.starts_with(start),
+            Err(_) => false,
         }
+}
+
+/// Whether the event is shown so, and equals the owned one, which is written as the same bytes, completely or not at all.
+fn is_same(
+    alloc: Global,
+    event: EventData<'_>,
+    owned: EventData<'_>,
+    start: &str,
+    bytes: &[u8],
+) -> bool {
+    let is_same = is_shown(alloc, &event, start, bytes)
+        && is_written(alloc, &owned, bytes)
+        && (bytes.is_empty() || is_all_or_nothing(alloc, &owned, bytes.len()))
+        && event == owned;
+    drop(event);
+    drop(owned);
+    is_same
+}
+
+/// The body of an event of the type, with bytes of its own.
+fn owned(
+    alloc: Global,
+    in_force: &FormatDescriptionEvent<'_>,
+    event_type: EventType,
+    body: &[u8],
+) -> Option<EventData<'static>> {
+    match read(alloc, in_force, event_type, body) {
+        Ok(event) => event.into_owned(alloc).ok(),
         Err(_) => None,
     }
 }
 
-/// Whether the body is read as an event whose `Debug` text begins so, and written as it was read; and whether the event has the
-/// same text when it is owned.
+/// Whether the body is read as an event whose `Debug` text begins so, and written as it was read; and whether the owned event
+/// equals it, and is written so too or, if memory runs out, not at all.
 fn is_kept(alloc: Global, event_type: EventType, start: &str, body: &[u8]) -> bool {
-    match (
-        text(alloc, event_type, false, body),
-        text(alloc, event_type, true, body),
-    ) {
-        (Some(text), Some(owned)) => text.starts_with(start) && text == owned,
-        _ => false,
+    let in_force = FormatDescriptionEvent::new(BinlogVersion::Version4);
+    let Some(owned) = owned(alloc, &in_force, event_type, body) else {
+        return false;
+    };
+    match read(alloc, &in_force, event_type, body) {
+        Ok(event) => is_same(alloc, event, owned, start, body),
+        Err(_) => {
+            drop(owned);
+            false
+        }
     }
 }
 
@@ -113,6 +127,42 @@ fn events_of_plain_types(alloc: Global) -> bool {
             EventType::ROWS_QUERY_EVENT,
             "RowsQueryEvent(RowsQueryEvent {",
             b"\0select 1",
+        )
+}
+
+/// A rotate event for a file whose name has 100 bytes.
+fn long_rotate(alloc: Global) -> bool {
+    let mut body = [b'n'; 108];
+    body[..8].copy_from_slice(&ROTATE[..8]);
+    is_kept(
+        alloc,
+        EventType::ROTATE_EVENT,
+        "RotateEvent(RotateEvent {",
+        &body,
+    )
+}
+
+/// A format description with two post-header lengths.
+fn longer_description(alloc: Global) -> bool {
+    let mut body = [56; 59];
+    body[..57].copy_from_slice(&DESCRIPTION[19..76]);
+    body[58] = 13;
+    is_kept(
+        alloc,
+        EventType::FORMAT_DESCRIPTION_EVENT,
+        "FormatDescriptionEvent(FormatDescriptionEvent {",
+        &body,
+    )
+}
+
+fn longer_events(alloc: Global) -> bool {
+    long_rotate(alloc)
+        && longer_description(alloc)
+        && is_kept(
+            alloc,
+            EventType::QUERY_EVENT,
+            "QueryEvent(QueryEvent {",
+            LONG_QUERY,
         )
 }
 
@@ -235,6 +285,7 @@ fn event_data(rt: HostRuntime) {
     let alloc = rt.alloc();
     assert!(rt; events_of_plain_types(alloc));
     assert!(rt; events_of_other_types(alloc));
+    assert!(rt; longer_events(alloc));
     assert!(rt; events_of_rows_types(alloc));
     assert!(rt; events_without_a_encoding(alloc));
     assert!(rt; events_failed_by_their_type(alloc));

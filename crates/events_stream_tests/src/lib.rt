@@ -1,4 +1,4 @@
-//! Tests of events of any type, files and streams: a file for each subject.
+//! Tests of rows events, bodies of any type, owned events, files and streams: a file for each subject.
 #![tactic(auto)]
 
 #[cfg(test)]
@@ -8,6 +8,12 @@ mod example;
 #[cfg(test)]
 mod files;
 #[cfg(test)]
+mod memory;
+#[cfg(test)]
 mod owned_events;
 #[cfg(test)]
 mod readers;
+#[cfg(test)]
+mod rows_by_type;
+#[cfg(test)]
+mod written_files;

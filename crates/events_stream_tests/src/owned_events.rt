@@ -2,10 +2,9 @@
 
 use crate::files::{added, file_with};
 use events_bodies::XidEvent;
-use events_data::EventData;
 use events_frames::{EventError, EventParts, FormatDescriptionEvent};
 use events_reader::EventStreamReader;
-use events_stream::{BinlogFile, Event, ReadEvents};
+use events_stream::{BinlogFile, Event, EventData, ReadEvents};
 use events_tests::worked::{BEGIN, COMMIT, DESCRIPTION, INSERT, TABLE_MAP, changed};
 use rows_consts::{BinlogChecksumAlg, BinlogVersion};
 use std::alloc::Global;
@@ -35,8 +34,7 @@ fn event_of(alloc: Global, bytes: &[u8]) -> Result<Event<'static>, EventError> {
 /// Whether the event is written as these bytes.
 fn is_one_written(alloc: Global, event: &Event<'_>, bytes: &[u8]) -> bool {
     let mut output = Vec::new(alloc);
-    let mut buffer = Vec::new(alloc);
-    let answer = event.write(BinlogVersion::Version4, &mut output, &mut buffer, &added);
+    let answer = event.write(alloc, BinlogVersion::Version4, &mut output, &added);
     answer.is_ok() && output.as_slice() == bytes
 }
 
@@ -246,9 +244,8 @@ fn bodies_by_type(alloc: Global) -> bool {
 
 /// The checksum of the event that the bytes begin with, for an algorithm.
 fn sum_of(alloc: Global, bytes: &[u8], alg: BinlogChecksumAlg) -> Option<u32> {
-    let mut buffer = Vec::new(alloc);
     match event_of(alloc, bytes) {
-        Ok(event) => event.calc_checksum(alg, &mut buffer, &added).ok(),
+        Ok(event) => event.calc_checksum(alloc, alg, &added).ok(),
         Err(_) => None,
     }
 }

@@ -20,7 +20,7 @@ fn description(alloc: Global, event: &[u8]) -> Result<FormatDescriptionEvent<'_>
 }
 
 /// A format description of server 5.6.1 with CRC-32 and these post-header lengths.
-pub(crate) fn created(lengths: &[u8]) -> FormatDescriptionEvent<'_> {
+fn created(lengths: &[u8]) -> FormatDescriptionEvent<'_> {
     let crc = BinlogEventFooter::new(BinlogChecksumAlg::BINLOG_CHECKSUM_ALG_CRC32);
     FormatDescriptionEvent::new(BinlogVersion::Version4)
         .with_server_version(CowSlice::Borrowed(b"5.6.1"))

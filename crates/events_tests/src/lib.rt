@@ -1,5 +1,6 @@
 //! Tests of frames, descriptions and the bodies of events: a file for each subject, and `devices` and `written` for what they
-//! share. Tests of owned events, files and streams are in `events_stream_tests`; both use the bytes in `samples` and `worked`.
+//! share. Tests of rows events, bodies of any type, owned events, files and streams are in `events_stream_tests`; both use the
+//! bytes in `samples` and `worked`.
 #![tactic(auto)]
 
 #[cfg(test)]
@@ -19,13 +20,9 @@ mod gtids;
 #[cfg(test)]
 mod headers;
 #[cfg(test)]
-mod memory;
-#[cfg(test)]
 mod parts;
 #[cfg(test)]
 mod queries;
-#[cfg(test)]
-mod rows_by_type;
 pub mod samples;
 #[cfg(test)]
 mod sources;

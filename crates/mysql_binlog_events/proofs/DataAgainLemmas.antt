@@ -7,7 +7,7 @@ use Rattle.events_frames.proofs.LawLemmas.{written_whole}
 use Rattle.events_bodies.proofs.BodyLemmas.{incident_whole}
 use Rattle.events_queries.proofs.QueryLemmas.{query_whole}
 use Rattle.events_queries.proofs.LoadQueryLemmas.{load_query_whole}
-use Rattle.events_data.specs.declared.event_data.EventData.TheVariants as read
+use Rattle.events_stream.specs.declared.event_data.EventData.TheVariants as read
 use Rattle.mysql_binlog_events.specs.ReadAgain.{IsReadAsEncoded}
 use Rattle.mysql_binlog_events.specs.DataAgain.{IsDataSameAgain}
 use Rattle.mysql_binlog_events.proofs.OneWayLemmas.{whole_body}

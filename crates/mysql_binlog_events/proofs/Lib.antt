@@ -5,5 +5,6 @@ mod GtidOneLemmas
 mod RowsOneLemmas
 mod StatementOneLemmas
 mod WrittenAgainLemmas
+mod FileAgainLemmas
 mod DataAgainLemmas
 mod NewestLemmas

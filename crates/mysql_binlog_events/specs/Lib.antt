@@ -7,9 +7,9 @@ pub use Rattle.events_bodies.specs.BodyViews
 pub use Rattle.events_bodies.specs.BodySizes
 pub use Rattle.events_bodies.specs.UserVars
 pub use Rattle.events_bodies.specs.UserVarViews
-pub use Rattle.events_data.specs.BodyFormats
-pub use Rattle.events_data.specs.DataReadings
-pub use Rattle.events_data.specs.DataEncodings
+pub use Rattle.events_stream.specs.BodyFormats
+pub use Rattle.events_stream.specs.DataReadings
+pub use Rattle.events_stream.specs.DataEncodings
 pub use Rattle.events_frames.specs.EventErrors
 pub use Rattle.events_frames.specs.Bodies as FrameBodies
 pub use Rattle.events_frames.specs.FileHeaders

@@ -15,7 +15,7 @@ ghost use Rattle.std.specs.Fn.{FnReturnsAt};
 ghost use Rattle.mysql_binlog_events.specs.DataAgain.{IsDataSameAgain};
 ghost use Rattle.events_reader.specs.Readings.{ReaderState, Change, first_reading};
 ghost use Rattle.mysql_binlog_events.specs.Newest.{AcceptsAll, newest_described, newest_table_map};
-ghost use Rattle.mysql_binlog_events.specs.WrittenAgain.{IsWrittenBack, IsReadWithSum};
+ghost use Rattle.mysql_binlog_events.specs.WrittenAgain.{IsWrittenBack, IsReadWithSum, IsFileWrittenBack};
 ghost use Rattle.mysql_binlog_events.specs.ReadAgain.{IsReadAsEncoded, IsReadAgain, IsSameAgain, IsDescriptionReadAgain, IsDescriptionSameAgain, IsRowsReadAgain, IsRowsSameAgain, NothingFollows, AnythingFollows};
 
 pub use events_bodies::laws::{
@@ -45,7 +45,8 @@ pub use events_rows::laws::{
     images_are_those_of_the_kind, types_are_read_back, worked_contexts,
 };
 pub use events_stream::laws::{
-    files_end_once, files_give_few_items, whole_events_fail_only_as_too_short,
+    equal_bodies_say_the_same, files_end_once, files_give_few_items,
+    whole_events_fail_only_as_too_short,
 };
 
 /// Bytes that begin with the encoding of a body are read as this body.
@@ -107,6 +108,12 @@ pub fn events_are_written_back<F: Fn(&[u8]) -> u32>()
 /// function's result for it.
 pub fn written_events_are_read_again<F: Fn(&[u8]) -> u32>()
     ensures { (checksum : F) → IsReadWithSum (FnReturnsAt F.Fn checksum) }
+{}
+
+/// The events of a file, each written, are the bytes of the file after its magic number, as far as events were returned; if the
+/// checksum of each, where it has one, is the function's result for it.
+pub fn files_are_written_back<F: Fn(&[u8]) -> u32>()
+    ensures { (checksum : F) → IsFileWrittenBack (FnReturnsAt F.Fn checksum) }
 {}
 
 /// The body of an event of any type that was read, written and read again is the same, with the post-header lengths that servers

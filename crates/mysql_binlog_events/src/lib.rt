@@ -3,8 +3,9 @@
 //!
 //! Each part is a crate, which is re-exported completely: `events_frames` has frames, headers, footers, format descriptions and
 //! event errors, `events_bodies` the bodies with a fixed layout, `events_queries` the bodies with statements and their status
-//! variables, `events_gtids` those with GTIDs, `events_rows` rows events by type, `events_data` bodies of any type,
-//! `events_reader` the reader of a log, and `events_stream` owned events, files and the writer. The parts use those of `mysql_binlog_rows` and `mysql_wire`.
+//! variables, `events_gtids` those with GTIDs, `events_rows` rows events by type, `events_reader` the reader of a log, and
+//! `events_stream` bodies of any type, owned events, files and the writer. The parts use those of `mysql_binlog_rows` and
+//! `mysql_wire`.
 #![tactic(auto)]
 
 pub mod laws;
@@ -13,7 +14,6 @@ pub use events_bodies::{
     BeginLoadQueryEvent, IncidentEvent, IntvarEvent, RandEvent, RotateEvent, RowsQueryEvent,
     UserVarEvent, XidEvent,
 };
-pub use events_data::{BodyFormat, EventData};
 pub use events_frames::{
     BinlogCtx, BinlogEvent, BinlogEventFooter, BinlogEventHeader, BinlogFileHeader, BinlogStruct,
     EventError, EventParts, EventSource, FormatDescriptionEvent, NextFrame, calc_checksum, gather,
@@ -30,4 +30,4 @@ pub use events_rows::{
     RowsKind, UpdateRows, UpdateRowsEvent, UpdateRowsEventV1, UpdateRowsV1, WriteRows,
     WriteRowsEvent, WriteRowsEventV1, WriteRowsV1,
 };
-pub use events_stream::{BinlogFile, Event, ReadEvents, write_event};
+pub use events_stream::{BinlogFile, BodyFormat, Event, EventData, ReadEvents, write_event};

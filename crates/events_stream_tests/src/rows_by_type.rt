@@ -1,9 +1,14 @@
 //! Rows events by type.
 
-use crate::samples::UPDATE;
-use crate::worked::{INSERT, TABLE_MAP, changed};
-use events_frames::{BinlogCtx, BinlogStruct, EventError, FormatDescriptionEvent, read_struct};
-use events_rows::{RowsEventData, WriteRowsEvent};
+use events_frames::{
+    BinlogCtx, BinlogEvent, BinlogStruct, EventError, FormatDescriptionEvent, read_struct,
+};
+use events_rows::{
+    DeleteRowsEvent, DeleteRowsEventV1, PartialUpdateRowsEvent, RowsEventData, UpdateRowsEvent,
+    UpdateRowsEventV1, WriteRowsEvent, WriteRowsEventV1,
+};
+use events_tests::samples::UPDATE;
+use events_tests::worked::{INSERT, TABLE_MAP, changed};
 use rows_consts::{BinlogVersion, EventType};
 use rows_events::{RowsEventRows, RowsEventType};
 use rows_images::BinlogRow;
@@ -233,6 +238,21 @@ fn the_inserted_row(alloc: Global) -> bool {
     reads_mapped_row(alloc, &in_force)
 }
 
+/// The type of the events with such a body.
+fn type_of<'a, T: BinlogEvent<'a>>() -> EventType {
+    T::EVENT_TYPE
+}
+
+fn types_of_rows_events() -> bool {
+    type_of::<WriteRowsEvent<'_>>() == EventType::WRITE_ROWS_EVENT
+        && type_of::<UpdateRowsEvent<'_>>() == EventType::UPDATE_ROWS_EVENT
+        && type_of::<DeleteRowsEvent<'_>>() == EventType::DELETE_ROWS_EVENT
+        && type_of::<WriteRowsEventV1<'_>>() == EventType::WRITE_ROWS_EVENT_V1
+        && type_of::<UpdateRowsEventV1<'_>>() == EventType::UPDATE_ROWS_EVENT_V1
+        && type_of::<DeleteRowsEventV1<'_>>() == EventType::DELETE_ROWS_EVENT_V1
+        && type_of::<PartialUpdateRowsEvent<'_>>() == EventType::PARTIAL_UPDATE_ROWS_EVENT
+}
+
 #[test]
 fn rows_by_type(rt: HostRuntime) {
     let alloc = rt.alloc();
@@ -240,4 +260,5 @@ fn rows_by_type(rt: HostRuntime) {
     assert!(rt; updates_and_partial_updates(alloc));
     assert!(rt; types_and_errors(alloc));
     assert!(rt; the_inserted_row(alloc));
+    assert!(rt; types_of_rows_events());
 }

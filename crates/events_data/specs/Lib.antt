@@ -1,3 +1,0 @@
-pub mod BodyFormats
-pub mod DataReadings
-pub mod DataEncodings
