@@ -4,6 +4,7 @@ use Rattle.std.specs.List.{flat_map}
 use Rattle.feed_writers.specs.Quoting.{quoted}
 use Rattle.feed_rows.specs.Rows.{Change, Insert, Update, Delete}
 
+-- the word of a change
 abbrev pub change_word : Change → List ℕ
 change_word Insert = codes "insert "
 change_word Update = codes "update "
