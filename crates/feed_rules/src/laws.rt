@@ -4,9 +4,9 @@ ghost use Rattle.std.specs.Prelude.{◌≡◌, ◌≤◌, ◌+◌, ℕ, List, �
 ghost use Rattle.rows_meta.specs.TableMaps.{IsTableMap};
 ghost use Rattle.rows_meta.specs.MapViews.{map_of};
 ghost use Rattle.rows_meta.specs.declared.table_map.TableMapEvent.{TableMapEvent};
-ghost use Rattle.rows_images.specs.ImageShapes.{table_plan};
-ghost use Rattle.rows_images.specs.PlanViews.{IsPlanOf};
-ghost use Rattle.rows_images.specs.declared.plan.ColumnPlan.{ColumnPlan};
+ghost use Rattle.rows_events.specs.ImageShapes.{table_plan};
+ghost use Rattle.rows_events.specs.PlanViews.{IsPlanOf};
+ghost use Rattle.rows_events.specs.declared.plan.ColumnPlan.{ColumnPlan};
 ghost use Rattle.rows_events.specs.RowsEvents.{IsRowsEvent};
 ghost use Rattle.rows_events.specs.declared.rows_event_ctx.RowsEventCtx.{RowsEventCtx};
 ghost use Rattle.events_bodies.specs.Bodies.{IsRotate, IsXid};

@@ -65,16 +65,16 @@ pub use Rattle.rows_meta.specs.ColumnMetadata
 pub use Rattle.rows_meta.specs.ColumnViews
 pub use Rattle.rows_meta.specs.Lengths
 pub use Rattle.rows_meta.specs.MapViews
-pub use Rattle.rows_images.specs.Plans
-pub use Rattle.rows_images.specs.PlanViews
-pub use Rattle.rows_images.specs.Walks
-pub use Rattle.rows_images.specs.PickedColumns
-pub use Rattle.rows_images.specs.ImageShapes
-pub use Rattle.rows_images.specs.ImageColumnIndexes
-pub use Rattle.rows_images.specs.OwnedRows
-pub use Rattle.rows_images.specs.PlainRows
-pub use Rattle.rows_images.specs.RowImages
-pub use Rattle.rows_images.specs.RowFields
+pub use Rattle.rows_events.specs.Plans
+pub use Rattle.rows_events.specs.PlanViews
+pub use Rattle.rows_events.specs.Walks
+pub use Rattle.rows_events.specs.PickedColumns
+pub use Rattle.rows_events.specs.ImageShapes
+pub use Rattle.rows_events.specs.ImageColumnIndexes
+pub use Rattle.rows_events.specs.OwnedRows
+pub use Rattle.rows_events.specs.PlainRows
+pub use Rattle.rows_events.specs.RowImages
+pub use Rattle.rows_events.specs.RowFields
 pub use Rattle.rows_events.specs.RowsEventTypes
 pub use Rattle.rows_events.specs.Fields as RowsEventFields
 pub use Rattle.rows_events.specs.FieldViews as RowsEventFieldViews

@@ -2,8 +2,8 @@
 
 ghost use Rattle.std.specs.Prelude.{◌≡◌};
 ghost use Rattle.rows_events.specs.RowPairs.{planned_table, mapped_table};
-ghost use Rattle.rows_images.specs.PlanViews.{IsPlanOf};
-ghost use Rattle.rows_images.specs.declared.plan.ColumnPlan.{ColumnPlan};
+ghost use Rattle.rows_events.specs.PlanViews.{IsPlanOf};
+ghost use Rattle.rows_events.specs.declared.plan.ColumnPlan.{ColumnPlan};
 ghost use Rattle.rows_meta.specs.declared.table_map.TableMapEvent.{TableMapEvent};
 
 pub use rows_cells::laws::{

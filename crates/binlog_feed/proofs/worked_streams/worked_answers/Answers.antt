@@ -13,7 +13,7 @@ use Rattle.rows_optional.specs.Served.{charset_after}
 use Rattle.rows_cells.specs.Cells.{cell_at}
 use Rattle.rows_cells.specs.Images.{cells_at, lenenc_at, image_at}
 use Rattle.rows_cells.specs.EventRows.{images_at, row_at}
-use Rattle.rows_images.specs.Plans.{keys_after, column_at, first_columns}
+use Rattle.rows_events.specs.Plans.{keys_after, column_at, first_columns}
 use Rattle.hex.specs.Hex.{encode_with}
 use Rattle.feed_writers.specs.Quoting.{quoted}
 use Rattle.feed_text.specs.CellText.{text_of}
