@@ -23,8 +23,10 @@ pub use rows_jsonb::laws::{
     diffs_are_read, lists_of_diffs_are_read, worked_budget, worked_depth, worked_objects,
     worked_pointer,
 };
-pub use rows_meta::laws::{equal_maps_have_equal_contents, maps_are_written_completely};
-pub use rows_optional::laws::{entries_are_read, equal_fields_are_the_same, lists_are_read};
+pub use rows_meta::laws::{
+    entries_are_read, equal_fields_are_the_same, equal_maps_have_equal_contents, lists_are_read,
+    maps_are_written_completely,
+};
 pub use rows_times::laws::{packed_fields_are_read_back, times_by_cases, worked_time};
 pub use rows_values::laws::{
     equal_bits_are_the_same, equal_columns_and_times_are_the_same, equal_rows_are_the_same,

@@ -8,9 +8,9 @@ use Rattle.std.specs.Iterator.{YieldsFirstBy}
 use Rattle.std.specs.declared.result.Result.{Result}
 use Rattle.rows_times.specs.declared.fault.RowsError.{RowsError}
 use Rattle.rows_times.specs.Readings.{Reading, map_reading}
-use Rattle.rows_optional.specs.MetadataViews.{name_view, remaining_names}
-use Rattle.rows_optional.specs.declared.names.ColumnName.{ColumnName}
-use Rattle.rows_optional.specs.declared.names.IterNames.{IterNames}
+use Rattle.rows_meta.specs.MetadataViews.{name_view, remaining_names}
+use Rattle.rows_meta.specs.declared.names.ColumnName.{ColumnName}
+use Rattle.rows_meta.specs.declared.names.IterNames.{IterNames}
 use Rattle.rows_events.specs.declared.column.PlannedColumn.{PlannedColumn as CodeColumn}
 use Rattle.rows_events.specs.Plans.{PlannedColumn, name_or_index}
 use Rattle.rows_events.specs.PlanViews.{column_view, own_name, columns_from, name_or_empty}

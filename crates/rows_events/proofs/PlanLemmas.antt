@@ -10,10 +10,10 @@ use Rattle.wire_forms.specs.RawTexts.{raw_string}
 use Rattle.rows_meta.specs.ColumnMetadata.{ColumnMeta}
 use Rattle.rows_meta.specs.ColumnViews.{table_map_columns}
 use Rattle.rows_meta.specs.declared.table_map.TableMapEvent.{TableMapEvent}
-use Rattle.rows_optional.specs.Lists.{strings}
-use Rattle.rows_optional.specs.MetadataFields.{fields}
-use Rattle.rows_optional.specs.Extracted.{Extracted, extracted}
-use Rattle.rows_optional.specs.Served.{bytes_or_none}
+use Rattle.rows_meta.specs.Lists.{strings}
+use Rattle.rows_meta.specs.MetadataFields.{fields}
+use Rattle.rows_meta.specs.Extracted.{Extracted, extracted}
+use Rattle.rows_meta.specs.Served.{bytes_or_none}
 use Rattle.rows_events.specs.declared.column.PlannedColumn.{PlannedColumn as CodeColumn}
 use Rattle.rows_events.specs.Plans.{Table, table_columns_of, PlannedColumn, column_at, first_columns}
 use Rattle.rows_events.specs.PlanViews.{column_view, columns_from, own_name, plan_of}

@@ -14,7 +14,7 @@ use Rattle.rows_cells.specs.declared.format.CellFormat.{CellFormat}
 use Rattle.rows_meta.specs.ColumnMetadata.{ColumnMeta}
 use Rattle.rows_meta.specs.declared.bad_column_type.BadColumnType.{BadColumnType}
 use Rattle.rows_meta.specs.ColumnViews.{real_type_of}
-use Rattle.rows_optional.specs.Served.{first_item}
+use Rattle.rows_meta.specs.Served.{first_item}
 use Rattle.rows_events.specs.Plans.{Table, column_real_type, is_json, count_before, sign_or_signed, sign_at, charset_or_none, charset_at, name_at, key_at, column_at}
 use Rattle.rows_events.specs.PlanViews.{name_or_empty}
 use Rattle.rows_events.specs.Walks.{SkipsName}

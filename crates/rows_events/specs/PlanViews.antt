@@ -8,9 +8,9 @@ use Rattle.rows_times.specs.Readings.{Reading, ◌>>=◌}
 use Rattle.rows_meta.specs.ColumnViews.{table_map_columns}
 use Rattle.rows_meta.specs.MapViews.{map_of}
 use Rattle.rows_meta.specs.declared.table_map.TableMapEvent.{TableMapEvent}
-use Rattle.rows_optional.specs.Lists.{strings}
-use Rattle.rows_optional.specs.MetadataFields.{fields}
-use Rattle.rows_optional.specs.Extracted.{extracted}
+use Rattle.rows_meta.specs.Lists.{strings}
+use Rattle.rows_meta.specs.MetadataFields.{fields}
+use Rattle.rows_meta.specs.Extracted.{extracted}
 use Rattle.rows_events.specs.declared.column.PlannedColumn.{PlannedColumn as CodeColumn}
 use Rattle.rows_events.specs.declared.plan.ColumnPlan.{ColumnPlan}
 use Rattle.rows_events.specs.declared.run.ColumnRun.{ColumnRun}

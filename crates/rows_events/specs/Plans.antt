@@ -13,9 +13,9 @@ use Rattle.rows_cells.specs.declared.image.ImageColumn.{ImageColumn}
 use Rattle.rows_meta.specs.ColumnMetadata.{ColumnMeta}
 use Rattle.rows_meta.specs.ColumnViews.{real_type_of}
 use Rattle.rows_meta.specs.declared.bad_column_type.BadColumnType.{BadColumnType}
-use Rattle.rows_optional.specs.Lists.{strings}
-use Rattle.rows_optional.specs.Extracted.{Extracted}
-use Rattle.rows_optional.specs.Served.{bytes_or_none, signs_or_none, charset_item, key_indexes, first_item}
+use Rattle.rows_meta.specs.Lists.{strings}
+use Rattle.rows_meta.specs.Extracted.{Extracted}
+use Rattle.rows_meta.specs.Served.{bytes_or_none, signs_or_none, charset_item, key_indexes, first_item}
 
 -- a column of a plan: its real type, its index and the format of its cells, and its properties from the optional metadata
 pub record PlannedColumn : Type 0 where

@@ -6,7 +6,7 @@ use Rattle.std.specs.declared.result.Result.TheVariants.{Ok, Err}
 use Rattle.wire_consts.specs.ColumnTypes.{is_numeric, is_character, is_enum_or_set}
 use Rattle.rows_times.specs.declared.fault.RowsError.{RowsError}
 use Rattle.rows_meta.specs.ColumnViews.{remaining_columns}
-use Rattle.rows_optional.specs.MetadataViews.{signs_left, remaining_names, primary_key_left, IteratesCharsets}
+use Rattle.rows_meta.specs.MetadataViews.{signs_left, remaining_names, primary_key_left, IteratesCharsets}
 use Rattle.rows_events.specs.declared.column.PlannedColumn.{PlannedColumn as CodeColumn}
 use Rattle.rows_events.specs.declared.walk.ColumnWalk.{ColumnWalk}
 use Rattle.rows_events.specs.Plans.{Table, count_before, is_json, keys_after, column_at, first_columns}

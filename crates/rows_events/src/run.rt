@@ -2,14 +2,13 @@
 
 ghost use Rattle.std.specs.Prelude.{◌≡◌, ℕ, [], IfOk, Ok, Err, false, is_ok};
 ghost use Rattle.rows_times.specs.Readings.{map_reading};
-ghost use Rattle.rows_optional.specs.Lists.{strings};
+ghost use Rattle.rows_meta.specs.Lists.{strings};
 ghost use Rattle.rows_events.specs.Plans.{Table};
 ghost use Rattle.rows_events.specs.Walks.{IsWalkAt, AreColumns};
 
 use crate::column::PlannedColumn;
 use crate::walk::ColumnWalk;
-use rows_meta::TableMapEvent;
-use rows_optional::{ColumnNames, IterNames, OptionalMetaExtractor};
+use rows_meta::{ColumnNames, IterNames, OptionalMetaExtractor, TableMapEvent};
 use rows_times::RowsError;
 use std::alloc::{AllocError, Global};
 
@@ -27,7 +26,7 @@ pub(crate) struct ColumnRun {
 
 impl ColumnRun {
     ghost use Rattle.rows_events.specs.PlanViews.{plan_of, planned, columns_shown, is_within_reach};
-    ghost use Rattle.rows_optional.specs.MetadataViews.{remaining_names};
+    ghost use Rattle.rows_meta.specs.MetadataViews.{remaining_names};
 
     /// Creates the run of a table. Returns `AllocError` if out of memory, and for a table of 2^32 or more columns, which no event
     /// can have.

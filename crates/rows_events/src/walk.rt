@@ -3,16 +3,15 @@
 ghost use Rattle.std.specs.Prelude.{◌≡◌, ◌≤◌, ◌+◌, ℕ, drop, suc, if◌then◌else◌, false, Ok, IfOk, ◌<◌, length};
 ghost use Rattle.wire_consts.specs.ColumnTypes.{is_numeric, is_character, is_enum_or_set};
 ghost use Rattle.rows_meta.specs.ColumnViews.{remaining_columns};
-ghost use Rattle.rows_optional.specs.Served.{first_item};
-ghost use Rattle.rows_optional.specs.MetadataViews.{extracted_view, signs_left, charset_left, remaining_names, primary_key_left};
+ghost use Rattle.rows_meta.specs.Served.{first_item};
+ghost use Rattle.rows_meta.specs.MetadataViews.{extracted_view, signs_left, charset_left, remaining_names, primary_key_left};
 ghost use Rattle.rows_events.specs.Plans.{Table, table_columns_of, is_json, sign_or_signed, charset_or_none, is_next, after_column};
 ghost use Rattle.rows_events.specs.Walks.{IsWalkAt, WalksColumn, SkipsName};
 
 use crate::column::PlannedColumn;
 use rows_cells::{CellFormat, ImageColumn};
-use rows_meta::IterColumns;
-use rows_optional::{
-    IterCharset, IterNames, IterPrimaryKey, IterSignedness, OptionalMetaExtractor,
+use rows_meta::{
+    IterCharset, IterColumns, IterNames, IterPrimaryKey, IterSignedness, OptionalMetaExtractor,
 };
 use rows_times::RowsError;
 use wire_consts::ColumnType;

@@ -1,6 +1,6 @@
 use Rattle.std.proofs.Common.{rules}
 use Rattle.rows_values.specs.BitLists.{bit_at}
-use Rattle.rows_optional.specs.Lists.{strings}
+use Rattle.rows_meta.specs.Lists.{strings}
 use Rattle.rows_events.specs.PickedColumns.{definition}
 use Rattle.rows_events.proofs.PickedLemmas.{next_named, next_defined}
 use Rattle.rows_events.proofs.plan.ColumnPlan.definitions.Goals as goal

@@ -1,7 +1,7 @@
 use Rattle.std.proofs.Common.{ap, ◌∙◌}
 use Rattle.rows_meta.specs.ColumnViews.{remaining_columns}
-use Rattle.rows_optional.specs.Extracted.{extracted}
-use Rattle.rows_optional.specs.MetadataViews.{extracted_view}
+use Rattle.rows_meta.specs.Extracted.{extracted}
+use Rattle.rows_meta.specs.MetadataViews.{extracted_view}
 use Rattle.rows_events.specs.Plans.{table_columns_of}
 use Rattle.rows_events.proofs.PlanLemmas.{plan_made}
 use Rattle.rows_events.proofs.run.ColumnRun.new.Goals as goal

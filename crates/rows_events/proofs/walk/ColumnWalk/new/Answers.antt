@@ -1,6 +1,6 @@
 use Rattle.std.proofs.Common.{◌≡◌, ℕ, ◌+◌, refl, ap, ◌∙◌, arith}
-use Rattle.rows_optional.specs.Served.{charset_item}
-use Rattle.rows_optional.specs.MetadataViews.{extracted_view}
+use Rattle.rows_meta.specs.Served.{charset_item}
+use Rattle.rows_meta.specs.MetadataViews.{extracted_view}
 use Rattle.rows_events.specs.Plans.{keys_after}
 use Rattle.rows_events.proofs.walk.ColumnWalk.new.Goals as goal
 

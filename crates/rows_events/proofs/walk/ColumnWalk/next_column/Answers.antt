@@ -1,7 +1,7 @@
 use Rattle.std.proofs.Common.{ℕ, ◌+◌, drop, sym, ap, ◌∙◌}
 use Rattle.wire_consts.specs.ColumnTypes.{is_numeric, is_character, is_enum_or_set}
-use Rattle.rows_optional.specs.MetadataViews.{signs_left, charset_left, remaining_names}
-use Rattle.rows_optional.specs.Served.{first_item}
+use Rattle.rows_meta.specs.MetadataViews.{signs_left, charset_left, remaining_names}
+use Rattle.rows_meta.specs.Served.{first_item}
 use Rattle.rows_meta.specs.ColumnViews.{column_meta_view, remaining_columns}
 use Rattle.rows_events.specs.Plans.{is_next, is_json, keys_after, after_column, name_at, count_before}
 use Rattle.rows_events.specs.PlanViews.{name_or_empty}
