@@ -3,7 +3,7 @@ pub use Rattle.rows_consts.specs.StatusVarKeys
 pub use Rattle.rows_consts.specs.MetadataTypes
 pub use Rattle.rows_consts.specs.Constants
 pub use Rattle.rows_consts.specs.Conversions
-pub use Rattle.rows_flags.specs.FlagTables
+pub use Rattle.rows_consts.specs.FlagTables
 pub use Rattle.rows_times.specs.Faults
 pub use Rattle.rows_packed_times.specs.PackedTimes
 pub use Rattle.rows_times.specs.Readings

@@ -1,6 +1,6 @@
 ghost use Rattle.std.specs.Prelude.{⊤, ◌≡◌};
 ghost use Rattle.wire_consts.specs.Numbering.{IsFlagsOf};
-ghost use Rattle.rows_flags.specs.FlagTables.{rows_event_flags};
+ghost use Rattle.rows_consts.specs.FlagTables.{rows_event_flags};
 
 use bitflags::{Flag, Flags, bitflag_items};
 use thiserror::Error;

@@ -1,6 +1,6 @@
 ghost use Rattle.std.specs.Prelude.{⊤, ◌≡◌};
 ghost use Rattle.wire_consts.specs.Numbering.{IsFlagsOf};
-ghost use Rattle.rows_flags.specs.FlagTables.{user_var_flags};
+ghost use Rattle.rows_consts.specs.FlagTables.{user_var_flags};
 
 use bitflags::{Flag, Flags, bitflag_items};
 use thiserror::Error;
