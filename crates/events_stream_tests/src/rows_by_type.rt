@@ -10,8 +10,7 @@ use events_rows::{
 use events_tests::samples::UPDATE;
 use events_tests::worked::{INSERT, TABLE_MAP, changed};
 use rows_consts::{BinlogVersion, EventType};
-use rows_events::{RowsEventRows, RowsEventType};
-use rows_images::BinlogRow;
+use rows_events::{BinlogRow, RowsEventRows, RowsEventType};
 use rows_meta::TableMapEvent;
 use std::alloc::Global;
 use wire_buf::MySerialize;

@@ -2,8 +2,7 @@
 
 use crate::devices::{NarrowWriter, Trickle};
 use events_frames::{BinlogEventHeader, BinlogFileHeader, EventError};
-use rows_consts::{EventType, UnknownEventType};
-use rows_flags::EventFlags;
+use rows_consts::{EventFlags, EventType, UnknownEventType};
 use std::alloc::Global;
 use std::io::ErrorKind;
 use wire_buf::{MySerialize, ParseBuf, WireFault};

@@ -4,7 +4,7 @@ use Rattle.std.specs.Prelude.{◌==◌}
 use Rattle.std.proofs.lemmas.Bool.{ne_eqb}
 use Rattle.rows_meta.specs.TableMaps.{TableMap}
 use Rattle.rows_meta.specs.MapViews.{map_of}
-use Rattle.rows_images.specs.ImageShapes.{table_plan}
+use Rattle.rows_events.specs.ImageShapes.{table_plan}
 use Rattle.rows_events.specs.EventColumnViews.{shapes_of}
 use Rattle.feed_rows.specs.declared.tables.Table.{Table}
 use Rattle.feed_rows.specs.declared.tables.Tables.{Tables}
@@ -19,7 +19,7 @@ use Rattle.std.proofs.Math.Seq.{take-append_seam, drop-append_seam}
 use Rattle.byteorder.specs.Endian.{little_number}
 use Rattle.byteorder.specs.Numbers.{little_from-append}
 use Rattle.rows_cells.specs.Images.{ImageShape}
-use Rattle.rows_images.specs.ImageShapes.{TablePlan}
+use Rattle.rows_events.specs.ImageShapes.{TablePlan}
 use Rattle.rows_meta.specs.TableMaps.{plain_bytes, id_width}
 use Rattle.rows_events.specs.EventShapes.{event_shapes}
 use Rattle.rows_events.specs.Fields.{IsMaybe, IsExtra}

@@ -17,7 +17,7 @@ use Rattle.rows_jsonb.proofs.ItemLemmas.{walk_on, walk_done}
 use Rattle.rows_times.specs.declared.fault.RowsError.{RowsError}
 use Rattle.rows_times.specs.declared.fault.RowsError.TheVariants as fault
 use Rattle.std.specs.Bool.{⊤}
-use Rattle.rows_images.specs.ImageShapes.{TablePlan}
+use Rattle.rows_events.specs.ImageShapes.{TablePlan}
 use Rattle.rows_events.specs.EventShapes.{event_shapes, row_read}
 use Rattle.rows_events.specs.RowsEvents.{RowsBody}
 use Rattle.feed_text.specs.CellText.{cell_text}

@@ -2,7 +2,7 @@
 use Rattle.std.specs.Prelude.{◌≡◌, ℕ, List, ◌++◌, length, Option, Some, Ok, option_map}
 use Rattle.byteorder.specs.Endian.{little_number}
 use Rattle.rows_cells.specs.Images.{ImageShape}
-use Rattle.rows_images.specs.ImageShapes.{TablePlan}
+use Rattle.rows_events.specs.ImageShapes.{TablePlan}
 use Rattle.rows_events.specs.EventShapes.{event_shapes}
 use Rattle.rows_events.specs.RowsEvents.{RowsBody, written_ctx}
 use Rattle.rows_events.specs.RowsEventTypes.{images_of}

@@ -8,7 +8,7 @@ use Rattle.rows_jsonb.specs.JsonParsing.{IsNone}
 use Rattle.rows_times.specs.Readings.{Reading, ◌>>=◌}
 use Rattle.rows_times.specs.declared.fault.RowsError.{RowsError}
 use Rattle.rows_times.specs.declared.fault.RowsError.TheVariants as fault
-use Rattle.rows_images.specs.ImageShapes.{TablePlan}
+use Rattle.rows_events.specs.ImageShapes.{TablePlan}
 use Rattle.rows_events.specs.RowsEvents.{RowsBody}
 use Rattle.feed_text.specs.ImageText.{cells_text}
 use Rattle.feed_kinds.specs.declared.verdict.Verdict.{Verdict}

@@ -5,11 +5,11 @@ use Rattle.rows_jsonb.specs.Items.{Walked}
 use Rattle.rows_times.specs.Readings.{Reading, ◌>>=◌}
 use Rattle.rows_meta.specs.ColumnMetadata.{columns_with_metadata}
 use Rattle.rows_meta.specs.TableMaps.{TableMap}
-use Rattle.rows_optional.specs.Extracted.{extracted}
-use Rattle.rows_optional.specs.MetadataFields.{fields}
-use Rattle.rows_images.specs.ImageShapes.{TablePlan}
-use Rattle.rows_images.specs.Plans.{table_columns_of, first_columns}
-use Rattle.rows_images.specs.PlanViews.{json_count}
+use Rattle.rows_meta.specs.Extracted.{extracted}
+use Rattle.rows_meta.specs.MetadataFields.{fields}
+use Rattle.rows_events.specs.ImageShapes.{TablePlan}
+use Rattle.rows_events.specs.Plans.{table_columns_of, first_columns}
+use Rattle.rows_events.specs.PlanViews.{json_count}
 use Rattle.rows_events.specs.EventShapes.{event_rows}
 use Rattle.rows_events.specs.RowsEvents.{RowsBody}
 use Rattle.rows_events.specs.RowsEventTypes.{images_of}

@@ -5,13 +5,12 @@ ghost use Rattle.rows_events.specs.EventColumnViews.{shapes_of};
 ghost use Rattle.rows_events.specs.RowsEvents.{written_ctx};
 ghost use Rattle.rows_events.specs.Views.{body_of};
 ghost use Rattle.rows_events.specs.declared.rows_event_type.RowsEventType.{RowsEventType};
-ghost use Rattle.rows_images.specs.ImageShapes.{table_plan};
+ghost use Rattle.rows_events.specs.ImageShapes.{table_plan};
 ghost use Rattle.feed_kinds.specs.Bodies.{rows_event_in};
 ghost use Rattle.feed_rows.specs.KnownImages.{KnowsImages};
 
 use crate::row_texts::change_word;
-use rows_events::{EventColumns, RowsEvent, RowsEventType};
-use rows_images::ColumnPlan;
+use rows_events::{ColumnPlan, EventColumns, RowsEvent, RowsEventType};
 use std::alloc::Global;
 
 /// The length of a rows event's table id and flags in bytes, with the usual post-header length.

@@ -6,14 +6,13 @@ ghost use Rattle.rows_cells.specs.RowViews.{row_shape};
 ghost use Rattle.feed_text.specs.Buffers.{text_in};
 ghost use Rattle.feed_rows.specs.RowLines.{row_verdict, IsRowError, image_text_at, images_texts_at, row_texts_at, rows_texts_at, PutsImage, PutsImages, PutsRow, PutsLines, PutsRows, IsRowsError, IsAppendedSoFar};
 ghost use Rattle.feed_rows.specs.Rows.{event_texts};
-ghost use Rattle.rows_images.specs.ImageShapes.{table_plan};
+ghost use Rattle.rows_events.specs.ImageShapes.{table_plan};
 ghost use Rattle.rows_events.specs.Views.{body_of};
 
 use feed_kinds::Verdict;
 use feed_text::TextBuffer;
 use rows_cells::{ImageCells, ImagePlan, RowPlan};
-use rows_events::{EventColumns, RowsEvent};
-use rows_images::ColumnPlan;
+use rows_events::{ColumnPlan, EventColumns, RowsEvent};
 use rows_times::RowsError;
 use std::alloc::{Allocator, Global};
 

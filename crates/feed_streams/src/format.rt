@@ -6,7 +6,7 @@ ghost use Rattle.feed_streams.specs.Streams.{Plain, SemiSync, holds_event, event
 
 use bitflags::Flags;
 use byteorder::{ByteOrder, LittleEndian};
-use rows_flags::SemiSyncFlags;
+use rows_consts::SemiSyncFlags;
 
 /// The length of an event's header in bytes.
 const HEADER_LEN: usize = 19;

@@ -2,8 +2,8 @@
 
 ghost use Rattle.std.specs.Prelude.{◌≡◌};
 ghost use Rattle.rows_events.specs.RowPairs.{planned_table, mapped_table};
-ghost use Rattle.rows_images.specs.PlanViews.{IsPlanOf};
-ghost use Rattle.rows_images.specs.declared.plan.ColumnPlan.{ColumnPlan};
+ghost use Rattle.rows_events.specs.PlanViews.{IsPlanOf};
+ghost use Rattle.rows_events.specs.declared.plan.ColumnPlan.{ColumnPlan};
 ghost use Rattle.rows_meta.specs.declared.table_map.TableMapEvent.{TableMapEvent};
 
 pub use rows_cells::laws::{
@@ -23,8 +23,10 @@ pub use rows_jsonb::laws::{
     diffs_are_read, lists_of_diffs_are_read, worked_budget, worked_depth, worked_objects,
     worked_pointer,
 };
-pub use rows_meta::laws::{equal_maps_have_equal_contents, maps_are_written_completely};
-pub use rows_optional::laws::{entries_are_read, equal_fields_are_the_same, lists_are_read};
+pub use rows_meta::laws::{
+    entries_are_read, equal_fields_are_the_same, equal_maps_have_equal_contents, lists_are_read,
+    maps_are_written_completely,
+};
 pub use rows_times::laws::{packed_fields_are_read_back, times_by_cases, worked_time};
 pub use rows_values::laws::{
     equal_bits_are_the_same, equal_columns_and_times_are_the_same, equal_rows_are_the_same,

@@ -3,7 +3,7 @@
 use crate::words::{
     Fault, bytes_of, done, put_bits, put_error, put_item, put_name, put_number, put_text,
 };
-use rows_optional::{
+use rows_meta::{
     ColumnCharsets, ColumnName, ColumnNames, ColumnsStrValues, DefaultCharset, GeometryTypes,
     IterCharset, IterNames, IterPrimaryKey, IterSignedness, OptionalMetaExtractor,
     OptionalMetadataField as Field, OptionalMetadataIter, PrimaryKeysWithPrefix, SimplePrimaryKey,

@@ -6,8 +6,7 @@ use crate::words::{
     small_len_of,
 };
 use feed_text::quote;
-use rows_events::RowsEvent;
-use rows_images::ColumnPlan;
+use rows_events::{ColumnPlan, RowsEvent};
 use rows_meta::TableMapEvent;
 use rows_times::RowsError;
 use rows_values::Column;

@@ -3,8 +3,7 @@
 use crate::rows::put_rows;
 use crate::table_maps::{put_definitions, put_each_column, put_reach};
 use crate::words::{Fault, bytes_of};
-use rows_events::{RowsEvent, RowsEventCtx, RowsEventType};
-use rows_images::ColumnPlan;
+use rows_events::{ColumnPlan, RowsEvent, RowsEventCtx, RowsEventType};
 use rows_meta::TableMapEvent;
 use rows_times::RowsError;
 use std::alloc::{AllocError, Global};

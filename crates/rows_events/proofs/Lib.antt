@@ -1,3 +1,9 @@
+pub mod WalkLemmas
+pub mod PlanLemmas
+pub mod PickedLemmas
+pub mod RowFieldLemmas
+pub mod HeldLemmas
+pub mod ReadLemmas
 pub mod FieldLemmas
 pub mod RowsEventLemmas
 pub mod WritingLemmas

@@ -12,9 +12,9 @@ use Rattle.rows_times.specs.Readings.{Reading, ◌>>=◌}
 use Rattle.rows_cells.specs.Images.{ColumnValue, ImageShape}
 use Rattle.rows_cells.specs.declared.image.ImageColumn.{ImageColumn}
 use Rattle.rows_cells.specs.EventRows.{images_at, row_at}
-use Rattle.rows_images.specs.RowImages.{IsReadRow, IsRowOf, image_read}
-use Rattle.rows_images.specs.declared.binlog_row.BinlogRow.{BinlogRow}
-use Rattle.rows_images.specs.declared.row_image.RowImage.{RowImage}
+use Rattle.rows_events.specs.RowImages.{IsReadRow, IsRowOf, image_read}
+use Rattle.rows_events.specs.declared.binlog_row.BinlogRow.{BinlogRow}
+use Rattle.rows_events.specs.declared.row_image.RowImage.{RowImage}
 use Rattle.rows_events.specs.EventImages.{shapes_read, ReadsImage, ReadsBoth, ReadsEventImages, HoldsPair, ReadsImages, ReadsPair}
 use Rattle.rows_events.specs.EventRowSteps.{IsBeforeRows, IsNextRead}
 use Rattle.rows_events.specs.EventShapes.{shapes_by, row_read}

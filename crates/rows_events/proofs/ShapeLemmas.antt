@@ -7,15 +7,15 @@ use Rattle.rows_values.specs.declared.bits.Bits.{Bits}
 use Rattle.rows_times.specs.Readings.{Reading, ◌>>=◌}
 use Rattle.rows_cells.specs.Images.{ImageShape}
 use Rattle.rows_cells.specs.declared.image.ImageColumn.{ImageColumn}
-use Rattle.rows_images.specs.Plans.{PlannedColumn}
-use Rattle.rows_images.specs.PickedColumns.{is_picked, picked_as, bit_is_set, image_column, definition}
+use Rattle.rows_events.specs.Plans.{PlannedColumn}
+use Rattle.rows_events.specs.PickedColumns.{is_picked, picked_as, bit_is_set, image_column, definition}
 use Rattle.std.specs.Rc.{rc_slice_items}
 use Rattle.rows_values.specs.Columns.{parts_of}
-use Rattle.rows_images.specs.PlanViews.{planned}
-use Rattle.rows_images.specs.ImageShapes.{TablePlan, table_plan, shape_picked}
-use Rattle.rows_images.specs.declared.plan.ColumnPlan.{ColumnPlan}
-use Rattle.rows_images.specs.RowImages.{image_read}
-use Rattle.rows_images.specs.declared.row_image.RowImage.{RowImage}
+use Rattle.rows_events.specs.PlanViews.{planned}
+use Rattle.rows_events.specs.ImageShapes.{TablePlan, table_plan, shape_picked}
+use Rattle.rows_events.specs.declared.plan.ColumnPlan.{ColumnPlan}
+use Rattle.rows_events.specs.RowImages.{image_read}
+use Rattle.rows_events.specs.declared.row_image.RowImage.{RowImage}
 use Rattle.rows_events.specs.RowPairs.{planned_table}
 use Rattle.rows_events.specs.EventImages.{ReadsImage}
 use Rattle.rows_events.specs.FieldViews.{ShowsBits}

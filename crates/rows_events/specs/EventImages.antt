@@ -5,10 +5,10 @@ use Rattle.std.specs.declared.result.Result.TheVariants.{Ok}
 use Rattle.rows_values.specs.Columns.{parts_of}
 use Rattle.rows_cells.specs.Images.{ColumnValue, ImageShape}
 use Rattle.rows_cells.specs.EventRows.{images_at, row_at}
-use Rattle.rows_images.specs.PickedColumns.{definition, picked_as}
-use Rattle.rows_images.specs.RowImages.{image_read, IsRowOf}
-use Rattle.rows_images.specs.declared.binlog_row.BinlogRow.{BinlogRow}
-use Rattle.rows_images.specs.declared.row_image.RowImage.{RowImage}
+use Rattle.rows_events.specs.PickedColumns.{definition, picked_as}
+use Rattle.rows_events.specs.RowImages.{image_read, IsRowOf}
+use Rattle.rows_events.specs.declared.binlog_row.BinlogRow.{BinlogRow}
+use Rattle.rows_events.specs.declared.row_image.RowImage.{RowImage}
 use Rattle.rows_events.specs.EventShapes.{column_bit, shape_by}
 use Rattle.rows_events.specs.RowPairs.{TableView}
 use Rattle.rows_events.specs.RowsEventTypes.{images_of, has_partial_after}

@@ -8,7 +8,7 @@ use Rattle.rows_times.specs.declared.fault.RowsError.TheVariants.{Memory}
 use Rattle.rows_cells.specs.Images.{ColumnValue}
 use Rattle.rows_cells.specs.RowViews.{row_shape}
 use Rattle.rows_cells.specs.declared.rows.RowPlan.{RowPlan}
-use Rattle.rows_images.specs.declared.binlog_row.BinlogRow.{BinlogRow}
+use Rattle.rows_events.specs.declared.binlog_row.BinlogRow.{BinlogRow}
 use Rattle.rows_events.specs.EventShapes.{event_shapes, row_read}
 use Rattle.rows_events.specs.EventImages.{ReadsEventImages}
 use Rattle.rows_events.specs.RowPairs.{TableView, mapped_table, planned_table, IsPair}

@@ -7,7 +7,7 @@ use Rattle.rows_times.specs.Readings.{Reading, ◌>>=◌}
 use Rattle.rows_jsonb.specs.Items.{Walked, items_at}
 use Rattle.rows_cells.specs.Images.{ColumnValue, ImageShape}
 use Rattle.rows_cells.specs.EventRows.{row_at}
-use Rattle.rows_images.specs.ImageShapes.{TablePlan, shape_picked}
+use Rattle.rows_events.specs.ImageShapes.{TablePlan, shape_picked}
 use Rattle.rows_events.specs.RowsEventTypes.{images_of, has_partial_after}
 use Rattle.rows_events.specs.RowsEvents.{RowsBody}
 

@@ -1,3 +1,13 @@
+pub mod Plans
+pub mod PlanViews
+pub mod Walks
+pub mod PickedColumns
+pub mod ImageShapes
+pub mod ImageColumnIndexes
+pub mod OwnedRows
+pub mod PlainRows
+pub mod RowImages
+pub mod RowFields
 pub mod RowsEventTypes
 pub mod Fields
 pub mod FieldViews

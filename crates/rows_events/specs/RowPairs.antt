@@ -8,12 +8,12 @@ use Rattle.rows_cells.specs.Images.{ColumnValue}
 use Rattle.rows_cells.specs.declared.image.ImageColumn.{ImageColumn}
 use Rattle.rows_meta.specs.MapViews.{map_of}
 use Rattle.rows_meta.specs.declared.table_map.TableMapEvent.{TableMapEvent}
-use Rattle.rows_images.specs.PickedColumns.{image_column, definition, picked_as}
-use Rattle.rows_images.specs.ImageShapes.{TablePlan, table_plan, map_plan}
-use Rattle.rows_images.specs.declared.plan.ColumnPlan.{ColumnPlan}
-use Rattle.rows_images.specs.OwnedRows.{row_values, row_columns, image_of}
-use Rattle.rows_images.specs.RowImages.{IsHeld}
-use Rattle.rows_images.specs.declared.binlog_row.BinlogRow.{BinlogRow}
+use Rattle.rows_events.specs.PickedColumns.{image_column, definition, picked_as}
+use Rattle.rows_events.specs.ImageShapes.{TablePlan, table_plan, map_plan}
+use Rattle.rows_events.specs.declared.plan.ColumnPlan.{ColumnPlan}
+use Rattle.rows_events.specs.OwnedRows.{row_values, row_columns, image_of}
+use Rattle.rows_events.specs.RowImages.{IsHeld}
+use Rattle.rows_events.specs.declared.binlog_row.BinlogRow.{BinlogRow}
 use Rattle.rows_events.specs.EventShapes.{column_bit}
 use Rattle.rows_events.specs.RowsEvents.{RowsBody}
 

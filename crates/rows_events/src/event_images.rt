@@ -3,14 +3,14 @@
 ghost use Rattle.std.specs.Prelude.{◌≡◌, ◌⊎◌, ◌<◌, length, IfOk, IfErr, Err};
 ghost use Rattle.rows_times.specs.declared.fault.RowsError.TheVariants.{Memory};
 ghost use Rattle.rows_cells.specs.EventRows.{images_at, row_at};
-ghost use Rattle.rows_images.specs.ImageShapes.{table_plan};
+ghost use Rattle.rows_events.specs.ImageShapes.{table_plan};
 ghost use Rattle.rows_events.specs.EventShapes.{event_shapes};
 ghost use Rattle.rows_events.specs.EventImages.{shapes_read, ReadsEventImages, ReadsImages, ReadsPair};
 ghost use Rattle.rows_events.specs.RowPairs.{planned_table};
 ghost use Rattle.rows_events.specs.Views.{body_of};
 
 use crate::rows_event::RowsEvent;
-use rows_images::{BinlogRow, ColumnPlan, RowImage};
+use crate::{BinlogRow, ColumnPlan, RowImage};
 use rows_times::RowsError;
 use std::alloc::Global;
 

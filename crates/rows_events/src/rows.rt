@@ -9,11 +9,11 @@ ghost use Rattle.rows_events.specs.EventRowSteps.{source_table, IsBeforeRows, Ta
 ghost use Rattle.rows_events.specs.RowPairs.{mapped_table, planned_table};
 ghost use Rattle.rows_events.specs.Views.{body_of};
 
+use crate::ColumnPlan;
 use crate::event_columns::EventColumns;
 use crate::event_images::{EventImages, RowPair};
 use crate::rows_event::RowsEvent;
 use rows_cells::RowPlan;
-use rows_images::ColumnPlan;
 use rows_meta::TableMapEvent;
 use rows_times::RowsError;
 use std::alloc::Global;

@@ -1,3 +1,13 @@
+pub mod Entries
+pub mod EntryErrors
+pub mod Lists
+pub mod FieldEncodings
+pub mod KnownConstants
+pub mod MetadataFields
+pub mod Members
+pub mod Extracted
+pub mod Served
+pub mod MetadataViews
 pub mod TableMaps
 pub mod ColumnTypes
 pub mod ColumnMetadata

@@ -1,12 +1,12 @@
 //! The optional metadata of a table map.
 
 ghost use Rattle.std.specs.Prelude.{◌≡◌};
-ghost use Rattle.rows_optional.specs.MetadataFields.{fields};
-ghost use Rattle.rows_optional.specs.MetadataViews.{fields_left};
+ghost use Rattle.rows_meta.specs.MetadataFields.{fields};
+ghost use Rattle.rows_meta.specs.MetadataViews.{fields_left};
 ghost use Rattle.rows_meta.specs.MapViews.{map_of};
 
+use crate::OptionalMetadataIter;
 use crate::table_map::TableMapEvent;
-use rows_optional::OptionalMetadataIter;
 
 impl TableMapEvent<'_> {
     /// Iterates over the fields of the optional metadata, in order. A field with an unknown type or an invalid value is an error,

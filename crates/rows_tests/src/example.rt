@@ -2,8 +2,7 @@
 
 use feed_text::put_cell_ref;
 use rows_cells::RowPart;
-use rows_events::{EventColumns, RowsEvent, RowsEventCtx, RowsEventType};
-use rows_images::ColumnPlan;
+use rows_events::{ColumnPlan, EventColumns, RowsEvent, RowsEventCtx, RowsEventType};
 use rows_meta::TableMapEvent;
 use rows_times::RowsError;
 use std::alloc::Global;

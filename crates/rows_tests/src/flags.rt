@@ -2,7 +2,7 @@
 
 use crate::devices::is_text;
 use bitflags::Flags;
-use rows_flags::{
+use rows_consts::{
     EventFlags, GtidFlags, RowsEventFlags, SemiSyncFlags, UnknownEventFlags, UnknownGtidFlags,
     UserVarFlags,
 };

@@ -40,8 +40,8 @@ fn laws_of_documents_and_metadata() {
     rows_jsonb::laws::worked_pointer();
     rows_jsonb::laws::worked_budget();
     rows_jsonb::laws::worked_depth();
-    rows_optional::laws::entries_are_read();
-    rows_optional::laws::lists_are_read();
+    rows_meta::laws::entries_are_read();
+    rows_meta::laws::lists_are_read();
 }
 
 fn laws_of_texts() {

@@ -1,7 +1,7 @@
 //! Members without memory, and equal fields of the optional metadata.
 
 use linked_list_allocator::LocalHeap;
-use rows_optional::{OptionalMetadataField, OptionalMetadataIter, SetStrValues};
+use rows_meta::{OptionalMetadataField, OptionalMetadataIter, SetStrValues};
 use rows_times::RowsError;
 use std::alloc::Global;
 use wire_buf::{MyDeserialize, MySerialize, ParseBuf, WireFault};

@@ -1,8 +1,10 @@
 //! Images by the plan of a table's columns, and a table with a thousand columns.
 
 use rows_cells::{BinlogValue, CellRef, ImageColumn, RowPart, RowsCursor};
-use rows_events::{EventColumns, RowsEvent, RowsEventCtx, RowsEventType};
-use rows_images::{BinlogRow, BinlogRowCtx, ColumnPlan, ImageColumns, RowImage};
+use rows_events::{
+    BinlogRow, BinlogRowCtx, ColumnPlan, EventColumns, ImageColumns, RowImage, RowsEvent,
+    RowsEventCtx, RowsEventType,
+};
 use rows_meta::TableMapEvent;
 use rows_times::RowsError;
 use rows_values::{Bits, Column, Value};

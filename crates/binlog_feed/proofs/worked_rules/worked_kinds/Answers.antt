@@ -4,14 +4,14 @@ use Rattle.wire_buf.specs.LenencSplit.{split_number, split_lenenc}
 use Rattle.wire_packets.specs.Version.{number_at, after_point, numbers_at}
 use Rattle.rows_meta.specs.ColumnMetadata.{column_type, columns_with_metadata}
 use Rattle.rows_jsonb.specs.Items.{walk}
-use Rattle.rows_optional.specs.Lists.{items_in, items_of}
-use Rattle.rows_optional.specs.Members.{strings_in}
-use Rattle.rows_optional.specs.MetadataFields.{bits_from, is_numeric_number}
-use Rattle.rows_optional.specs.Served.{charset_after}
+use Rattle.rows_meta.specs.Lists.{items_in, items_of}
+use Rattle.rows_meta.specs.Members.{strings_in}
+use Rattle.rows_meta.specs.MetadataFields.{bits_from, is_numeric_number}
+use Rattle.rows_meta.specs.Served.{charset_after}
 use Rattle.rows_cells.specs.Cells.{cell_at}
 use Rattle.rows_cells.specs.Images.{cells_at, lenenc_at, image_at}
 use Rattle.rows_cells.specs.EventRows.{images_at, row_at}
-use Rattle.rows_images.specs.Plans.{keys_after, column_at, first_columns}
+use Rattle.rows_events.specs.Plans.{keys_after, column_at, first_columns}
 use Rattle.hex.specs.Hex.{encode_with}
 use Rattle.feed_writers.specs.Quoting.{quoted}
 use Rattle.feed_text.specs.CellText.{text_of}

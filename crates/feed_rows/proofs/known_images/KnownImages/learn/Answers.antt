@@ -2,7 +2,7 @@ use Rattle.std.proofs.Common.{◌≡◌, ◌-◌, ◌++◌, ℕ, List, length, t
 use Rattle.rows_events.specs.EventColumnViews.{shapes_of}
 use Rattle.rows_events.specs.Views.{body_of}
 use Rattle.rows_events.specs.declared.rows_event_type.RowsEventType.{RowsEventType}
-use Rattle.rows_images.specs.ImageShapes.{table_plan}
+use Rattle.rows_events.specs.ImageShapes.{table_plan}
 use Rattle.rows_events.specs.RowsEventTypes.{images_of}
 use Rattle.rows_events.specs.declared.rows_event_type.RowImages.{RowImages}
 use Rattle.feed_rows.specs.Rows.{change_by}

@@ -1,7 +1,7 @@
 use Rattle.std.proofs.Common.{false, refl, Ok, ap, ◌∙◌}
 use Rattle.rows_events.specs.RowsEventTypes.{images_of, has_partial_after}
 use Rattle.rows_events.specs.Views.{body_of}
-use Rattle.rows_images.specs.ImageShapes.{table_plan, shape_of}
+use Rattle.rows_events.specs.ImageShapes.{table_plan, shape_of}
 use Rattle.rows_events.proofs.ShapeLemmas.{shown_bits, no_bits, picked_shape, ok_still, one_image, after_image, two_images}
 use Rattle.rows_events.proofs.event_columns.EventColumns.fill.Goals as goal
 
