@@ -1,7 +1,12 @@
 -- What `==` means for bodies of any type.
-use Rattle.std.proofs.Common.{◌≡◌, Bool, true, false, true≢false, sym, rules}
+use Rattle.std.proofs.Common.{true≢false, sym, rules}
 use Rattle.std.specs.Bool.{Decides}
-use Rattle.rows_consts.specs.declared.event_type.EventType.{EventType}
+use Rattle.std.proofs.lemmas.Bool.Decides.{Decides-like, Decides-and}
+use denote.Enum.Bare.{same_true, true_same}
+use lib.Pointwise.{bytes_decides}
+use Rattle.wire_forms.specs.RawTexts.{raw_string}
+use Rattle.rows_consts.specs.contracts.event_type.EventType.{the_type as event_type}
+use Rattle.rows_meta.proofs.EqualityLemmas.{true_decides}
 use Rattle.rows_meta.proofs.MapLawLemmas.{maps_decide}
 use Rattle.events_frames.proofs.LawLemmas.{descriptions_decide}
 use Rattle.events_bodies.proofs.UserVarEquality.{variables_decide}
@@ -31,5 +36,7 @@ bodies_decide (read.RowsQueryEvent a) (read.RowsQueryEvent b) = search rules
 bodies_decide (read.GtidEvent a) (read.GtidEvent b) = gtids_decide a b
 bodies_decide (read.AnonymousGtidEvent a) (read.AnonymousGtidEvent b) = gtids_decide a.0 b.0
 bodies_decide (read.RowsEvent a) (read.RowsEvent b) = data_decide a b
-bodies_decide (read.Raw t a) (read.Raw u b) = search rules
+bodies_decide (read.Raw t a) (read.Raw u b) =
+    Decides-and _ _ (same_true event_type (search rules) t u, true_same event_type t u)
+    (Decides-like _ (λ w. w.0) (λ e. (e, tt)) (Decides-and _ _ (bytes_decides (raw_string a) (raw_string b)) true_decides))
 bodies_decide a b = (λ e. absurd (true≢false (sym e)), λ h. absurd h)

@@ -1,4 +1,4 @@
-//! Rows events by type.
+//! Rows events by type, and bodies that are read in the context of their event.
 
 use events_frames::{
     BinlogCtx, BinlogEvent, BinlogStruct, EventError, FormatDescriptionEvent, read_struct,
@@ -8,7 +8,7 @@ use events_rows::{
     UpdateRowsEventV1, WriteRowsEvent, WriteRowsEventV1,
 };
 use events_tests::samples::UPDATE;
-use events_tests::worked::{INSERT, TABLE_MAP, changed};
+use events_tests::worked::{DESCRIPTION, INSERT, TABLE_MAP, changed};
 use rows_consts::{BinlogVersion, EventType};
 use rows_events::{BinlogRow, RowsEventRows, RowsEventType};
 use rows_meta::TableMapEvent;
@@ -242,14 +242,45 @@ fn type_of<'a, T: BinlogEvent<'a>>() -> EventType {
     T::EVENT_TYPE
 }
 
-fn types_of_rows_events() -> bool {
-    type_of::<WriteRowsEvent<'_>>() == EventType::WRITE_ROWS_EVENT
+fn types_of_events() -> bool {
+    type_of::<TableMapEvent<'_>>() == EventType::TABLE_MAP_EVENT
+        && type_of::<WriteRowsEvent<'_>>() == EventType::WRITE_ROWS_EVENT
         && type_of::<UpdateRowsEvent<'_>>() == EventType::UPDATE_ROWS_EVENT
         && type_of::<DeleteRowsEvent<'_>>() == EventType::DELETE_ROWS_EVENT
         && type_of::<WriteRowsEventV1<'_>>() == EventType::WRITE_ROWS_EVENT_V1
         && type_of::<UpdateRowsEventV1<'_>>() == EventType::UPDATE_ROWS_EVENT_V1
         && type_of::<DeleteRowsEventV1<'_>>() == EventType::DELETE_ROWS_EVENT_V1
         && type_of::<PartialUpdateRowsEvent<'_>>() == EventType::PARTIAL_UPDATE_ROWS_EVENT
+}
+
+/// Whether the body, in the context of its event, is a table map with this table id.
+fn is_map(alloc: Global, ctx: BinlogCtx<'_>, body: &[u8], id: u64) -> bool {
+    let len = ctx.post_header_len(EventType::TABLE_MAP_EVENT);
+    match read_body::<TableMapEvent<'_>>(alloc, len, body) {
+        Ok(map) => map.table_id() == id && map.table_name_raw() == b"t".as_slice(),
+        Err(_) => false,
+    }
+}
+
+/// Whether the body, in the context of its event, is a format description of this size.
+fn is_description(alloc: Global, ctx: BinlogCtx<'_>, body: &[u8], len: usize) -> bool {
+    let ctx = <FormatDescriptionEvent<'_> as BinlogStruct<'_>>::context(ctx);
+    match read_body::<FormatDescriptionEvent<'_>>(alloc, ctx, body) {
+        Ok(read) => BinlogStruct::len(&read, BinlogVersion::Version4) == len,
+        Err(_) => false,
+    }
+}
+
+fn bodies_by_their_context(alloc: Global) -> bool {
+    let in_force = FormatDescriptionEvent::new(BinlogVersion::Version4);
+    let ctx = BinlogCtx::new(18, &in_force, 19);
+    ctx.event_size() == 18
+        && ctx.event_type_raw() == 19
+        && *ctx.fde() == in_force
+        && is_map(alloc, ctx, &TABLE_MAP[19..], 7)
+        && is_description(alloc, ctx, &DESCRIPTION[19..76], 57)
+        && <FormatDescriptionEvent<'_> as BinlogEvent<'_>>::EVENT_TYPE
+            == EventType::FORMAT_DESCRIPTION_EVENT
 }
 
 #[test]
@@ -259,5 +290,6 @@ fn rows_by_type(rt: HostRuntime) {
     assert!(rt; updates_and_partial_updates(alloc));
     assert!(rt; types_and_errors(alloc));
     assert!(rt; the_inserted_row(alloc));
-    assert!(rt; types_of_rows_events());
+    assert!(rt; types_of_events());
+    assert!(rt; bodies_by_their_context(alloc));
 }

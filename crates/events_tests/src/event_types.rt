@@ -1,4 +1,5 @@
-//! The event types whose bodies have a struct; those of rows events are in `events_stream_tests`.
+//! The event types whose bodies have a struct; those of table maps and rows events are in
+//! `events_stream_tests`.
 
 use events_bodies::{
     BeginLoadQueryEvent, IncidentEvent, IntvarEvent, RandEvent, RotateEvent, RowsQueryEvent,
@@ -6,7 +7,6 @@ use events_bodies::{
 };
 use events_frames::BinlogEvent;
 use rows_consts::EventType;
-use rows_meta::TableMapEvent;
 
 /// The type of the events with such a body.
 fn type_of<'a, T: BinlogEvent<'a>>() -> EventType {
@@ -22,7 +22,6 @@ fn types_of_plain_bodies() -> bool {
         && type_of::<IncidentEvent<'_>>() == EventType::INCIDENT_EVENT
         && type_of::<RowsQueryEvent<'_>>() == EventType::ROWS_QUERY_EVENT
         && type_of::<UserVarEvent<'_>>() == EventType::USER_VAR_EVENT
-        && type_of::<TableMapEvent<'_>>() == EventType::TABLE_MAP_EVENT
 }
 
 #[test]

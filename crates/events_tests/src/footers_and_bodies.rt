@@ -1,13 +1,9 @@
-//! The checksum settings of a log, and bodies that are read in the context of their event.
+//! The checksum settings of a log, and bodies that can't be read.
 
-use crate::worked::{DESCRIPTION, TABLE_MAP};
+use crate::worked::DESCRIPTION;
 use crate::written::read_error;
-use events_frames::{
-    BinlogCtx, BinlogEvent, BinlogEventFooter, BinlogEventHeader, BinlogStruct, EventError,
-    FormatDescriptionEvent, read_body,
-};
-use rows_consts::{BinlogChecksumAlg, BinlogVersion, EventType, UnknownChecksumAlg};
-use rows_meta::TableMapEvent;
+use events_frames::{BinlogEventFooter, BinlogEventHeader, EventError, FormatDescriptionEvent};
+use rows_consts::{BinlogChecksumAlg, UnknownChecksumAlg};
 use std::alloc::{AllocError, Global};
 use wire_buf::WireFault;
 
@@ -54,36 +50,6 @@ fn footers() -> bool {
         && are_made()
 }
 
-/// Whether the body, in the context of its event, is a table map with this table id.
-fn is_map(alloc: Global, ctx: BinlogCtx<'_>, body: &[u8], id: u64) -> bool {
-    let len = ctx.post_header_len(EventType::TABLE_MAP_EVENT);
-    match read_body::<TableMapEvent<'_>>(alloc, len, body) {
-        Ok(map) => map.table_id() == id && map.table_name_raw() == b"t".as_slice(),
-        Err(_) => false,
-    }
-}
-
-/// Whether the body, in the context of its event, is a format description of this size.
-fn is_description(alloc: Global, ctx: BinlogCtx<'_>, body: &[u8], len: usize) -> bool {
-    let ctx = <FormatDescriptionEvent<'_> as BinlogStruct<'_>>::context(ctx);
-    match read_body::<FormatDescriptionEvent<'_>>(alloc, ctx, body) {
-        Ok(read) => BinlogStruct::len(&read, BinlogVersion::Version4) == len,
-        Err(_) => false,
-    }
-}
-
-fn bodies_by_their_context(alloc: Global) -> bool {
-    let in_force = FormatDescriptionEvent::new(BinlogVersion::Version4);
-    let ctx = BinlogCtx::new(18, &in_force, 19);
-    ctx.event_size() == 18
-        && ctx.event_type_raw() == 19
-        && *ctx.fde() == in_force
-        && is_map(alloc, ctx, &TABLE_MAP[19..], 7)
-        && is_description(alloc, ctx, &DESCRIPTION[19..76], 57)
-        && <FormatDescriptionEvent<'_> as BinlogEvent<'_>>::EVENT_TYPE
-            == EventType::FORMAT_DESCRIPTION_EVENT
-}
-
 fn bodies_failed(alloc: Global) -> bool {
     read_error::<BinlogEventHeader>(alloc, &[0; 19]).is_none()
         && read_error::<BinlogEventHeader>(alloc, &[0; 18]) == Some(EventError::EndOfBody)
@@ -98,6 +64,5 @@ fn bodies_failed(alloc: Global) -> bool {
 fn footers_and_bodies(rt: HostRuntime) {
     let alloc = rt.alloc();
     assert!(rt; footers());
-    assert!(rt; bodies_by_their_context(alloc));
     assert!(rt; bodies_failed(alloc));
 }
