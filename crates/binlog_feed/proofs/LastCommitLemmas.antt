@@ -11,10 +11,10 @@ use Rattle.feed_rules.specs.Laws.{Each}
 use Rattle.feed_rules.specs.Rules.{rules, good, shown}
 use Rattle.feed_rules.specs.Transactions.{Transaction}
 use Rattle.feed_reports.specs.Reports.{file_events, file_transactions}
-use Rattle.feed_streams.specs.Words.{prefix_while}
-use Rattle.feed_streams.specs.declared.format.PayloadFormat.{PayloadFormat as Format}
-use Rattle.feed_streams.specs.declared.format.PayloadFormat.TheVariants.{Plain, SemiSync}
-use Rattle.feed_streams.specs.Streams.{holds_event, event_in, event_payloads, stream_events, stream_transactions}
+use Rattle.feed_payloads.specs.Words.{prefix_while}
+use Rattle.feed_payloads.specs.declared.format.PayloadFormat.{PayloadFormat as Format}
+use Rattle.feed_payloads.specs.declared.format.PayloadFormat.TheVariants.{Plain, SemiSync}
+use Rattle.feed_payloads.specs.Streams.{holds_event, event_in, event_payloads, stream_events, stream_transactions}
 use Rattle.feed_runs.specs.declared.step.Step.{Step}
 use Rattle.feed_runs.specs.Headline.{IsFollowable}
 use Rattle.feed_runs.specs.Runs.{run}

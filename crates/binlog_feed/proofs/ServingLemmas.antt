@@ -20,10 +20,10 @@ use Rattle.feed_rules.specs.Transactions.{Transaction}
 use Rattle.feed_reports.specs.Events.{AreEvents, EventsEnd, NoBytes, BadFrame, PartOfEvent, magic_number, has_magic_number}
 use Rattle.feed_reports.specs.Reports.{Report, file_events, file_end, end_verdict, verdict_or, file_transactions, file_verdict}
 use Rattle.feed_reports.proofs.EventLemmas.{events-law}
-use Rattle.feed_streams.specs.Words.{prefix_while, from_first_failing}
-use Rattle.feed_streams.specs.declared.format.PayloadFormat.{PayloadFormat as Format}
-use Rattle.feed_streams.specs.declared.format.PayloadFormat.TheVariants.{Plain, SemiSync}
-use Rattle.feed_streams.specs.Streams.{holds_event, event_in, payload_of, event_payloads, events_of, verdict_of_other, stream_events, stream_transactions, stream_verdict}
+use Rattle.feed_payloads.specs.Words.{prefix_while, from_first_failing}
+use Rattle.feed_payloads.specs.declared.format.PayloadFormat.{PayloadFormat as Format}
+use Rattle.feed_payloads.specs.declared.format.PayloadFormat.TheVariants.{Plain, SemiSync}
+use Rattle.feed_payloads.specs.Streams.{holds_event, event_in, payload_of, event_payloads, events_of, verdict_of_other, stream_events, stream_transactions, stream_verdict}
 use Rattle.feed_streams.proofs.StreamLemmas.{payload-holds, event-back}
 use Rattle.feed_serving.specs.declared.served.Served.TheVariants.{Fault}
 use Rattle.feed_serving.specs.Serving.{Answer, broken_end, closing_payload, closed_by, outcome_of, fits, fitting_payloads, sent_events, damage_from, answer, answer_bytes}

@@ -21,12 +21,12 @@ pub use Rattle.feed_reports.specs.Writing
 pub use Rattle.feed_reports.specs.MagicNumbers
 pub use Rattle.feed_reports.specs.Reports
 pub mod WorkedReports
-pub use Rattle.feed_streams.specs.Words as StreamWords
-pub use Rattle.feed_streams.specs.Streams
+pub use Rattle.feed_payloads.specs.Words as StreamWords
+pub use Rattle.feed_payloads.specs.Streams
 pub use Rattle.feed_streams.specs.Acknowledgements
 pub use Rattle.feed_streams.specs.ResumePositions
-pub use Rattle.feed_streams.specs.Requests
-pub use Rattle.feed_streams.specs.RequestErrors
+pub use Rattle.feed_payloads.specs.Requests
+pub use Rattle.feed_payloads.specs.RequestErrors
 pub use Rattle.feed_streams.specs.Following
 pub mod WorkedStreams
 pub use Rattle.feed_serving.specs.Requests as ServedRequests

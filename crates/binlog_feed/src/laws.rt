@@ -20,13 +20,13 @@ ghost use Rattle.feed_rules.specs.Laws.{IsOpen, IsBetween, IsCompleteAtEvent, Ea
 ghost use Rattle.feed_reports.specs.Events.{events};
 ghost use Rattle.feed_reports.specs.Reports.{Report, file_events, file_transactions};
 ghost use Rattle.feed_kinds.specs.declared.verdict.Verdict.{Verdict};
-ghost use Rattle.feed_streams.specs.Requests.{dump_request};
-ghost use Rattle.feed_streams.specs.declared.format.PayloadFormat.{PayloadFormat as Format};
+ghost use Rattle.feed_payloads.specs.Requests.{dump_request};
+ghost use Rattle.feed_payloads.specs.declared.format.PayloadFormat.{PayloadFormat as Format};
 ghost use Rattle.feed_serving.specs.Positions.{past_at, is_between_transactions};
 ghost use Rattle.feed_serving.specs.Serving.{answer, served};
 ghost use Rattle.feed_serving.specs.Laws.{ServesTheFile, StopsAtDamage, IsOfTheFile};
 ghost use Rattle.wire_buf.specs.Encoding.{AreBytes};
-ghost use Rattle.feed_streams.specs.Streams.{stream_transactions};
+ghost use Rattle.feed_payloads.specs.Streams.{stream_transactions};
 ghost use Rattle.feed_runs.specs.declared.step.Step.{Step};
 ghost use Rattle.feed_runs.specs.Headline.{IsFollowable};
 ghost use Rattle.feed_runs.specs.Laws.{GivesTheRest};

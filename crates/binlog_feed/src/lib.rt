@@ -17,9 +17,10 @@ mod worked_streams;
 
 pub use feed_kept::{Keeper, kept};
 pub use feed_kinds::{Verdict, name_of, status};
+pub use feed_payloads::{RequestError, request};
 pub use feed_reports::report;
 pub use feed_runs::{Step, rehearse, rehearse_growing, rehearse_semi};
 pub use feed_serving::{Refusal, Served, serve, serve_semi};
-pub use feed_streams::{Follower, RequestError, request};
+pub use feed_streams::Follower;
 pub use feed_text::{TextBuffer, put_cell, put_cell_ref, put_decimal, put_json, put_value, quote};
 pub use wire_buf::{MAX_READS, Watched};

@@ -3,10 +3,11 @@
 
 use crc32::crc32;
 use feed_kinds::{Verdict, name_of, status};
+use feed_payloads::request;
 use feed_reports::report;
 use feed_runs::rehearse;
 use feed_serving::{Served, serve, serve_semi};
-use feed_streams::{Follower, request};
+use feed_streams::Follower;
 use std::alloc::Global;
 use std::env;
 use std::fs::File;

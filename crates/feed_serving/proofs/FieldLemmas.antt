@@ -6,15 +6,15 @@ use Rattle.wire_packets.proofs.PacketLemmas.{framings_apart}
 use Rattle.feed_kinds.specs.declared.verdict.Verdict.{Verdict}
 use Rattle.feed_rules.specs.Rules.{Rules}
 use Rattle.feed_reports.specs.Events.{has_magic_number}
-use Rattle.feed_streams.specs.Requests.{dump_payload, dump_request}
-use Rattle.feed_streams.specs.declared.format.PayloadFormat.{PayloadFormat as Format}
+use Rattle.feed_payloads.specs.Requests.{dump_payload, dump_request}
+use Rattle.feed_payloads.specs.declared.format.PayloadFormat.{PayloadFormat as Format}
 use Rattle.feed_serving.specs.declared.served.Refusal.{Refusal}
 use Rattle.feed_serving.specs.declared.served.Refusal.TheVariants as errors
 use Rattle.feed_serving.specs.declared.served.Served.{Served}
 use Rattle.feed_serving.specs.Requests.{position_in, name_in, requested, position_for}
 use Rattle.feed_serving.specs.Positions.{is_event_boundary}
 use Rattle.feed_serving.specs.Serving.{Answer, damage_before, rejection_or_fault, damage_from, all_payloads, outcome_of, fits, fitting_payloads, answer, answer_to, served}
-use Rattle.feed_streams.specs.Words.{from_first_failing}
+use Rattle.feed_payloads.specs.Words.{from_first_failing}
 use Rattle.feed_serving.specs.Laws.{IsOfTheFile}
 use Rattle.feed_serving.proofs.RequestLemmas.{same_bytes, payload_back}
 use Rattle.feed_serving.proofs.FileLemmas.{dump_here, asked_when}

@@ -3,8 +3,8 @@
 ghost use Rattle.std.specs.Prelude.{◌≡◌, ◌↔◌, ◌+◌, ◌*◌, ◌/◌, ℕ, List, ◌∷◌, Some, length};
 ghost use Rattle.wire_packets.specs.Framing.{max_chunk_len, framing};
 ghost use Rattle.feed_kinds.specs.Events.{Event};
-ghost use Rattle.feed_streams.specs.declared.format.PayloadFormat.TheVariants.{Plain, SemiSync};
-ghost use Rattle.feed_streams.specs.Streams.{payload_of};
+ghost use Rattle.feed_payloads.specs.declared.format.PayloadFormat.TheVariants.{Plain, SemiSync};
+ghost use Rattle.feed_payloads.specs.Streams.{payload_of};
 ghost use Rattle.feed_serving.specs.Requests.{payload_of_packet};
 ghost use Rattle.feed_serving.specs.Serving.{closing_payload};
 

@@ -1,15 +1,16 @@
 //! Acknowledgements for a semi-synchronous source.
 
-ghost use Rattle.std.specs.Prelude.{◌≡◌, ◌++◌, ◌≤◌, ◌+◌, List, ℕ, [], ◌∷◌, OnOk, OnErr, length};
+ghost use Rattle.std.specs.Prelude.{◌≡◌, ◌%◌, ◌==◌, ◌++◌, ◌≤◌, ◌+◌, List, ℕ, [], ◌∷◌, OnOk, OnErr, length};
 ghost use Rattle.std.specs.Int.{w64, to_le_bytes};
 ghost use Rattle.wire_packets.specs.Framing.{max_chunk_len, chunk, framing};
 ghost use Rattle.feed_kinds.specs.Events.{log_pos_of};
 ghost use Rattle.feed_reports.specs.Events.{joined};
-ghost use Rattle.feed_streams.specs.Acknowledgements.{requested_acks};
-ghost use Rattle.feed_streams.specs.Streams.{Plain, event_in};
+ghost use Rattle.feed_streams.specs.Acknowledgements.{is_ack_requested, requested_acks};
+ghost use Rattle.feed_payloads.specs.Streams.{Plain, event_in};
 
-use crate::format::{PayloadFormat, is_ack_requested};
-use crate::requests::LogName;
+use bitflags::Flags;
+use feed_payloads::{LogName, PayloadFormat};
+use rows_consts::SemiSyncFlags;
 use std::alloc::AllocError;
 use wire_packets::{PACKET_HEADER_LEN, chunk_header};
 
@@ -36,6 +37,23 @@ fn put_acknowledgement(
     due_acks.extend_from_slice(&[ACK])?;
     due_acks.extend_from_slice(&(position as u64).to_le_bytes())?;
     due_acks.extend_from_slice(name)
+}
+
+/// Whether a flag byte asks for an acknowledgement. Unknown bits are ignored.
+fn is_ack_flag_set(bits: u8) -> bool
+    ensures { result ≡ (bits % 2 == 1) }
+{
+    SemiSyncFlags::from_bits_truncate(bits).contains(SemiSyncFlags::SEMI_SYNC_ACK_REQ)
+}
+
+/// Whether a payload asks for an acknowledgement of its event.
+fn is_ack_requested(format: PayloadFormat, payload: &[u8]) -> bool
+    ensures { result ≡ is_ack_requested format payload.now }
+{
+    match format {
+        PayloadFormat::Plain => false,
+        PayloadFormat::SemiSync => payload.len() > 2 && is_ack_flag_set(payload[2]),
+    }
 }
 
 /// If the payload asks for an acknowledgement, appends that of its event; `position` is the position after the event in its log.

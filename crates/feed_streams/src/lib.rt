@@ -3,11 +3,7 @@
 
 mod acknowledgements;
 mod follower;
-mod format;
 mod incoming;
 pub mod laws;
-mod requests;
 
 pub use follower::Follower;
-pub use format::PayloadFormat;
-pub use requests::{RequestError, request};

@@ -3,7 +3,8 @@
 use crate::samples::{BEGIN, MAP, ROWS, TEXT, XID, answer_of};
 use crc32::crc32;
 use feed_kinds::Verdict;
-use feed_streams::{Follower, RequestError};
+use feed_payloads::RequestError;
+use feed_streams::Follower;
 use std::alloc::Global;
 use wire_buf::Watched;
 

@@ -1,8 +1,8 @@
 //! Names and exit statuses.
 
 use feed_kinds::{Verdict, name_of, status};
+use feed_payloads::RequestError;
 use feed_serving::Served;
-use feed_streams::RequestError;
 
 #[test]
 fn names_and_statuses(rt: HostRuntime) {

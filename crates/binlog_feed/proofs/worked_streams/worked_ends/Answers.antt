@@ -26,7 +26,7 @@ use Rattle.feed_rules.specs.Checks.{frame_fault, algorithm_fault, checksum_fault
 use Rattle.feed_rules.specs.Transactions.{lines_of, shown_by}
 use Rattle.feed_rules.specs.Rules.{up_to_fault, fault_after, shown_after}
 use Rattle.feed_rules.specs.Texts.{gtid_text, line_text, transaction_text}
-use Rattle.feed_streams.specs.Streams.{holds_event, event_payloads, verdict_of_other, stream_transactions, stream_verdict}
+use Rattle.feed_payloads.specs.Streams.{holds_event, event_payloads, verdict_of_other, stream_transactions, stream_verdict}
 use Rattle.binlog_feed.proofs.worked_streams.worked_ends.Goals as goal
 
 pub returns-clause-out_of_number : goal.returns-clause-out_of_number

@@ -1,6 +1,6 @@
 use Rattle.std.proofs.Common.{arith}
-use Rattle.feed_streams.specs.declared.format.PayloadFormat.TheVariants.{Plain, SemiSync}
-use Rattle.feed_streams.specs.Streams.{payload_of}
+use Rattle.feed_payloads.specs.declared.format.PayloadFormat.TheVariants.{Plain, SemiSync}
+use Rattle.feed_payloads.specs.Streams.{payload_of}
 use Rattle.feed_serving.specs.Serving.{closing_payload}
 use Rattle.feed_serving.proofs.RequestLemmas.{framing-length}
 use Rattle.feed_serving.proofs.laws.lengths_of_packets.Goals as goal

@@ -1,8 +1,8 @@
 //! The request for a binary log.
 
 ghost use Rattle.std.specs.Prelude.{◌≡◌, ◌↔◌, ◌<◌, ◌≤◌, IfOk, IsErrOf, length};
-ghost use Rattle.feed_streams.specs.Requests.{dump_request, dump_payload as payload_of};
-ghost use Rattle.feed_streams.specs.declared.requests.RequestError.TheVariants.{Memory};
+ghost use Rattle.feed_payloads.specs.Requests.{dump_request, dump_payload as payload_of};
+ghost use Rattle.feed_payloads.specs.declared.requests.RequestError.TheVariants.{Memory};
 
 use bytes::BytesMut;
 use std::alloc::{AllocError, Global};
@@ -30,7 +30,7 @@ pub enum RequestError {
 }
 
 impl RequestError {
-    ghost use Rattle.feed_streams.specs.RequestErrors.{request_error_name};
+    ghost use Rattle.feed_payloads.specs.RequestErrors.{request_error_name};
 
     /// The name of the error, as the program prints it.
     pub fn name(&self) -> &'static str
@@ -53,7 +53,7 @@ impl From<AllocError> for RequestError {
 
 /// The name of a binary log.
 #[derive(Drop)]
-pub(crate) struct LogName {
+pub struct LogName {
     bytes: Vec<u8>,
     ghost fits: { length bytes.items ≤ 511 },
 }
@@ -63,7 +63,7 @@ impl LogName {
     ///
     /// - `NameTooLong`: it is longer than 511 bytes, and only then.
     /// - `Memory`: out of memory.
-    pub(crate) fn new(alloc: Global, name: &[u8]) -> Result<LogName, RequestError>
+    pub fn new(alloc: Global, name: &[u8]) -> Result<LogName, RequestError>
         ensures name { IfOk result (λ it. it.bytes.items ≡ name.now) }
         ensures too_long { IsErrOf result RequestError.NameTooLong ↔ (511 < length name.now) }
     {
@@ -75,7 +75,7 @@ impl LogName {
     }
 
     /// The bytes of the name.
-    pub(crate) fn as_slice(&self) -> &[u8]
+    pub fn as_slice(&self) -> &[u8]
         ensures name { result.now ≡ self.now.bytes.items }
         ensures fits { length result.now ≤ 511 }
     {
@@ -103,7 +103,7 @@ fn dump_payload(
 
 /// Makes the packet of COM_BINLOG_DUMP for a name of at most 511 bytes. The only error is that of memory.
 #[tactic(auto, unfolding(crate::specs::Requests::dump_request))]
-pub(crate) fn dump_packet(
+pub fn dump_packet(
     alloc: Global,
     position: u32,
     server: u32,

@@ -1,12 +1,9 @@
 //! The format of an answer's payloads: what precedes the event.
 
-ghost use Rattle.std.specs.Prelude.{◌≡◌, ◌%◌, ◌==◌, true, false, None, IfSome, drop};
-ghost use Rattle.feed_streams.specs.Acknowledgements.{is_ack_requested};
-ghost use Rattle.feed_streams.specs.Streams.{Plain, SemiSync, holds_event, event_in, is_one_event};
+ghost use Rattle.std.specs.Prelude.{◌≡◌, true, false, None, IfSome, drop};
+ghost use Rattle.feed_payloads.specs.Streams.{Plain, SemiSync, holds_event, event_in, is_one_event};
 
-use bitflags::Flags;
 use byteorder::{ByteOrder, LittleEndian};
-use rows_consts::SemiSyncFlags;
 
 /// The length of an event's header in bytes.
 const HEADER_LEN: usize = 19;
@@ -71,7 +68,7 @@ fn semi_synchronous_event(payload: &[u8]) -> Option<&[u8]>
 }
 
 /// Returns the event of a payload if it is in this format and holds exactly one.
-pub(crate) fn find_event(format: PayloadFormat, payload: &[u8]) -> Option<&[u8]>
+pub fn find_event(format: PayloadFormat, payload: &[u8]) -> Option<&[u8]>
     ensures some { IfSome result (λ event. holds_event format payload.now ≡ true) }
     ensures event { IfSome result (λ event. event.now ≡ event_in format payload.now) }
     ensures none { result ≡ None → holds_event format payload.now ≡ false }
@@ -79,22 +76,5 @@ pub(crate) fn find_event(format: PayloadFormat, payload: &[u8]) -> Option<&[u8]>
     match format {
         PayloadFormat::Plain => plain_event(payload),
         PayloadFormat::SemiSync => semi_synchronous_event(payload),
-    }
-}
-
-/// Whether a flag byte asks for an acknowledgement. Unknown bits are ignored.
-fn is_ack_flag_set(bits: u8) -> bool
-    ensures { result ≡ (bits % 2 == 1) }
-{
-    SemiSyncFlags::from_bits_truncate(bits).contains(SemiSyncFlags::SEMI_SYNC_ACK_REQ)
-}
-
-/// Whether a payload asks for an acknowledgement of its event.
-pub(crate) fn is_ack_requested(format: PayloadFormat, payload: &[u8]) -> bool
-    ensures { result ≡ is_ack_requested format payload.now }
-{
-    match format {
-        PayloadFormat::Plain => false,
-        PayloadFormat::SemiSync => payload.len() > 2 && is_ack_flag_set(payload[2]),
     }
 }

@@ -1,0 +1,4 @@
+pub mod Words
+pub mod Streams
+pub mod Requests
+pub mod RequestErrors
