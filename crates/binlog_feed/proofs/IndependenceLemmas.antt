@@ -1,9 +1,10 @@
 -- The rest of a report depends only on the bytes after the position, and on the description in force there.
-use Rattle.std.proofs.Common.{◌≡◌, ℕ, ◌+◌, List, [], ◌∷◌, ◌++◌, length, drop, refl, sym, ap, subst, ◌∙◌, append_assoc}
+use Rattle.std.proofs.Common.{◌≡◌, ℕ, ◌+◌, List, [], ◌∷◌, ◌++◌, length, drop, Option, refl, sym, ap, subst, ◌∙◌, append_assoc}
 use Rattle.std.proofs.lemmas.List.{append_cancel_left, drop-drop}
 use Rattle.std.proofs.Math.Seq.{drop-append_seam}
 use Rattle.feed_kinds.specs.Events.{Event, in_force}
 use Rattle.feed_rules.specs.Checks.{fault_of}
+use Rattle.feed_kinds.specs.declared.verdict.Verdict.{Verdict}
 use Rattle.feed_rules.specs.Rules.{rules, up_to_fault, fault_after, shown_after, shown}
 use Rattle.feed_rules.specs.Transactions.{Transaction}
 use Rattle.feed_rules.proofs.RuleLemmas.{AreGood, fault_after-seen}
@@ -36,7 +37,7 @@ of-the-rest b position at =
     let bytes : drop 4 b ≡ joined before ++ (joined from ++ end) =
     sym law.1 ∙ ap (λ (l : List Event). joined l ++ end) split ∙ ap (λ (t : List ℕ). t ++ end) (joined-append before from) ∙ append_assoc (joined before) (joined from) end in
     let rest : drop position b ≡ joined from ++ end =
-    ap (λ (n : ℕ). drop n b) at ∙ sym (drop-drop 4 (length (joined before)) b) ∙ ap (drop (length (joined before))) bytes ∙ drop-append_seam (joined before) (joined from ++ end) in
+    ap (λ (n : ℕ). drop n b) at ∙ sym (drop-drop (length (joined before)) 4 b) ∙ ap (drop (length (joined before))) bytes ∙ drop-append_seam (joined before) (joined from ++ end) in
     let all : before ++ from ≡ before ++ events (joined from ++ end) = sym split ∙ ap events bytes ∙ events-seen before (joined from ++ end) whole in
     let same : from ≡ events (joined from ++ end) = append_cancel_left before from (events (joined from ++ end)) all in
     let after : remaining_bytes (joined from ++ end) ≡ end =
@@ -46,12 +47,13 @@ of-the-rest b position at =
       end_is = ap end_of (sym after) ∙ ap events_end (sym rest);
     }
 
+-- the report with these transactions and this fault, or else the end of these bytes
+abbrev report_with : List Transaction → Option Verdict → List ℕ → Report
+report_with ts fault bytes = record { transactions = ts; verdict = verdict_or fault (end_verdict (events_end bytes)) }
+
 -- the rest of a report, by the events before it and the bytes after it
-rest_of : (List ℕ → ℕ) → List Event → List ℕ → Report
-rest_of f past bytes = record {
-  transactions = shown_after (rules f) past (up_to_fault (fault_of f) past (events bytes));
-  verdict = verdict_or (fault_after (fault_of f) past (events bytes)) (end_verdict (events_end bytes));
-}
+abbrev rest_of : (List ℕ → ℕ) → List Event → List ℕ → Report
+rest_of f past bytes = report_with (shown_after (rules f) past (up_to_fault (fault_of f) past (events bytes))) (fault_after (fault_of f) past (events bytes)) bytes
 
 has-rest : (f : List ℕ → ℕ) (b : List ℕ) (position : ℕ) → IsUndamagedUpTo (rules f) b position → HasRest (rules f) b position (rest_of f (past_at b position) (drop position b))
 has-rest f b position h =
@@ -76,7 +78,9 @@ has-rest f b position h =
 
 -- two pasts that no later event distinguishes have equal rests
 rests-like : (f : List ℕ → ℕ) (past other : List Event) (bytes : List ℕ) → AreLike past other → rest_of f past bytes ≡ rest_of f other bytes
-rests-like f past other bytes h = rw (shows-like f past other (events bytes) h, faults-like f past other (events bytes) h) refl
+rests-like f past other bytes h =
+    ap (λ (ts : List Transaction). report_with ts (fault_after (fault_of f) past (events bytes)) bytes) (shows-like f past other (events bytes) h)
+    ∙ ap (λ (o : Option Verdict). report_with (shown_after (rules f) other (up_to_fault (fault_of f) other (events bytes))) o bytes) (faults-like f past other (events bytes) h)
 
 pub equal-rests : (f : List ℕ → ℕ) (b c : List ℕ) (p q : ℕ) → IsUndamagedUpTo (rules f) b p → IsUndamagedUpTo (rules f) c q → in_force (past_at b p) ≡ in_force (past_at c q) → drop p b ≡ drop q c
     → (rest : Report) × HasRest (rules f) b p rest × HasRest (rules f) c q rest

@@ -6,7 +6,7 @@ use Rattle.std.proofs.lemmas.Bool.{cases_Bool, eqb-true}
 use Rattle.rows_meta.specs.TableMaps.{TableMap}
 use Rattle.feed_kinds.specs.Words.{when}
 use Rattle.feed_kinds.specs.Kinds.{Gtid, Kind, Format, NextGtid, Begin, Commit, Rollback, IsStatement, Map, Rows, RealRotate, Ignored, Unshown, Unknown, BadBody, is_inside, waiting, is_waiting, since_begin, newest_map}
-use Rattle.binlog_feed.specs.LookingBack.{HasNewest, IsGtid, IsMap, ends_transaction, takes_gtid, replaces_gtid, replaces_map}
+use Rattle.binlog_feed.specs.LookingBack.{HasNewest, IsAnyGtid, IsMap, ends_transaction, takes_gtid, replaces_gtid, replaces_map}
 
 -- this element
 here : {A : Type 0} (has : A → Type 0) (test : A → Bool) (x : A) (past : List A) → has x → HasNewest has test (x ∷ past)
@@ -126,16 +126,16 @@ none-fewer (k ∷ l) h = elim (cases_Bool (replaces_gtid k)) [
   | inr f ↦ (let e : list_any replaces_gtid l ≡ false = rw f at h in rw (fewer k f) (none-fewer l e))
 ]
 
-some-waits : (past : List Kind) (o : Option Gtid) → waiting past ≡ o → is_some o ≡ true → HasNewest IsGtid takes_gtid past
+some-waits : (past : List Kind) (o : Option Gtid) → waiting past ≡ o → is_some o ≡ true → HasNewest IsAnyGtid takes_gtid past
 some-waits past None e h = absurd cc
 some-waits past (Some g) e h =
     let w = waiting-has past g e in
     record { later = w.later; element = w.element; older = w.older; split = w.split; is = (g, w.is); none_later = none-fewer w.later w.none_later }
 
-pub waits-has : (past : List Kind) → is_waiting past ≡ true → HasNewest IsGtid takes_gtid past
+pub waits-has : (past : List Kind) → is_waiting past ≡ true → HasNewest IsAnyGtid takes_gtid past
 waits-has past h = some-waits past (waiting past) refl h
 
-waits-after : (later : List Kind) (k : Kind) (older : List Kind) → IsGtid k → list_any takes_gtid later ≡ false → is_waiting (later ++ k ∷ older) ≡ true
+waits-after : (later : List Kind) (k : Kind) (older : List Kind) → IsAnyGtid k → list_any takes_gtid later ≡ false → is_waiting (later ++ k ∷ older) ≡ true
 unfolding waiting
 waits-after [] k older e h = rw e.1 refl
 waits-after (NextGtid x ∷ later) k older e h = refl
@@ -152,7 +152,7 @@ waits-after (Unshown ∷ later) k older e h = waits-after later k older e h
 waits-after (Unknown ∷ later) k older e h = waits-after later k older e h
 waits-after (BadBody ∷ later) k older e h = waits-after later k older e h
 
-pub waits-of : (past : List Kind) → HasNewest IsGtid takes_gtid past → is_waiting past ≡ true
+pub waits-of : (past : List Kind) → HasNewest IsAnyGtid takes_gtid past → is_waiting past ≡ true
 waits-of past h = ap is_waiting h.split ∙ waits-after h.later h.element h.older h.is h.none_later
 
 -- ---- the newest table map with an id

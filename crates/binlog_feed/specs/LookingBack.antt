@@ -39,8 +39,8 @@ replaces_map id (Map m) = m.table_id == id
 replaces_map id _ = false
 
 -- the GTID of the next transaction, whichever it is
-abbrev pub IsGtid : Kind → Type 0
-IsGtid k = (g : Gtid) × (k ≡ NextGtid g)
+abbrev pub IsAnyGtid : Kind → Type 0
+IsAnyGtid k = (g : Gtid) × (k ≡ NextGtid g)
 
 -- this table map, which has the id
 abbrev pub IsMap : ℕ → TableMap → Kind → Type 0

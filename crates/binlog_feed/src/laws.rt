@@ -33,7 +33,7 @@ ghost use Rattle.feed_runs.specs.Laws.{GivesTheRest};
 ghost use Rattle.feed_runs.specs.Runs.{run};
 ghost use Rattle.binlog_feed.specs.LastCommits.{EndsWithLastCommit};
 ghost use Rattle.binlog_feed.specs.Lines.{IsLine, HasLines};
-ghost use Rattle.binlog_feed.specs.LookingBack.{HasNewest, IsGtid, IsMap, ends_transaction, takes_gtid, replaces_gtid, replaces_map};
+ghost use Rattle.binlog_feed.specs.LookingBack.{HasNewest, IsAnyGtid, IsMap, ends_transaction, takes_gtid, replaces_gtid, replaces_map};
 ghost use Rattle.binlog_feed.specs.Repair.{TruncatedTextIsRepaired};
 ghost use Rattle.binlog_feed.specs.Rests.{IsUndamagedUpTo, HasRest};
 
@@ -90,7 +90,7 @@ pub fn inside_is_an_open_begin()
 /// - The table map of an id is the newest with it that has no begin after it.
 pub fn the_newest_event_decides()
     ensures inside { (past : List Kind) → (is_inside past ≡ true) ↔ HasNewest (λ k. k ≡ Begin) ends_transaction past }
-    ensures waits { (past : List Kind) → (is_waiting past ≡ true) ↔ HasNewest IsGtid takes_gtid past }
+    ensures waits { (past : List Kind) → (is_waiting past ≡ true) ↔ HasNewest IsAnyGtid takes_gtid past }
     ensures gtid { (past : List Kind) (g : Gtid) → (waiting past ≡ Some g) ↔ HasNewest (λ k. k ≡ NextGtid g) replaces_gtid past }
     ensures map { (past : List Kind) (id : ℕ) (m : TableMap) → (newest_map (since_begin past) id ≡ Some m) ↔ HasNewest (IsMap id m) (replaces_map id) past }
 {}
