@@ -49,10 +49,6 @@ fn reads_worked(alloc: Global) -> bool {
     }
 }
 
-fn description_fields(alloc: Global) -> bool {
-    reads_worked(alloc)
-}
-
 /// Whether the algorithm of a format description, if it has one, and the checksum of these parts are appended.
 fn puts_checksum(
     parts: &EventParts<'_>,
@@ -194,7 +190,7 @@ fn post_header_lengths(alloc: Global) -> bool {
 #[test]
 fn descriptions(rt: HostRuntime) {
     let alloc = rt.alloc();
-    assert!(rt; description_fields(alloc));
+    assert!(rt; reads_worked(alloc));
     assert!(rt; description_written_back(alloc));
     assert!(rt; versions_of_another_length(alloc));
     assert!(rt; description_of_an_older_server(alloc));

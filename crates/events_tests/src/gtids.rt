@@ -51,10 +51,6 @@ fn reads_full(alloc: Global) -> bool {
     }
 }
 
-fn gtid_body_with_all_fields(alloc: Global) -> bool {
-    reads_full(alloc)
-}
-
 /// The full event, created by setters, without the two bytes after its fields.
 fn created<'a>() -> GtidEvent<'a> {
     GtidEvent::new(SID, 5)
@@ -99,11 +95,6 @@ fn keeps_truncated(alloc: Global, bytes: &[u8]) -> bool {
     }
 }
 
-// The first commit time announces a second one, of which a byte is missing.
-fn gtid_field_cut_off(alloc: Global) -> bool {
-    keeps_truncated(alloc, &FULL[..55])
-}
-
 /// Whether the event is written as the full one when it is owned.
 fn is_kept(alloc: Global, read: AnonymousGtidEvent<'_>) -> bool {
     match read.into_owned(alloc) {
@@ -120,16 +111,13 @@ fn reads_anonymous(alloc: Global) -> bool {
     }
 }
 
-fn anonymous_gtid(alloc: Global) -> bool {
-    reads_anonymous(alloc)
-}
-
 #[test]
 fn gtids(rt: HostRuntime) {
     let alloc = rt.alloc();
     assert!(rt; gtid_body(alloc));
-    assert!(rt; gtid_body_with_all_fields(alloc));
+    assert!(rt; reads_full(alloc));
     assert!(rt; gtid_made_by_setters(alloc));
-    assert!(rt; gtid_field_cut_off(alloc));
-    assert!(rt; anonymous_gtid(alloc));
+    // The first commit time announces a second one, of which a byte is missing.
+    assert!(rt; keeps_truncated(alloc, &FULL[..55]));
+    assert!(rt; reads_anonymous(alloc));
 }

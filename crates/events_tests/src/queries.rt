@@ -103,10 +103,6 @@ fn cuts_schema(alloc: Global) -> bool {
         && read_body(alloc, (), out.as_slice()) == Ok(cut)
 }
 
-fn query_with_a_long_schema(alloc: Global) -> bool {
-    cuts_schema(alloc)
-}
-
 /// Whether the event has the numbers of `LOAD`.
 fn has_numbers(read: &ExecuteLoadQueryEvent<'_>) -> bool {
     read.thread_id() == 9
@@ -194,6 +190,6 @@ fn execute_load_query_body(alloc: Global) -> bool {
 fn queries(rt: HostRuntime) {
     let alloc = rt.alloc();
     assert!(rt; query_body(alloc));
-    assert!(rt; query_with_a_long_schema(alloc));
+    assert!(rt; cuts_schema(alloc));
     assert!(rt; execute_load_query_body(alloc));
 }

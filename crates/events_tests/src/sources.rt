@@ -95,10 +95,6 @@ fn goes_on(alloc: Global) -> bool {
         && returns_event(&mut source, &mut log, COMMIT)
 }
 
-fn reading_that_fails(alloc: Global) -> bool {
-    goes_on(alloc)
-}
-
 /// An event with this many bytes.
 fn long_event(alloc: Global, size: u32) -> Result<Vec<u8>, AllocError> {
     let mut event = Vec::from_slice(alloc, b"\0\0\0\0\x1d\x01\0\0\0")?;
@@ -140,6 +136,6 @@ fn sources(rt: HostRuntime) {
     assert!(rt; events_at_once(alloc));
     assert!(rt; events_byte_by_byte(alloc));
     assert!(rt; logs_without_an_event(alloc));
-    assert!(rt; reading_that_fails(alloc));
+    assert!(rt; goes_on(alloc));
     assert!(rt; events_longer_than_the_buffer(alloc));
 }

@@ -221,10 +221,6 @@ fn is_kept(alloc: Global, bytes: &[u8]) -> bool {
     owned.serialize(&mut out).is_ok() && out.as_slice() == BLOCK && buf.0 == b"z".as_slice()
 }
 
-fn blocks_kept(alloc: Global) -> bool {
-    is_kept(alloc, b"\0\0\0\0\0\x04\x21\0\x21\0\x08\0\x0e\0z")
-}
-
 #[test]
 fn status_vars(rt: HostRuntime) {
     let alloc = rt.alloc();
@@ -235,5 +231,5 @@ fn status_vars(rt: HostRuntime) {
     assert!(rt; counters_and_character_sets(alloc));
     assert!(rt; longer_numbers(alloc));
     assert!(rt; variables_cut_off());
-    assert!(rt; blocks_kept(alloc));
+    assert!(rt; is_kept(alloc, b"\0\0\0\0\0\x04\x21\0\x21\0\x08\0\x0e\0z"));
 }
