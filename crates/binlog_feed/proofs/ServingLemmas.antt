@@ -27,7 +27,7 @@ use Rattle.feed_payloads.specs.Streams.{holds_event, event_in, payload_of, event
 use Rattle.feed_streams.proofs.StreamLemmas.{payload-holds, event-back}
 use Rattle.feed_serving.specs.declared.served.Served.TheVariants.{Fault}
 use Rattle.feed_serving.specs.Serving.{Answer, broken_end, closing_payload, closed_by, outcome_of, fits, fitting_payloads, sent_events, damage_from, answer, answer_bytes}
-use Rattle.feed_serving.specs.Sending.{sent_of_rest}
+use Rattle.feed_serving.specs.SendingSteps.{sent_of_rest}
 use Rattle.feed_serving.specs.Laws.{ServesTheFile, StopsAtDamage}
 use Rattle.feed_serving.proofs.AnswerLemmas.{fit, led-none}
 use Rattle.feed_serving.proofs.SeekLemmas.{events_within-zero, file-with_magic, answer-arrived}

@@ -12,6 +12,7 @@ pub use Rattle.feed_rules.specs.Rules
 pub use Rattle.feed_rules.specs.Texts
 pub use Rattle.feed_checks.specs.Sums
 pub use Rattle.feed_rules.specs.FeedStates
+pub use Rattle.feed_rules.specs.FeedSteps
 pub use Rattle.feed_checks.specs.SplitEvents
 pub use Rattle.feed_rules.specs.Laws
 pub mod WorkedEvents
@@ -20,6 +21,7 @@ pub use Rattle.feed_reports.specs.Events as FileEvents
 pub use Rattle.feed_reports.specs.Writing
 pub use Rattle.feed_reports.specs.MagicNumbers
 pub use Rattle.feed_reports.specs.Reports
+pub use Rattle.feed_reports.specs.ReportSteps
 pub mod WorkedReports
 pub use Rattle.feed_payloads.specs.Words as StreamWords
 pub use Rattle.feed_payloads.specs.Streams
@@ -28,11 +30,13 @@ pub use Rattle.feed_streams.specs.ResumePositions
 pub use Rattle.feed_payloads.specs.Requests
 pub use Rattle.feed_payloads.specs.RequestErrors
 pub use Rattle.feed_streams.specs.Following
+pub use Rattle.feed_streams.specs.FollowingSteps
 pub mod WorkedStreams
 pub use Rattle.feed_serving.specs.Requests as ServedRequests
 pub use Rattle.feed_serving.specs.Positions
 pub use Rattle.feed_serving.specs.Serving
 pub use Rattle.feed_serving.specs.Sending
+pub use Rattle.feed_serving.specs.SendingSteps
 pub use Rattle.feed_serving.specs.ServedNames
 pub use Rattle.feed_serving.specs.Laws as ServingLaws
 pub mod WorkedServing
@@ -51,6 +55,7 @@ pub mod Lines
 pub mod LookingBack
 pub mod LastCommits
 pub use Rattle.feed_runs.specs.Rehearsing
+pub use Rattle.feed_runs.specs.RehearsalSteps
 pub mod WorkedRuns
 pub use Rattle.feed_text.specs.Pieces
 pub use Rattle.feed_text.specs.Times

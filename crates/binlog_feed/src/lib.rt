@@ -1,8 +1,9 @@
 //! The change feed of a MySQL binary log: the report of a file, a follower of a server's packets, a server that answers the
 //! follower's requests, the repair of truncated output, and the names of the results.
 //!
-//! Each part is a crate of its own: `feed_rules` has the rules that judge an event given the events before it, and the
-//! transactions that events show; `feed_reports` the report of a file; `feed_streams` the follower of a stream and its request;
+//! Each part is a crate of its own: `feed_kinds` has what an event is to the feed, `feed_checks` whether it is damaged, `feed_rows`
+//! the lines of rows, and `feed_rules` the rules that judge an event given the events before it, and the transactions that events
+//! show; `feed_reports` has the report of a file; `feed_payloads` the request for a log; `feed_streams` the follower of a stream;
 //! `feed_serving` the server of a file; `feed_runs` follower and server together, through connections that drop; `feed_kept` the
 //! complete transactions of a truncated text; `feed_text` the text of values. They build on `mysql_binlog_events`,
 //! `mysql_binlog_rows` and `mysql_wire`.

@@ -3,7 +3,7 @@
 ghost use Rattle.std.specs.Prelude.{◌≡◌, ◌≤◌, ◌<◌, ◌+◌, ◌-◌, ◌++◌, [], length, OnOk, IfOk, IfErr, true, false};
 ghost use Rattle.std.specs.Io.KnownBytes.{Appends};
 ghost use Rattle.wire_buf.specs.Watched.{inner_of, has_failed};
-ghost use Rattle.feed_rules.specs.FeedStates.{text_if_shown};
+ghost use Rattle.feed_rules.specs.FeedSteps.{text_if_shown};
 ghost use Rattle.feed_reports.specs.Events.{joined};
 ghost use Rattle.feed_reports.specs.Writing.{IsInterruptedWrite};
 ghost use Rattle.feed_reports.specs.declared.waiting.TheConstants.{MAX_WAITING_LEN};

@@ -2,6 +2,7 @@ pub mod Requests
 pub mod Positions
 pub mod Serving
 pub mod Sending
+pub mod SendingSteps
 pub mod ServedNames
 pub mod Passing
 pub mod Waiting
