@@ -3,7 +3,7 @@ use Rattle.std.specs.Prelude.{ℕ, ℤ, ◌+◌, ◌-◌, ◌*◌, ◌^◌, ◌=
 use Rattle.std.specs.declared.result.Result.TheVariants.{Ok, Err}
 use Rattle.byteorder.specs.Endian.{little_number}
 use Rattle.wire_buf.specs.Numbers.{little_signed}
-use Rattle.wire_ints.specs.Sevens.{sevens_split}
+use Rattle.wire_forms.specs.Sevens.{sevens_split}
 use Rattle.wire_consts.specs.declared.column_type.ColumnType.{ColumnType}
 use Rattle.wire_consts.specs.ColumnTypes.{column_type_number}
 use Rattle.wire_consts.specs.AllColumnTypes.{column_types}

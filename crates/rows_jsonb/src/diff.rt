@@ -19,8 +19,7 @@ use std::alloc::{AllocError, Global};
 use std::borrow::{CowSlice, CowStr};
 use thiserror::Error;
 use wire_buf::{AnySize, MyDeserialize, ParseBuf};
-use wire_forms::RawBytes;
-use wire_ints::LenEnc;
+use wire_forms::{LenEnc, RawBytes};
 
 /// What a JSON diff does.
 #[derive(Clone, Copy, Debug, PartialEq, Eq, Hash)]

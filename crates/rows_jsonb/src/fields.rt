@@ -5,7 +5,7 @@ ghost use Rattle.wire_buf.specs.Encoding.{Alone};
 ghost use Rattle.rows_values.specs.declared.fault.RowsError.TheVariants.{Jsonb};
 ghost use Rattle.std.specs.Cow.{cow_slice_items};
 ghost use Rattle.wire_buf.specs.Numbers.{IsCounted};
-ghost use Rattle.wire_ints.specs.Sevens.{IsVarLen};
+ghost use Rattle.wire_forms.specs.Sevens.{IsVarLen};
 ghost use Rattle.wire_forms.specs.RawTexts.{raw_string};
 ghost use Rattle.wire_forms.specs.Texts.{varlen_string_encoded};
 ghost use Rattle.rows_jsonb.specs.JsonbLayout.{format as format_of};

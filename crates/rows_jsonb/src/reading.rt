@@ -18,7 +18,7 @@ use std::borrow::CowSlice;
 use std::marker::PhantomData;
 use wire_buf::ParseBuf;
 use wire_consts::ColumnType;
-use wire_ints::{IntRepr, VarLen};
+use wire_forms::{IntRepr, VarLen};
 
 /// Returns the column type with this number.
 fn known_type(number: u8) -> Option<ColumnType>

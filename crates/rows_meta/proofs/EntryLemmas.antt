@@ -7,7 +7,7 @@ use Rattle.wire_buf.specs.Encoding.{Begins, Reads, Lacks, Alone}
 use Rattle.wire_buf.specs.Numbers.{IsLenenc, one, two, three, eight}
 use Rattle.wire_buf.specs.LenencSplit.{split_lenenc}
 use Rattle.wire_buf.proofs.LenencLemmas.{split_lenenc-complete, split_lenenc-sound}
-use Rattle.wire_ints.specs.Faults.{lenenc_fault}
+use Rattle.wire_forms.specs.Faults.{lenenc_fault}
 use Rattle.rows_values.specs.Faults.{rows_error}
 use Rattle.rows_values.specs.declared.fault.RowsError.{RowsError}
 use Rattle.rows_values.specs.declared.fault.RowsError.TheVariants.{EndOfBody}

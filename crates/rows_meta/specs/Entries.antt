@@ -4,7 +4,7 @@ use Rattle.std.specs.declared.result.Result.TheVariants.{Ok, Err}
 use Rattle.wire_buf.specs.Encoding.{Encoding, Alone, Both}
 use Rattle.wire_buf.specs.Numbers.{IsLenenc, IsLenencString}
 use Rattle.wire_buf.specs.LenencSplit.{split_lenenc}
-use Rattle.wire_ints.specs.Faults.{lenenc_fault}
+use Rattle.wire_forms.specs.Faults.{lenenc_fault}
 use Rattle.rows_values.specs.Faults.{rows_error}
 use Rattle.rows_values.specs.declared.fault.RowsError.{RowsError}
 use Rattle.rows_values.specs.declared.fault.RowsError.TheVariants.{EndOfBody}

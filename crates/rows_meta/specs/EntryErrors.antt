@@ -2,7 +2,7 @@
 use Rattle.std.specs.Prelude.{◌≡◌, ◌⊎◌, ℕ, List}
 use Rattle.wire_buf.specs.Encoding.{BeginsWith, Lacks}
 use Rattle.wire_buf.specs.ReadErrors.{BeginsThen}
-use Rattle.wire_ints.specs.Faults.{lenenc_fault}
+use Rattle.wire_forms.specs.Faults.{lenenc_fault}
 use Rattle.rows_values.specs.Faults.{rows_error}
 use Rattle.rows_values.specs.declared.fault.RowsError.{RowsError}
 use Rattle.rows_values.specs.declared.fault.RowsError.TheVariants.{EndOfBody}

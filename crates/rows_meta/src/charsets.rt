@@ -16,8 +16,7 @@ use rows_values::RowsError;
 use std::alloc::{Allocator, Global};
 use std::borrow::CowSlice;
 use wire_buf::{AnySize, Inner, MyDeserialize, MySerialize, ParseBuf, WireFault};
-use wire_forms::{EofBytes, RawBytes};
-use wire_ints::{LenEnc, RawInt};
+use wire_forms::{EofBytes, LenEnc, RawBytes, RawInt};
 
 /// A default character set, and the columns with another one: of character columns in the field `DEFAULT_CHARSET`, of `ENUM` and
 /// `SET` columns in `ENUM_AND_SET_DEFAULT_CHARSET`.

@@ -2,7 +2,7 @@
 
 ghost use Rattle.std.specs.Prelude.{◌≡◌};
 ghost use Rattle.std.specs.Iterator.{YieldsFirst, YieldsFirstBy};
-ghost use Rattle.wire_ints.specs.Faults.{lenenc_fault};
+ghost use Rattle.wire_forms.specs.Faults.{lenenc_fault};
 ghost use Rattle.rows_values.specs.Faults.{rows_error};
 ghost use Rattle.rows_values.specs.Readings.{map_reading};
 ghost use Rattle.rows_meta.specs.Entries.{lenenc_at, string_at, pair_at};

@@ -18,8 +18,7 @@ use rows_values::RowsError;
 use std::alloc::{AllocError, Allocator, Global};
 use std::borrow::{CowSlice, CowStr};
 use wire_buf::{AnySize, Inner, MyDeserialize, MySerialize, ParseBuf, WireFault};
-use wire_forms::RawBytes;
-use wire_ints::LenEnc;
+use wire_forms::{LenEnc, RawBytes};
 
 /// The name of a column, which may not be UTF-8.
 #[derive(PartialEq, Eq, Drop)]

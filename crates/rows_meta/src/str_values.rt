@@ -22,8 +22,7 @@ use std::borrow::{CowSlice, CowStr};
 use wire_buf::{
     AnySize, Inner, MyDeserialize, MySerialize, ParseBuf, WireFault, truncate_on_error,
 };
-use wire_forms::RawBytes;
-use wire_ints::{BufMutExt, LenEnc};
+use wire_forms::{BufMutExt, LenEnc, RawBytes};
 
 /// The name of a member, which may not be UTF-8.
 #[derive(PartialEq, Eq, Drop)]
