@@ -1,11 +1,10 @@
 //! The rows of MySQL's binary logs: their constants; the times, decimals and values in their cells; columns and bits; table maps
 //! and rows events.
 //!
-//! Each part is a crate, which is re-exported completely: `rows_consts` has the constants and flags, `rows_times` the errors of rows
-//! and packed times, `rows_values` values, columns, rows and bits, `rows_decimal` decimals, `rows_jsonb` JSON documents, whose
-//! values are `jsonb::Value`, `rows_cells` the cells of columns, the images of rows, and rows, `rows_meta` table maps and their
-//! optional metadata, and `rows_events` rows events, the plan of a table's columns, and owned rows. The parts use those of
-//! `mysql_wire`.
+//! Each part is a crate, which is re-exported completely: `rows_consts` has the constants and flags, `rows_values` the errors of
+//! rows, packed times, decimals, plain values, columns, rows and bits, `rows_jsonb` JSON documents, whose values are
+//! `jsonb::Value`, `rows_cells` the cells of columns, the images of rows, and rows, `rows_meta` table maps and their optional
+//! metadata, and `rows_events` rows events, the plan of a table's columns, and owned rows. The parts use those of `mysql_wire`.
 #![tactic(auto)]
 
 pub mod laws;
