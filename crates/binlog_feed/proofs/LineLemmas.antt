@@ -7,9 +7,9 @@ use Rattle.rows_cells.specs.Images.{ColumnValue, ImageShape}
 use Rattle.rows_cells.specs.EventRows.{IsEventRow, row_at}
 use Rattle.rows_cells.proofs.RowLemmas.{row-is, row-here, row-shrinks}
 use Rattle.rows_jsonb.specs.Items.{Walked, Finds, items_at}
-use Rattle.rows_times.specs.Readings.{Reading, ◌>>=◌}
+use Rattle.rows_values.specs.Readings.{Reading, ◌>>=◌}
 use Rattle.rows_jsonb.proofs.ItemLemmas.{walk_done, walk_on, items-found}
-use Rattle.rows_times.specs.declared.fault.RowsError.{RowsError}
+use Rattle.rows_values.specs.declared.fault.RowsError.{RowsError}
 use Rattle.rows_meta.specs.TableMaps.{TableMap}
 use Rattle.rows_events.specs.EventShapes.{event_rows, event_shapes, row_read}
 use Rattle.rows_events.specs.RowsEvents.{RowsBody}

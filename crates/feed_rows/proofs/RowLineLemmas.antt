@@ -12,10 +12,10 @@ use Rattle.rows_cells.specs.ImageViews.{remaining_cells}
 use Rattle.rows_cells.specs.declared.image.ImageCells.{ImageCells}
 use Rattle.rows_jsonb.specs.Items.{Walked, prepend_item, walk, items_at}
 use Rattle.rows_jsonb.specs.JsonParsing.{IsNone, Parses}
-use Rattle.rows_times.specs.Readings.{Reading, ◌>>=◌}
+use Rattle.rows_values.specs.Readings.{Reading, ◌>>=◌}
 use Rattle.rows_jsonb.proofs.ItemLemmas.{walk_on, walk_done}
-use Rattle.rows_times.specs.declared.fault.RowsError.{RowsError}
-use Rattle.rows_times.specs.declared.fault.RowsError.TheVariants as fault
+use Rattle.rows_values.specs.declared.fault.RowsError.{RowsError}
+use Rattle.rows_values.specs.declared.fault.RowsError.TheVariants as fault
 use Rattle.std.specs.Bool.{⊤}
 use Rattle.rows_events.specs.ImageShapes.{TablePlan}
 use Rattle.rows_events.specs.EventShapes.{event_shapes, row_read}

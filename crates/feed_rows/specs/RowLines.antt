@@ -5,9 +5,9 @@ use Rattle.rows_cells.specs.Images.{ColumnValue, ImageShape, image_at}
 use Rattle.rows_cells.specs.EventRows.{images_at, row_at}
 use Rattle.rows_jsonb.specs.Items.{walk, items_at}
 use Rattle.rows_jsonb.specs.JsonParsing.{IsNone}
-use Rattle.rows_times.specs.Readings.{Reading, ◌>>=◌}
-use Rattle.rows_times.specs.declared.fault.RowsError.{RowsError}
-use Rattle.rows_times.specs.declared.fault.RowsError.TheVariants as fault
+use Rattle.rows_values.specs.Readings.{Reading, ◌>>=◌}
+use Rattle.rows_values.specs.declared.fault.RowsError.{RowsError}
+use Rattle.rows_values.specs.declared.fault.RowsError.TheVariants as fault
 use Rattle.rows_events.specs.ImageShapes.{TablePlan}
 use Rattle.rows_events.specs.RowsEvents.{RowsBody}
 use Rattle.feed_text.specs.ImageText.{cells_text}

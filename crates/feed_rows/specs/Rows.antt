@@ -2,7 +2,7 @@
 use Rattle.std.specs.Prelude.{ℕ, true, false, List, [], ◌∷◌, length, map, Option, Some, None, Result, Ok, Err, ◌==◌}
 use Rattle.rows_cells.specs.Images.{ColumnValue}
 use Rattle.rows_jsonb.specs.Items.{Walked}
-use Rattle.rows_times.specs.Readings.{Reading, ◌>>=◌}
+use Rattle.rows_values.specs.Readings.{Reading, ◌>>=◌}
 use Rattle.rows_meta.specs.ColumnMetadata.{columns_with_metadata}
 use Rattle.rows_meta.specs.TableMaps.{TableMap}
 use Rattle.rows_meta.specs.Extracted.{extracted}

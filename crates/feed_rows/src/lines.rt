@@ -13,7 +13,7 @@ use feed_kinds::Verdict;
 use feed_text::TextBuffer;
 use rows_cells::{ImageCells, ImagePlan, RowPlan};
 use rows_events::{ColumnPlan, EventColumns, RowsEvent};
-use rows_times::RowsError;
+use rows_values::RowsError;
 use std::alloc::{Allocator, Global};
 
 /// Appends a line for each row of an event. `plan` is that of the event's table; each line begins with `start`, the kind of

@@ -7,13 +7,13 @@ use Rattle.std.proofs.lemmas.List.{length-take-le, take_more_set, take-append-le
 use Rattle.std.specs.List.{flat_map}
 use Rattle.std.specs.Option.{option_map}
 use Rattle.wire_buf.specs.Encoding.{AreBytes}
-use Rattle.rows_decimal.specs.Digits.{AreDigits}
-use Rattle.rows_decimal.specs.Decimals.{DecimalParts, normalized, zero_value, without_zero_groups}
-use Rattle.rows_decimal.specs.Texts.{glyphs, significant, whole_text, fraction_text, sign_text, decimal_text}
-use Rattle.rows_decimal.specs.Unpacked.{unpacked, optional_text, packed_text}
-use Rattle.rows_decimal.proofs.GroupLemmas.{drop_digits}
-use Rattle.rows_decimal.proofs.UnpackLemmas.{kept_are}
-use Rattle.rows_decimal.proofs.UnpackedLemmas.{unpacked-sound}
+use Rattle.rows_values.specs.Digits.{AreDigits}
+use Rattle.rows_values.specs.Decimals.{DecimalParts, normalized, zero_value, without_zero_groups}
+use Rattle.rows_values.specs.Texts.{glyphs, significant, whole_text, fraction_text, sign_text, decimal_text}
+use Rattle.rows_values.specs.Unpacked.{unpacked, optional_text, packed_text}
+use Rattle.rows_values.proofs.GroupLemmas.{drop_digits}
+use Rattle.rows_values.proofs.UnpackLemmas.{kept_are}
+use Rattle.rows_values.proofs.UnpackedLemmas.{unpacked-sound}
 use Rattle.feed_writers.specs.Quoting.{is_plain_byte, quoted_byte, quoted}
 use Rattle.feed_text.specs.DecimalText.{quoted_decimal}
 

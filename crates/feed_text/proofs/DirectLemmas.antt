@@ -7,8 +7,8 @@ use Rattle.std.proofs.Math.Seq.{take-length}
 use Rattle.byteorder.specs.Endian.{little_number}
 use Rattle.wire_buf.specs.Numbers.{little_signed}
 use Rattle.wire_buf.specs.Eating.{Eats}
-use Rattle.wire_ints.specs.Sevens.{sevens_split}
-use Rattle.rows_times.specs.Readings.{Reading, ◌>>=◌}
+use Rattle.wire_forms.specs.Sevens.{sevens_split}
+use Rattle.rows_values.specs.Readings.{Reading, ◌>>=◌}
 use Rattle.rows_jsonb.specs.JsonTrees as tree
 use Rattle.rows_jsonb.specs.JsonTrees.{Tree}
 use Rattle.rows_jsonb.specs.JsonbTypes.{literal_of}

@@ -1,8 +1,8 @@
 -- The text of the cell at the start of the bytes.
 use Rattle.std.proofs.Common.{◌≡◌, ℕ, List, Option, Some, None, Ok, refl, ap}
 use Rattle.std.specs.Option.{option_map}
-use Rattle.rows_times.specs.Readings.{Reading, ◌>>=◌}
-use Rattle.rows_decimal.specs.Unpacked.{packed_text}
+use Rattle.rows_values.specs.Readings.{Reading, ◌>>=◌}
+use Rattle.rows_values.specs.Unpacked.{packed_text}
 use Rattle.rows_cells.specs.declared.format.CellFormat.TheVariants.{Decimal}
 use Rattle.rows_cells.specs.CellSizes.{decimal_size}
 use Rattle.rows_cells.specs.CellValues.{CellValue, bytes, decimal_value}

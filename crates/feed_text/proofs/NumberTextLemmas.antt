@@ -6,16 +6,16 @@ use Rattle.std.proofs.Math.Nat.{pow-suc, pow-le-pow_right}
 use Rattle.std.proofs.lemmas.Bool.Decides.{leb_tells, eqb_tells}
 use Rattle.std.proofs.lemmas.Fmt.{decimal_digit, decimal_step, length-decimal-le}
 use Rattle.std.proofs.lemmas.List.{map-append, append-nil, length-map}
-use Rattle.rows_times.specs.TimeTexts.{padded_decimal}
-use Rattle.rows_decimal.specs.Digits.{digits_in}
-use Rattle.rows_decimal.specs.Texts.{glyphs, significant, fraction_text, sign_text}
-use Rattle.rows_decimal.specs.Unpacked.{packed_text, optional_text}
-use Rattle.rows_decimal.specs.PackedTexts.{is_shown, lead, zero_piece}
-use Rattle.rows_decimal.specs.PackedNumbers.{PackNumbers}
-use Rattle.rows_decimal.specs.declared.numbers.DecimalNumbers.{DecimalNumbers}
-use Rattle.rows_decimal.proofs.UnpackDigitsLemmas.{length-digits_in}
-use Rattle.rows_decimal.proofs.DigitTextLemmas.{lead_zeros, lead_none, lead_some, sig_suc, sig_append_none, sig_append_some}
-use Rattle.rows_decimal.proofs.WriteLemmas.{kept_text}
+use Rattle.rows_values.specs.TimeTexts.{padded_decimal}
+use Rattle.rows_values.specs.Digits.{digits_in}
+use Rattle.rows_values.specs.Texts.{glyphs, significant, fraction_text, sign_text}
+use Rattle.rows_values.specs.Unpacked.{packed_text, optional_text}
+use Rattle.rows_values.specs.PackedTexts.{is_shown, lead, zero_piece}
+use Rattle.rows_values.specs.PackedNumbers.{PackNumbers}
+use Rattle.rows_values.specs.declared.numbers.DecimalNumbers.{DecimalNumbers}
+use Rattle.rows_values.proofs.UnpackDigitsLemmas.{length-digits_in}
+use Rattle.rows_values.proofs.DigitTextLemmas.{lead_zeros, lead_none, lead_some, sig_suc, sig_append_none, sig_append_some}
+use Rattle.rows_values.proofs.WriteLemmas.{kept_text}
 use Rattle.feed_writers.proofs.DigitLemmas.{padded_more, padded_one}
 use Rattle.feed_text.specs.DecimalText.{numbers_sign, micros_places_text, numbers_text}
 

@@ -4,7 +4,7 @@ use Rattle.std.specs.Prelude.{unsigned_abs, int_lt, FitsSigned}
 use Rattle.std.specs.Int.{w32}
 use Rattle.std.specs.Fmt.{decimal, signed_decimal}
 use Rattle.std.proofs.lemmas.Fmt.{decimal_by_steps}
-use Rattle.rows_times.specs.TimeTexts.{padded_decimal}
+use Rattle.rows_values.specs.TimeTexts.{padded_decimal}
 use Rattle.rows_cells.specs.CellValues.{cell_micros_text, timestamp_text}
 use Rattle.feed_writers.specs.Quoting.{quoted}
 use Rattle.feed_text.proofs.DecimalTextLemmas.{AreLeft, left_append, digit_left, plain_quoted}

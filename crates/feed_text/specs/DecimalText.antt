@@ -2,12 +2,12 @@
 use Rattle.std.specs.Prelude.{◌≡◌, ◌⊎◌, ℕ, List, [], ◌∷◌, ◌++◌, ◌||◌, ◌&&◌, nat_lt, nat_eq, if◌then◌else◌, Option, Some, None}
 use Rattle.std.specs.Fmt.{decimal}
 use Rattle.std.specs.Option.{option_map}
-use Rattle.rows_times.specs.declared.fault.RowsError.{RowsError}
-use Rattle.rows_times.specs.declared.fault.RowsError.TheVariants.{Memory, Decimal}
-use Rattle.rows_decimal.specs.Texts.{sign_text}
-use Rattle.rows_decimal.specs.Unpacked.{packed_text}
-use Rattle.rows_decimal.specs.declared.numbers.DecimalNumbers.{DecimalNumbers}
-use Rattle.rows_times.specs.TimeTexts.{padded_decimal}
+use Rattle.rows_values.specs.declared.fault.RowsError.{RowsError}
+use Rattle.rows_values.specs.declared.fault.RowsError.TheVariants.{Memory, Decimal}
+use Rattle.rows_values.specs.Texts.{sign_text}
+use Rattle.rows_values.specs.Unpacked.{packed_text}
+use Rattle.rows_values.specs.declared.numbers.DecimalNumbers.{DecimalNumbers}
+use Rattle.rows_values.specs.TimeTexts.{padded_decimal}
 use Rattle.feed_writers.specs.Quoting.{quoted}
 
 -- the quoted text of a packed decimal, if the bytes are one

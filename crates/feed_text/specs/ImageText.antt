@@ -1,9 +1,9 @@
 -- The text of the cells of a row image.
 use Rattle.std.specs.Prelude.{◌≡◌, ◌≤◌, ◌⊎◌, ℕ, List, [], ◌∷◌, ◌++◌, length, take}
 use Rattle.std.specs.declared.result.Result.TheVariants.{Ok, Err}
-use Rattle.rows_times.specs.declared.fault.RowsError.{RowsError}
-use Rattle.rows_times.specs.declared.fault.RowsError.TheVariants.{Memory}
-use Rattle.rows_times.specs.Readings.{Reading, ◌>>=◌}
+use Rattle.rows_values.specs.declared.fault.RowsError.{RowsError}
+use Rattle.rows_values.specs.declared.fault.RowsError.TheVariants.{Memory}
+use Rattle.rows_values.specs.Readings.{Reading, ◌>>=◌}
 use Rattle.rows_jsonb.specs.JsonParsing.{Parses}
 use Rattle.rows_cells.specs.declared.image.ImageCells.{ImageCells}
 use Rattle.rows_cells.specs.Images.{ColumnValue}

@@ -25,8 +25,7 @@ use crate::values::put_value;
 use feed_writers::{put_byte, put_column_label};
 use rows_cells::{BinlogValue, CellRef};
 use rows_jsonb::{JsonDiff, JsonDom, Value as JsonbValue, json_diffs};
-use rows_times::RowsError;
-use rows_values::Value;
+use rows_values::{RowsError, Value};
 use std::alloc::{Allocator, Global};
 use wire_buf::ParseBuf;
 

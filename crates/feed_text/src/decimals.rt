@@ -1,11 +1,10 @@
 //! The quoted text of decimals, directly from MySQL's packed bytes.
 
 ghost use Rattle.std.specs.Prelude.{◌≡◌, ◌≤◌, ◌+◌, OnOk, IfErr, length};
-ghost use Rattle.rows_decimal.specs.PackedTexts.{PutsOrNone};
+ghost use Rattle.rows_values.specs.PackedTexts.{PutsOrNone};
 ghost use Rattle.feed_text.specs.DecimalText.{quoted_decimal, AppendsSome, IsDecimalError};
 
-use rows_decimal::put_decimal_text;
-use rows_times::RowsError;
+use rows_values::{RowsError, put_decimal_text};
 use std::alloc::Allocator;
 
 /// Appends the quoted text of a packed decimal with `precision` digits, `scale` of them after the point. Between the quotes is

@@ -10,7 +10,7 @@ ghost use Rattle.rows_jsonb.specs.JsonbViews.{jsonb_value};
 use crate::documents::put_json;
 use crate::quoting::quote;
 use rows_jsonb::{JsonDiff, JsonDiffOperation, Value};
-use rows_times::RowsError;
+use rows_values::RowsError;
 use std::alloc::{Allocator, Global};
 
 /// The word for an operation, and a space.

@@ -106,7 +106,7 @@ impl<'a> Container<'a> {
 
     /// Reads the container in this format that the bytes begin with.
     #[inline(always)]
-    #[tactic(auto, using(rows_decimal::proofs::UnpackedLemmas::take_bytes))]
+    #[tactic(auto, using(rows_values::proofs::UnpackedLemmas::take_bytes))]
     pub(crate) fn read(
         is_large: bool,
         is_array: bool,

@@ -8,7 +8,7 @@ use crate::buffer::TextBuffer;
 use crate::cells::{LABEL_LEN_MAX, put_label};
 use crate::fields::{VALUE_LEN_MAX, put_field};
 use rows_cells::ImageCells;
-use rows_times::RowsError;
+use rows_values::RowsError;
 use std::alloc::{Allocator, Global};
 
 /// The maximum length of a label and a short text, in bytes.

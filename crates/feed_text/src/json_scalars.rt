@@ -16,7 +16,7 @@ use feed_writers::{
 };
 use itoa::Buffer;
 use rows_jsonb::{JsonNumber, JsonOpaque, JsonScalar};
-use rows_times::{MysqlTime, MysqlTimestampType, RowsError};
+use rows_values::{MysqlTime, MysqlTimestampType, RowsError};
 use std::alloc::Allocator;
 
 /// Appends the text of a scalar. An error may leave a part of it.

@@ -2,7 +2,7 @@
 
 ghost use Rattle.std.specs.Prelude.{◌≡◌, ◌∷◌, [], codes, ℕ, List, Ok};
 ghost use Rattle.wire_buf.specs.Encoding.{AreBytes};
-ghost use Rattle.rows_times.specs.PackedTimes.{fraction_len, time2, datetime2};
+ghost use Rattle.rows_values.specs.PackedTimes.{fraction_len, time2, datetime2};
 ghost use Rattle.rows_values.specs.Values.{span_value, date_value};
 ghost use Rattle.feed_writers.specs.Quoting.{quoted};
 ghost use Rattle.rows_values.specs.declared.rows.value.Value.{Value};

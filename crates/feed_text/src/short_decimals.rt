@@ -2,12 +2,12 @@
 
 ghost use Rattle.std.specs.Prelude.{◌≡◌, ◌≤◌, ◌<◌, ◌+◌, ◌^◌, ◌++◌, ◌∷◌, [], length, take};
 ghost use Rattle.std.specs.Fmt.{decimal};
-ghost use Rattle.rows_decimal.specs.PackedTexts.{PutsOrNone};
+ghost use Rattle.rows_values.specs.PackedTexts.{PutsOrNone};
 ghost use Rattle.feed_text.specs.DecimalText.{quoted_decimal, numbers_sign, micros_places_text, numbers_text};
 
 use crate::decimals::write_quoted;
 use feed_writers::{put_byte, put_fixed_digits, put_number};
-use rows_decimal::{DecimalNumbers, decimal_numbers};
+use rows_values::{DecimalNumbers, decimal_numbers};
 
 /// Does the same as [`write_quoted`], with more room. A decimal with at most 16 digits before the point and 8 after it is written
 /// from its numbers.

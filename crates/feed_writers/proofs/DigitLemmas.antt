@@ -11,7 +11,7 @@ use Rattle.std.proofs.Math.Nat.{pow-suc, mul_comm, div-div-eq-div-mul, pow-le-po
 use Rattle.std.proofs.lemmas.Nat.{pow-add, le_bytes_8}
 use Rattle.std.specs.Int.{w16, w64, byte_at, bytes_low_first, to_le_bytes, from_le_bytes}
 use Rattle.std.specs.Fmt.{decimal, digits}
-use Rattle.rows_times.specs.TimeTexts.{padded_decimal}
+use Rattle.rows_values.specs.TimeTexts.{padded_decimal}
 use Rattle.feed_writers.specs.declared.digits.TheConstants.{PAIRS}
 use lib.Ieee.Fits.{and_l, and_r}
 

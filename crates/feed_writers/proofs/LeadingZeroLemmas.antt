@@ -4,7 +4,7 @@ use Rattle.std.specs.Prelude.{◌==◌, take_while, All}
 use Rattle.std.specs.Bool.{⊤}
 use Rattle.std.specs.Int.{w64, from_le_bytes}
 use Rattle.std.proofs.lemmas.Bool.{ne_eqb}
-use Rattle.rows_times.specs.TimeTexts.{padded_decimal}
+use Rattle.rows_values.specs.TimeTexts.{padded_decimal}
 use Rattle.feed_writers.proofs.DigitLemmas.{four_apart, one_zero_more}
 use lib.Count.{count_trailing_zeros}
 

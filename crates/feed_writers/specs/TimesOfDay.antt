@@ -1,6 +1,6 @@
 -- The text of dates and times of day: numbers with minimum widths.
 use Rattle.std.specs.Prelude.{ℕ, List, ◌∷◌, ◌++◌}
-use Rattle.rows_times.specs.TimeTexts.{padded_decimal}
+use Rattle.rows_values.specs.TimeTexts.{padded_decimal}
 use Rattle.feed_writers.specs.declared.times.Clock.{Clock}
 use Rattle.feed_writers.specs.declared.times.Day.{Day}
 

@@ -2,7 +2,7 @@
 
 ghost use Rattle.std.specs.Prelude.{◌≡◌, ◌≤◌, ◌<◌, ◌^◌, ◌+◌, ◌-◌, ◌*◌, ◌/◌, ◌%◌, ◌==◌, ◌++◌, ◌∷◌, [], length, min, take, take_while, drop, All};
 ghost use Rattle.std.specs.Fmt.{decimal, signed_decimal};
-ghost use Rattle.rows_times.specs.TimeTexts.{padded_decimal};
+ghost use Rattle.rows_values.specs.TimeTexts.{padded_decimal};
 
 use itoa::write_digits;
 

@@ -1,7 +1,7 @@
 //! Dates and times of day.
 
 ghost use Rattle.std.specs.Prelude.{◌≡◌, ◌≤◌, ◌<◌, ◌+◌, ◌++◌, length, take};
-ghost use Rattle.rows_times.specs.TimeTexts.{padded_decimal};
+ghost use Rattle.rows_values.specs.TimeTexts.{padded_decimal};
 ghost use Rattle.feed_writers.specs.TimesOfDay.{clock_text, day_text};
 
 use crate::digits::{put_byte, put_bytes, put_four, put_padded, put_six, put_two};

@@ -12,7 +12,7 @@ use Rattle.wire_buf.specs.Numbers.{IsLittle}
 use Rattle.wire_buf.specs.Writing.{concat_some, both_encoded}
 use Rattle.wire_buf.proofs.LenencLemmas.{little_bytes-sound}
 use Rattle.wire_buf.proofs.WritingLemmas.{AreBytes-prefix, AreBytes-suffix}
-use Rattle.wire_ints.specs.Ints.{little_encoded}
+use Rattle.wire_forms.specs.Ints.{little_encoded}
 use Rattle.rows_meta.specs.TableMaps.{little_endian}
 use Rattle.events_frames.specs.Headers.{Header, IsEventHeader, header_encoded}
 use Rattle.events_frames.specs.Footers.{Footer}

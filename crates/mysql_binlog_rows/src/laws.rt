@@ -13,11 +13,6 @@ pub use rows_cells::laws::{
 pub use rows_consts::laws::{
     numbers_are_distinct, orders_are_of_numbers, transaction_numbers, worked_numbers,
 };
-pub use rows_decimal::laws::{
-    named_numbers, numbers_in_order, only_zero_groups_are_dropped, packed_bytes_are_read_back,
-    packed_bytes_are_uniquely_read, packed_bytes_are_unpacked, texts_are_parsed_back,
-    worked_decimals, worked_unpacking,
-};
 pub use rows_events::laws::{equal_events_say_the_same, events_are_written_whole};
 pub use rows_jsonb::laws::{
     diffs_are_read, lists_of_diffs_are_read, worked_budget, worked_depth, worked_objects,
@@ -27,10 +22,12 @@ pub use rows_meta::laws::{
     entries_are_read, equal_fields_are_the_same, equal_maps_have_equal_contents, lists_are_read,
     maps_are_written_completely,
 };
-pub use rows_times::laws::{packed_fields_are_read_back, times_by_cases, worked_time};
 pub use rows_values::laws::{
     equal_bits_are_the_same, equal_columns_and_times_are_the_same, equal_rows_are_the_same,
-    equal_values_are_the_same, worked_bits, worked_time_values,
+    equal_values_are_the_same, named_numbers, numbers_in_order, only_zero_groups_are_dropped,
+    packed_bytes_are_read_back, packed_bytes_are_uniquely_read, packed_bytes_are_unpacked,
+    packed_fields_are_read_back, texts_are_parsed_back, times_by_cases, worked_bits,
+    worked_decimals, worked_time, worked_time_values, worked_unpacking,
 };
 
 /// A plan that was made of a table map has all that rows need of the map: `rows_by` with the plan gives what `rows` gives with the

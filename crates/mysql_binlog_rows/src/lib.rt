@@ -1,11 +1,10 @@
 //! The rows of MySQL's binary logs: their constants; the times, decimals and values in their cells; columns and bits; table maps
 //! and rows events.
 //!
-//! Each part is a crate, which is re-exported completely: `rows_consts` has the constants and flags, `rows_times` the errors of rows
-//! and packed times, `rows_values` values, columns, rows and bits, `rows_decimal` decimals, `rows_jsonb` JSON documents, whose
-//! values are `jsonb::Value`, `rows_cells` the cells of columns, the images of rows, and rows, `rows_meta` table maps and their
-//! optional metadata, and `rows_events` rows events, the plan of a table's columns, and owned rows. The parts use those of
-//! `mysql_wire`.
+//! Each part is a crate, which is re-exported completely: `rows_consts` has the constants and flags, `rows_values` the errors of
+//! rows, packed times, decimals, plain values, columns, rows and bits, `rows_jsonb` JSON documents, whose values are
+//! `jsonb::Value`, `rows_cells` the cells of columns, the images of rows, and rows, `rows_meta` table maps and their optional
+//! metadata, and `rows_events` rows events, the plan of a table's columns, and owned rows. The parts use those of `mysql_wire`.
 #![tactic(auto)]
 
 pub mod laws;
@@ -77,18 +76,6 @@ pub use rows_consts::UnknownTransactionPayloadCompressionType;
 pub use rows_consts::UnknownTransactionPayloadFields;
 pub use rows_consts::UnknownUserVarFlags;
 pub use rows_consts::UserVarFlags;
-pub use rows_decimal::DIG_BASE;
-pub use rows_decimal::DIG_PER_DEC;
-pub use rows_decimal::DIG_TO_BYTES;
-pub use rows_decimal::Decimal;
-pub use rows_decimal::DecimalNumbers;
-pub use rows_decimal::Digit;
-pub use rows_decimal::POWERS_10;
-pub use rows_decimal::ParseDecimalError;
-pub use rows_decimal::decimal_bin_size;
-pub use rows_decimal::decimal_numbers;
-pub use rows_decimal::packs_decimal;
-pub use rows_decimal::put_decimal_text;
 pub use rows_events::BinlogRow;
 pub use rows_events::BinlogRowCtx;
 pub use rows_events::BinlogRowToRowError;
@@ -174,29 +161,41 @@ pub use rows_meta::VectorDimensionalities;
 pub use rows_meta::event_len;
 pub use rows_meta::metadata_len;
 pub use rows_meta::real_type;
-pub use rows_times::DATETIMEF_INT_OFS;
-pub use rows_times::JsonbError;
-pub use rows_times::MysqlTime;
-pub use rows_times::MysqlTimestampType;
-pub use rows_times::RowsError;
-pub use rows_times::TIMEF_INT_OFS;
-pub use rows_times::TIMEF_OFS;
-pub use rows_times::datetime_of;
-pub use rows_times::fraction_size;
-pub use rows_times::my_datetime_packed_from_binary;
-pub use rows_times::my_packed_time_get_frac_part;
-pub use rows_times::my_packed_time_get_int_part;
-pub use rows_times::my_packed_time_make;
-pub use rows_times::my_packed_time_make_int;
-pub use rows_times::my_time_packed_from_binary;
-pub use rows_times::my_timestamp_from_binary;
-pub use rows_times::time_of;
-pub use rows_times::timestamp_of;
 pub use rows_values::Bits;
 pub use rows_values::BitsIter;
 pub use rows_values::Column;
+pub use rows_values::DATETIMEF_INT_OFS;
+pub use rows_values::DIG_BASE;
+pub use rows_values::DIG_PER_DEC;
+pub use rows_values::DIG_TO_BYTES;
+pub use rows_values::Decimal;
+pub use rows_values::DecimalNumbers;
+pub use rows_values::Digit;
+pub use rows_values::JsonbError;
+pub use rows_values::MysqlTime;
+pub use rows_values::MysqlTimestampType;
+pub use rows_values::POWERS_10;
+pub use rows_values::ParseDecimalError;
 pub use rows_values::Row;
+pub use rows_values::RowsError;
+pub use rows_values::TIMEF_INT_OFS;
+pub use rows_values::TIMEF_OFS;
 pub use rows_values::Value;
 pub use rows_values::datetime_from_packed;
+pub use rows_values::datetime_of;
+pub use rows_values::decimal_bin_size;
+pub use rows_values::decimal_numbers;
+pub use rows_values::fraction_size;
+pub use rows_values::my_datetime_packed_from_binary;
+pub use rows_values::my_packed_time_get_frac_part;
+pub use rows_values::my_packed_time_get_int_part;
+pub use rows_values::my_packed_time_make;
+pub use rows_values::my_packed_time_make_int;
+pub use rows_values::my_time_packed_from_binary;
+pub use rows_values::my_timestamp_from_binary;
 pub use rows_values::new_row_raw;
+pub use rows_values::packs_decimal;
+pub use rows_values::put_decimal_text;
 pub use rows_values::time_from_packed;
+pub use rows_values::time_of;
+pub use rows_values::timestamp_of;

@@ -2,8 +2,7 @@
 
 use crate::words::{Fault, byte_of, bytes_of, done, put_bytes, put_error, put_rest, put_text};
 use feed_text::put_decimal;
-use rows_decimal::{Decimal, ParseDecimalError, decimal_numbers, put_decimal_text};
-use rows_times::RowsError;
+use rows_values::{Decimal, ParseDecimalError, RowsError, decimal_numbers, put_decimal_text};
 use std::alloc::Global;
 use std::io::Write;
 use std::str;

@@ -6,7 +6,7 @@ use rows_meta::{
     EnumsStrValues, GeometryTypes, NonDefaultCharset, PrimaryKeyWithPrefix, PrimaryKeysWithPrefix,
     SetStrValue, SetStrValues, SetsStrValues, SimplePrimaryKey, VectorDimensionalities,
 };
-use rows_times::RowsError;
+use rows_values::RowsError;
 use std::alloc::Global;
 use wire_buf::{MyDeserialize, MySerialize, ParseBuf};
 

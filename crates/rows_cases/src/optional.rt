@@ -9,8 +9,7 @@ use rows_meta::{
     OptionalMetadataField as Field, OptionalMetadataIter, PrimaryKeysWithPrefix, SimplePrimaryKey,
     StrValues, VectorDimensionalities,
 };
-use rows_times::RowsError;
-use rows_values::Bits;
+use rows_values::{Bits, RowsError};
 use std::alloc::Global;
 use std::io::Write;
 

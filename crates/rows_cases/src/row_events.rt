@@ -5,8 +5,7 @@ use crate::words::{
     Fault, bytes_of, done, put_bits, put_bytes, put_number, put_text, put_written, small_len_of,
 };
 use rows_events::{RowsEvent, RowsEventType};
-use rows_times::RowsError;
-use rows_values::Bits;
+use rows_values::{Bits, RowsError};
 use std::alloc::Global;
 use std::io::Write;
 use wire_buf::MySerialize;

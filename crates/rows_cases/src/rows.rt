@@ -5,8 +5,7 @@ use crate::words::{Fault, put_error};
 use feed_text::{TextBuffer, put_cell, put_cell_ref};
 use rows_cells::{ImageCells, ImagePlan, RowPart, RowPlan, RowsCursor};
 use rows_events::{BinlogRow, BinlogRowCtx, ColumnPlan, EventColumns, RowsEvent, RowsEventRows};
-use rows_times::RowsError;
-use rows_values::Bits;
+use rows_values::{Bits, RowsError};
 use std::alloc::Global;
 use wire_buf::ParseBuf;
 

@@ -8,8 +8,7 @@ use crate::words::{
 use feed_text::quote;
 use rows_events::{ColumnPlan, RowsEvent};
 use rows_meta::TableMapEvent;
-use rows_times::RowsError;
-use rows_values::Column;
+use rows_values::{Column, RowsError};
 use std::alloc::Global;
 use std::io::Write;
 use wire_buf::{MySerialize, ParseBuf};

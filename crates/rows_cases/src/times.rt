@@ -2,10 +2,10 @@
 
 use crate::words::{Fault, byte_of, bytes_of, done, put_rest};
 use feed_text::put_value;
-use rows_times::{
-    MysqlTime, my_datetime_packed_from_binary, my_time_packed_from_binary, my_timestamp_from_binary,
+use rows_values::{
+    MysqlTime, datetime_from_packed, my_datetime_packed_from_binary, my_time_packed_from_binary,
+    my_timestamp_from_binary, time_from_packed,
 };
-use rows_values::{datetime_from_packed, time_from_packed};
 use std::alloc::Global;
 use std::io::Write;
 

@@ -1,9 +1,7 @@
 //! The words of a case, the words of a result, and the names of errors.
 
 use feed_text::quote;
-use rows_decimal::ParseDecimalError;
-use rows_times::RowsError;
-use rows_values::Bits;
+use rows_values::{Bits, ParseDecimalError, RowsError};
 use std::alloc::{AllocError, AllocFailed, Global};
 use std::borrow::CowStr;
 use std::io::{self, Write};

@@ -7,7 +7,7 @@ use Rattle.wire_buf.specs.Encoding.{Begins, Alone}
 use Rattle.wire_buf.specs.Numbers.{IsLenenc}
 use Rattle.wire_buf.specs.LenencSplit.{split_lenenc}
 use Rattle.wire_buf.proofs.LenencLemmas.{split_lenenc-complete, split_lenenc-sound}
-use Rattle.rows_times.specs.Readings.{Reading}
+use Rattle.rows_values.specs.Readings.{Reading}
 use Rattle.rows_cells.specs.declared.image.ImageColumn.{ImageColumn}
 use Rattle.rows_cells.specs.Fields.{at_width}
 use Rattle.rows_cells.specs.Images.{bit, format_in, ColumnValue, ImageShape, IsShared, nothing, whole, partial, AreCells, IsImage, cells_at, lenenc_error, lenenc_of, lenenc_at, bits_at, shared_at, image_at}

@@ -2,9 +2,9 @@
 use Rattle.std.specs.Prelude.{◌≡◌, ⊤, ℕ, ◌+◌, List, [], map, Option, Some, None, IsSome, IsOk}
 use Rattle.std.specs.declared.result.Result.TheVariants.{Ok, Err}
 use Rattle.std.specs.Fmt.{decimal}
-use Rattle.rows_decimal.specs.Unpacked.{packed_text}
-use Rattle.rows_times.specs.declared.fault.RowsError.{RowsError}
-use Rattle.rows_times.specs.declared.fault.RowsError.TheVariants.{Decimal as BadDecimal}
+use Rattle.rows_values.specs.Unpacked.{packed_text}
+use Rattle.rows_values.specs.declared.fault.RowsError.{RowsError}
+use Rattle.rows_values.specs.declared.fault.RowsError.TheVariants.{Decimal as BadDecimal}
 use Rattle.rows_values.specs.declared.rows.value.Value.{Value}
 use Rattle.rows_values.specs.declared.rows.value.Value.TheVariants as value
 use Rattle.rows_jsonb.specs.JsonbValues.{document}

@@ -1,8 +1,8 @@
 -- Rows (MySQL Internals: Rows_event): the images of a row (before the change, after it, or both), and consecutive rows up to the end of the rows data.
 use Rattle.std.specs.Prelude.{◌≡◌, ◌<◌, ℕ, List, [], ◌∷◌, ◌++◌, length, nat_lt, if◌then◌else◌}
 use Rattle.std.specs.declared.result.Result.TheVariants.{Ok, Err}
-use Rattle.rows_times.specs.declared.fault.RowsError.TheVariants.{EmptyPair}
-use Rattle.rows_times.specs.Readings.{Reading, ◌>>=◌}
+use Rattle.rows_values.specs.declared.fault.RowsError.TheVariants.{EmptyPair}
+use Rattle.rows_values.specs.Readings.{Reading, ◌>>=◌}
 use Rattle.rows_cells.specs.Images.{ColumnValue, ImageShape, IsImage, image_at}
 
 -- consecutive images of these shapes

@@ -2,8 +2,8 @@
 use Rattle.std.specs.Prelude.{◌≡◌, ◌<◌, ℕ, suc, ◌-◌, length, slice_index_or, List, [], ◌∷◌, drop, Option, Some, None}
 use Rattle.std.specs.declared.result.Result.{Result}
 use Rattle.std.specs.declared.result.Result.TheVariants.{Ok, Err}
-use Rattle.rows_times.specs.declared.fault.RowsError.{RowsError}
-use Rattle.rows_times.specs.Readings.{Reading, ◌>>=◌}
+use Rattle.rows_values.specs.declared.fault.RowsError.{RowsError}
+use Rattle.rows_values.specs.Readings.{Reading, ◌>>=◌}
 use Rattle.rows_cells.specs.declared.cell.CellRef.{CellRef}
 use Rattle.rows_cells.specs.declared.format.Width.TheVariants.{One}
 use Rattle.rows_cells.specs.declared.format.CellFormat.TheVariants.{Signed}

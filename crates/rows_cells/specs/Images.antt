@@ -3,9 +3,9 @@ use Rattle.std.specs.Prelude.{◌≡◌, ℕ, ◌+◌, ◌/◌, ◌%◌, ◌^◌
 use Rattle.std.specs.declared.result.Result.TheVariants.{Ok, Err}
 use Rattle.wire_buf.specs.Numbers.{IsLenenc}
 use Rattle.wire_buf.specs.LenencSplit.{split_lenenc}
-use Rattle.rows_times.specs.declared.fault.RowsError.{RowsError}
-use Rattle.rows_times.specs.declared.fault.RowsError.TheVariants.{EndOfBody, UnknownNumber}
-use Rattle.rows_times.specs.Readings.{Reading, ◌>>=◌}
+use Rattle.rows_values.specs.declared.fault.RowsError.{RowsError}
+use Rattle.rows_values.specs.declared.fault.RowsError.TheVariants.{EndOfBody, UnknownNumber}
+use Rattle.rows_values.specs.Readings.{Reading, ◌>>=◌}
 use Rattle.rows_cells.specs.declared.format.CellFormat.{CellFormat}
 use Rattle.rows_cells.specs.declared.format.CellFormat.TheVariants as format
 use Rattle.rows_cells.specs.declared.image.ImageColumn.{ImageColumn}

@@ -1,7 +1,7 @@
 //! The image of a row: its null bits and its cells, read one at a time.
 
 ghost use Rattle.std.specs.Prelude.{◌≡◌, ◌≤◌, ◌<◌, ◌*◌, ℕ, List, length, IfOk};
-ghost use Rattle.rows_times.specs.Readings.{map_reading};
+ghost use Rattle.rows_values.specs.Readings.{map_reading};
 ghost use Rattle.rows_cells.specs.CellViews.{cell_value, IsReadable};
 ghost use Rattle.rows_cells.specs.Images.{bit, format_in, field_at, lenenc_error as fault_of_lenenc, lenenc_at, shared_at};
 
@@ -9,7 +9,7 @@ use crate::cell::CellRef;
 use crate::cell_reading::read_cell;
 use crate::fields::split_prefix;
 use crate::format::CellFormat;
-use rows_times::RowsError;
+use rows_values::RowsError;
 use wire_buf::ParseBuf;
 
 /// A column in an image.

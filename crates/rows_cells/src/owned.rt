@@ -2,19 +2,17 @@
 
 ghost use Rattle.std.specs.Prelude.{◌≡◌, ◌≤◌, ◌+◌, ◌++◌, ◌⊎◌, IfOk, IfErr, OnOk, Some, None};
 ghost use Rattle.std.specs.Fmt.{decimal};
-ghost use Rattle.rows_times.specs.TimeTexts.{padded_decimal};
-ghost use Rattle.rows_decimal.specs.Unpacked.{packed_text};
+ghost use Rattle.rows_values.specs.TimeTexts.{padded_decimal};
+ghost use Rattle.rows_values.specs.Unpacked.{packed_text};
 ghost use Rattle.rows_cells.specs.CellValues.{new_date as new_date_value, old_time as old_time_value, old_datetime as old_datetime_value, timestamp_text as timestamp_text_of, cell_micros_text};
 ghost use Rattle.rows_cells.specs.CellViews.{cell_value, cell_value_of, Holds, HasNoValue, IsReadable};
-ghost use Rattle.rows_times.specs.declared.fault.RowsError.TheVariants.{Memory, Decimal as BadDecimal};
+ghost use Rattle.rows_values.specs.declared.fault.RowsError.TheVariants.{Memory, Decimal as BadDecimal};
 
 use crate::binlog_value::BinlogValue;
 use crate::cell::CellRef;
 use itoa::Buffer;
-use rows_decimal::put_decimal_text;
 use rows_jsonb::{Value as JsonbValue, json_diffs};
-use rows_times::RowsError;
-use rows_values::{Value, datetime_from_packed, time_from_packed};
+use rows_values::{RowsError, Value, datetime_from_packed, put_decimal_text, time_from_packed};
 use std::alloc::{AllocError, Global};
 use wire_buf::ParseBuf;
 
@@ -137,7 +135,7 @@ fn append_micros(micros: i32, text: &mut Vec<u8>) -> Result<(), AllocError>
 }
 
 /// Appends a number, padded with zeros to a minimum width.
-#[tactic(auto, unfolding(rows_times::specs::TimeTexts::padded_decimal))]
+#[tactic(auto, unfolding(rows_values::specs::TimeTexts::padded_decimal))]
 fn append_padded(width: usize, number: u32, text: &mut Vec<u8>) -> Result<(), AllocError>
     requires { width ≤ 20 }
     ensures { OnOk result (text.new.items ≡ text.old.items ++ padded_decimal width number) }

@@ -5,7 +5,7 @@ ghost use Rattle.rows_cells.specs.declared.rows.Stage.TheVariants.{Start, First}
 
 use crate::cell::CellRef;
 use crate::image::{ImageCells, ImagePlan};
-use rows_times::RowsError;
+use rows_values::RowsError;
 
 /// The layout of an event's rows: the image before the change, the one after it, or both.
 #[derive(Clone, Copy, Debug)]

@@ -4,7 +4,7 @@ use Rattle.std.proofs.lemmas.List.{length-append}
 use Rattle.wire_buf.specs.Encoding.{Begins, Reads, Lacks, Alone, Both, IsBytes}
 use Rattle.wire_buf.specs.Writing.{WritesField, concat_some}
 use Rattle.wire_buf.proofs.EncodingLemmas.{Reads-led, Lacks-led_head, Lacks-led_tail}
-use Rattle.wire_ints.specs.Ints.{little_encoded}
+use Rattle.wire_forms.specs.Ints.{little_encoded}
 use Rattle.rows_meta.specs.TableMaps.{little_endian, plain_bytes}
 use Rattle.rows_events.specs.Fields.{IsMaybe, IsExtra, extra_encoded}
 

@@ -6,9 +6,9 @@ use Rattle.std.specs.Rc.{rc_slice_items}
 use Rattle.std.specs.declared.result.Result.{Result}
 use Rattle.rows_values.specs.Columns.{parts_of}
 use Rattle.rows_values.specs.declared.rows.column.Column.{Column}
-use Rattle.rows_times.specs.declared.fault.RowsError.{RowsError}
-use Rattle.rows_times.specs.declared.fault.RowsError.TheVariants.{Memory}
-use Rattle.rows_times.specs.Readings.{Reading, ◌>>=◌}
+use Rattle.rows_values.specs.declared.fault.RowsError.{RowsError}
+use Rattle.rows_values.specs.declared.fault.RowsError.TheVariants.{Memory}
+use Rattle.rows_values.specs.Readings.{Reading, ◌>>=◌}
 use Rattle.rows_cells.specs.Images.{ColumnValue, ImageShape}
 use Rattle.rows_cells.specs.declared.image.ImageColumn.{ImageColumn}
 use Rattle.rows_cells.specs.EventRows.{images_at, row_at}

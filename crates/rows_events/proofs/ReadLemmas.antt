@@ -1,8 +1,8 @@
 -- The values of an image, in order.
 use Rattle.std.proofs.Common.{◌≡◌, ℕ, List, [], ◌∷◌, ◌++◌, Option, Some, Ok, Err, refl, sym, ap, ◌∙◌, append_assoc}
 use Rattle.std.specs.List.{AllZip}
-use Rattle.rows_times.specs.declared.fault.RowsError.{RowsError}
-use Rattle.rows_times.specs.Readings.{Reading, ◌>>=◌}
+use Rattle.rows_values.specs.declared.fault.RowsError.{RowsError}
+use Rattle.rows_values.specs.Readings.{Reading, ◌>>=◌}
 use Rattle.rows_cells.specs.CellViews.{cell_value, Holds}
 use Rattle.rows_cells.specs.Images.{ColumnValue}
 use Rattle.rows_cells.specs.ImageViews.{remaining_cells}

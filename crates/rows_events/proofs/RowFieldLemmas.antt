@@ -9,9 +9,9 @@ use Rattle.wire_buf.specs.Encoding.{Begins, Lacks, Reads, Alone}
 use Rattle.rows_values.specs.BitLists.{len_of, bit_at}
 use Rattle.rows_values.specs.Columns.{ColumnParts, parts_of}
 use Rattle.rows_values.specs.declared.rows.column.Column.{Column}
-use Rattle.rows_times.specs.declared.fault.RowsError.{RowsError}
-use Rattle.rows_times.specs.declared.fault.RowsError.TheVariants.{Metadata, Memory}
-use Rattle.rows_times.specs.Readings.{Reading}
+use Rattle.rows_values.specs.declared.fault.RowsError.{RowsError}
+use Rattle.rows_values.specs.declared.fault.RowsError.TheVariants.{Metadata, Memory}
+use Rattle.rows_values.specs.Readings.{Reading}
 use Rattle.rows_cells.specs.BinlogValues.{Kept, kept_view}
 use Rattle.rows_cells.specs.Images.{ColumnValue, ImageShape, IsImage, image_at}
 use Rattle.rows_cells.specs.declared.binlog_value.BinlogValue.{BinlogValue}

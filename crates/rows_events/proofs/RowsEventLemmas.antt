@@ -7,7 +7,7 @@ use Rattle.rows_meta.specs.TableMaps.{plain_bytes}
 use Rattle.wire_buf.specs.declared.fault.WireFault.{WireFault}
 use Rattle.wire_buf.specs.declared.fault.WireFault.TheVariants.{Eof, Memory}
 use Rattle.wire_buf.proofs.EncodingLemmas.{Reads-led, Reads-both, Lacks-both, Lacks-both_first, Lacks-led_head, Lacks-led_tail}
-use Rattle.wire_ints.specs.Faults.{lenenc_fault}
+use Rattle.wire_forms.specs.Faults.{lenenc_fault}
 use Rattle.rows_events.specs.Fields.{OptionalFails}
 use Rattle.rows_events.specs.RowsEvents.{RowsBody, IsRowsHead, IsRows, IsRowsEvent, IsMissing, RowsEventFails}
 use Rattle.rows_events.specs.declared.rows_event_type.RowsEventType.{RowsEventType}

@@ -4,7 +4,7 @@ use Rattle.std.specs.Prelude.{filter, nat_lt, IfOk}
 use Rattle.std.specs.declared.result.Result.{Result}
 use Rattle.rows_values.specs.BitLists.{bit_of, bit_at, len_of, lowest_bit}
 use Rattle.rows_values.specs.declared.bits.Bits.{Bits}
-use Rattle.rows_times.specs.Readings.{Reading, ◌>>=◌}
+use Rattle.rows_values.specs.Readings.{Reading, ◌>>=◌}
 use Rattle.rows_cells.specs.Images.{ImageShape}
 use Rattle.rows_cells.specs.declared.image.ImageColumn.{ImageColumn}
 use Rattle.rows_events.specs.Plans.{PlannedColumn}

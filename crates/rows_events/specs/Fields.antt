@@ -2,7 +2,7 @@
 use Rattle.std.specs.Prelude.{◌≡◌, ℕ, ◌+◌, ◌-◌, List, [], length, Bool, Option, Some, None, if◌then◌else◌}
 use Rattle.wire_buf.specs.Encoding.{Encoding, ◌⨾◌}
 use Rattle.wire_buf.specs.Writing.{concat_some}
-use Rattle.wire_ints.specs.Ints.{little_encoded}
+use Rattle.wire_forms.specs.Ints.{little_encoded}
 use Rattle.rows_meta.specs.TableMaps.{little_endian, plain_bytes}
 
 -- the value, if the condition holds

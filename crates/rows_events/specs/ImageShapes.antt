@@ -1,7 +1,7 @@
 -- The layout of row images by the plan of their table: the columns in each, and the formats of their cells.
 use Rattle.std.specs.Prelude.{ℕ, Bool, List, [], Option, Some, None, if◌then◌else◌}
 use Rattle.std.specs.declared.result.Result.TheVariants.{Ok}
-use Rattle.rows_times.specs.Readings.{Reading, ◌>>=◌}
+use Rattle.rows_values.specs.Readings.{Reading, ◌>>=◌}
 use Rattle.rows_cells.specs.Images.{ImageShape}
 use Rattle.rows_meta.specs.MapViews.{map_of}
 use Rattle.rows_meta.specs.declared.table_map.TableMapEvent.{TableMapEvent}

@@ -6,8 +6,8 @@ use Rattle.wire_consts.specs.ColumnTypes.{is_numeric, is_character, is_enum_or_s
 use Rattle.wire_consts.specs.declared.column_type.ColumnType.{ColumnType}
 use Rattle.wire_consts.specs.declared.column_type.ColumnType.TheVariants.{MYSQL_TYPE_JSON}
 use Rattle.rows_values.specs.BitLists.{count_below}
-use Rattle.rows_times.specs.declared.fault.RowsError.TheVariants.{Metadata, Cell}
-use Rattle.rows_times.specs.Readings.{Reading, ◌>>=◌}
+use Rattle.rows_values.specs.declared.fault.RowsError.TheVariants.{Metadata, Cell}
+use Rattle.rows_values.specs.Readings.{Reading, ◌>>=◌}
 use Rattle.rows_cells.specs.ColumnFormats.{column_format}
 use Rattle.rows_cells.specs.declared.image.ImageColumn.{ImageColumn}
 use Rattle.rows_meta.specs.ColumnMetadata.{ColumnMeta}

@@ -3,7 +3,7 @@ use Rattle.std.specs.Prelude.{◌≡◌, ℕ, List, [], ◌∷◌, map, Option, 
 use Rattle.std.specs.List.{AllZip}
 use Rattle.std.specs.declared.result.Result.TheVariants.{Ok}
 use Rattle.rows_values.specs.Columns.{parts_of}
-use Rattle.rows_times.specs.Readings.{Reading}
+use Rattle.rows_values.specs.Readings.{Reading}
 use Rattle.rows_cells.specs.Images.{ColumnValue}
 use Rattle.rows_cells.specs.declared.image.ImageColumn.{ImageColumn}
 use Rattle.rows_meta.specs.MapViews.{map_of}

@@ -6,8 +6,8 @@ use Rattle.wire_buf.specs.Writing.{concat_some}
 use Rattle.wire_buf.specs.Numbers.{IsLenenc, lenenc_encoded}
 use Rattle.wire_buf.specs.declared.fault.WireFault.{WireFault}
 use Rattle.wire_buf.specs.declared.fault.WireFault.TheVariants.{Eof}
-use Rattle.wire_ints.specs.Ints.{little_encoded}
-use Rattle.wire_ints.specs.Faults.{lenenc_fault}
+use Rattle.wire_forms.specs.Ints.{little_encoded}
+use Rattle.wire_forms.specs.Faults.{lenenc_fault}
 use Rattle.wire_forms.specs.Texts.{IsAll}
 use Rattle.rows_meta.specs.TableMaps.{little_endian, plain_bytes, id_width}
 use Rattle.rows_events.specs.Fields.{IsMaybe, IsExtra, only_if, extra_encoded, optional_encoded}

@@ -1,7 +1,7 @@
 //! The columns of the images in an event's rows.
 
 ghost use Rattle.std.specs.Prelude.{◌≡◌, ◌⊎◌, ◌∷◌, [], IfOk, IfErr, OnErr, Ok, Err};
-ghost use Rattle.rows_times.specs.declared.fault.RowsError.TheVariants.{Memory};
+ghost use Rattle.rows_values.specs.declared.fault.RowsError.TheVariants.{Memory};
 ghost use Rattle.rows_cells.specs.RowViews.{row_shape, IsBetweenRows};
 ghost use Rattle.rows_events.specs.ImageShapes.{table_plan, no_columns};
 ghost use Rattle.rows_events.specs.EventShapes.{event_shapes};
@@ -11,7 +11,7 @@ ghost use Rattle.rows_events.specs.Views.{body_of};
 use crate::rows_event::RowsEvent;
 use crate::{ColumnPlan, ImageColumns};
 use rows_cells::{RowPlan, RowsCursor};
-use rows_times::RowsError;
+use rows_values::RowsError;
 use std::alloc::Global;
 
 /// The columns of a rows event's images. It keeps its memory from event to event.

@@ -1,7 +1,7 @@
 //! Reading an event's images into owned rows.
 
 ghost use Rattle.std.specs.Prelude.{◌≡◌, ◌⊎◌, ◌<◌, length, IfOk, IfErr, Err};
-ghost use Rattle.rows_times.specs.declared.fault.RowsError.TheVariants.{Memory};
+ghost use Rattle.rows_values.specs.declared.fault.RowsError.TheVariants.{Memory};
 ghost use Rattle.rows_cells.specs.EventRows.{images_at, row_at};
 ghost use Rattle.rows_events.specs.ImageShapes.{table_plan};
 ghost use Rattle.rows_events.specs.EventShapes.{event_shapes};
@@ -11,7 +11,7 @@ ghost use Rattle.rows_events.specs.Views.{body_of};
 
 use crate::rows_event::RowsEvent;
 use crate::{BinlogRow, ColumnPlan, RowImage};
-use rows_times::RowsError;
+use rows_values::RowsError;
 use std::alloc::Global;
 
 /// A row before the change and after it, as far as the event has them.

@@ -8,8 +8,7 @@ ghost use Rattle.rows_events.specs.Fields.{IsExtra, extra_encoded};
 
 use std::alloc::{Allocator, Global};
 use wire_buf::{AnySize, Inner, MyDeserialize, MySerialize, ParseBuf, WireFault};
-use wire_forms::{BareBytes, RawBytes};
-use wire_ints::{LeU16, RawInt};
+use wire_forms::{BareBytes, LeU16, RawBytes, RawInt};
 
 /// Extra data: its size in two bytes, which counts these two, and the data. A size below 2 means no data. MySQL Internals:
 /// Rows_event.

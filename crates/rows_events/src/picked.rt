@@ -3,8 +3,8 @@
 ghost use Rattle.std.specs.Prelude.{◌≡◌, ◌⊎◌, ◌++◌, ◌∷◌, decimal, ℕ, IfOk, IfErr, Ok, Err, [], map, option_map};
 ghost use Rattle.rows_values.specs.BitLists.{len_of, bit_at};
 ghost use Rattle.rows_values.specs.Columns.{parts_of};
-ghost use Rattle.rows_times.specs.declared.fault.RowsError.TheVariants.{Memory};
-ghost use Rattle.rows_times.specs.Readings.{map_reading};
+ghost use Rattle.rows_values.specs.declared.fault.RowsError.TheVariants.{Memory};
+ghost use Rattle.rows_values.specs.Readings.{map_reading};
 ghost use Rattle.rows_meta.specs.MetadataViews.{name_view};
 ghost use Rattle.rows_events.specs.Plans.{name_or_index};
 ghost use Rattle.rows_events.specs.PickedColumns.{bit_is_set, image_column, picked, picked_as, appended, column_flags, definition as definition_of};
@@ -16,8 +16,7 @@ use bitflags::Flags;
 use itoa::Buffer;
 use rows_cells::ImageColumn;
 use rows_meta::ColumnName;
-use rows_times::RowsError;
-use rows_values::{Bits, Column};
+use rows_values::{Bits, Column, RowsError};
 use std::alloc::{AllocError, Global};
 use wire_consts::ColumnFlags;
 

@@ -5,7 +5,7 @@ ghost use Rattle.std.specs.List.{AllZip};
 ghost use Rattle.std.specs.Rc.{rc_slice_items};
 ghost use Rattle.rows_values.specs.BitLists.{len_of, bit_at};
 ghost use Rattle.rows_values.specs.Columns.{parts_of};
-ghost use Rattle.rows_times.specs.declared.fault.RowsError.TheVariants.{Memory};
+ghost use Rattle.rows_values.specs.declared.fault.RowsError.TheVariants.{Memory};
 ghost use Rattle.rows_cells.specs.CellViews.{cell_value, Holds, IsReadable};
 ghost use Rattle.rows_cells.specs.Images.{image_at};
 ghost use Rattle.rows_cells.specs.ImageViews.{image_shape, remaining_cells, cells_count};
@@ -18,8 +18,7 @@ use crate::binlog_row::BinlogRow;
 use crate::image_columns::ImageColumns;
 use crate::plan::ColumnPlan;
 use rows_cells::{BinlogValue, CellRef, ImageCells, ImageColumn, ImagePlan};
-use rows_times::RowsError;
-use rows_values::{Bits, Column};
+use rows_values::{Bits, Column, RowsError};
 use std::alloc::Global;
 use std::rc::RcSlice;
 

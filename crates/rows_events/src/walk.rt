@@ -13,7 +13,7 @@ use rows_cells::{CellFormat, ImageColumn};
 use rows_meta::{
     IterCharset, IterColumns, IterNames, IterPrimaryKey, IterSignedness, OptionalMetaExtractor,
 };
-use rows_times::RowsError;
+use rows_values::RowsError;
 use wire_consts::ColumnType;
 
 /// The remaining columns, and the remaining entries of the optional metadata for them.

@@ -3,9 +3,9 @@
 
 ghost use Rattle.std.specs.Prelude.{◌≡◌, ◌+◌, OnOk, OnErr, IfErr, string_cmp};
 ghost use Rattle.std.specs.BTreeMap.{insert_entry};
-ghost use Rattle.rows_times.specs.declared.fault.RowsError.TheVariants.{Jsonb, Memory};
+ghost use Rattle.rows_values.specs.declared.fault.RowsError.TheVariants.{Jsonb, Memory};
 
-use rows_times::RowsError;
+use rows_values::RowsError;
 use std::collections::BTreeMap;
 
 /// Sets the member with this key of an object; the value of an equal key is replaced. The error is `Memory`.

@@ -3,14 +3,14 @@ use Rattle.std.specs.Prelude.{ℕ, zero, suc, ◌+◌, if◌then◌else◌, nat_
 use Rattle.std.specs.declared.result.Result.TheVariants.{Ok, Err}
 use Rattle.std.specs.Str.{is_utf8}
 use Rattle.wire_buf.specs.Numbers.{little_signed}
-use Rattle.rows_decimal.specs.Decimals.{DecimalParts}
-use Rattle.rows_decimal.specs.Unpacked.{packed_value, normalized_of}
-use Rattle.rows_times.specs.TimeFields.{span_fields, date_fields}
-use Rattle.rows_times.specs.declared.times.mysql_time.MysqlTime.{MysqlTime}
-use Rattle.rows_times.specs.declared.times.mysql_time.MysqlTimestampType.TheVariants.{MYSQL_TIMESTAMP_DATE, MYSQL_TIMESTAMP_DATETIME}
+use Rattle.rows_values.specs.Decimals.{DecimalParts}
+use Rattle.rows_values.specs.Unpacked.{packed_value, normalized_of}
+use Rattle.rows_values.specs.TimeFields.{span_fields, date_fields}
+use Rattle.rows_values.specs.declared.times.mysql_time.MysqlTime.{MysqlTime}
+use Rattle.rows_values.specs.declared.times.mysql_time.MysqlTimestampType.TheVariants.{MYSQL_TIMESTAMP_DATE, MYSQL_TIMESTAMP_DATETIME}
 use Rattle.rows_jsonb.specs.JsonbLayout.{ContainerFormat}
 use Rattle.rows_jsonb.specs.JsonbValues.{JsonbValue, null, boolean, i16, u16, i32, u32, i64, u64, double, text, opaque, container, malformed, document, elem, key}
-use Rattle.rows_times.specs.Readings.{Reading, ◌>>=◌}
+use Rattle.rows_values.specs.Readings.{Reading, ◌>>=◌}
 use Rattle.rows_jsonb.specs.JsonTrees as tree
 use Rattle.rows_jsonb.specs.JsonTrees.{Tree, scalar, array, object, Items, no_items, item, Members, no_members, member, put}
 

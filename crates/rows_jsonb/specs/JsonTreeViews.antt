@@ -2,7 +2,7 @@
 use Rattle.std.specs.Prelude.{List, [], ◌∷◌, map, String, string_bytes}
 use Rattle.std.specs.declared.alloc.Global.{Global}
 use Rattle.wire_consts.specs.ColumnTypes.{column_type_number}
-use Rattle.rows_decimal.specs.Decimals.{decimal_parts}
+use Rattle.rows_values.specs.Decimals.{decimal_parts}
 use Rattle.rows_jsonb.specs.JsonTrees as tree
 use Rattle.rows_jsonb.specs.JsonTrees.{Tree, scalar, array, object, Items, no_items, item, Members, no_members, member}
 use Rattle.rows_jsonb.specs.declared.dom.JsonScalar.{JsonScalar}

@@ -1,7 +1,7 @@
 -- JSON documents as trees.
 use Rattle.std.specs.Prelude.{ℕ, ℤ, List, Bool}
-use Rattle.rows_times.specs.declared.times.mysql_time.MysqlTime.{MysqlTime}
-use Rattle.rows_decimal.specs.Decimals.{DecimalParts}
+use Rattle.rows_values.specs.declared.times.mysql_time.MysqlTime.{MysqlTime}
+use Rattle.rows_values.specs.Decimals.{DecimalParts}
 use Rattle.std.specs.Ordering.{nat_cmp, match_ordering}
 use Rattle.std.specs.Cmp.Lexicographic.{slice_cmp}
 

@@ -5,22 +5,21 @@ ghost use Rattle.std.specs.Cow.{cow_str_bytes, IsOwnedSlice};
 ghost use Rattle.std.specs.Str.Lossy.{utf8_lossy};
 ghost use Rattle.wire_consts.specs.Numbering.{IsConstantOf};
 ghost use Rattle.wire_forms.specs.RawTexts.{raw_string};
-ghost use Rattle.rows_times.specs.declared.fault.RowsError.TheVariants.{Memory};
+ghost use Rattle.rows_values.specs.declared.fault.RowsError.TheVariants.{Memory};
 ghost use Rattle.rows_jsonb.specs.JsonDiffs.{json_diff_operation_number, Diff, IsDiff, operation_at, text_at, diff_value_at, diff_at};
 ghost use Rattle.rows_jsonb.specs.Items.{items_at, all_found, after_item, error_of};
 ghost use Rattle.std.specs.Prelude.{map as list_map};
 ghost use Rattle.rows_jsonb.specs.JsonDiffViews.{diff_view};
 ghost use Rattle.rows_jsonb.specs.JsonbViews.{jsonb_value};
-ghost use Rattle.rows_times.specs.Readings.{map_reading};
+ghost use Rattle.rows_values.specs.Readings.{map_reading};
 
 use crate::value::Value;
-use rows_times::RowsError;
+use rows_values::RowsError;
 use std::alloc::{AllocError, Global};
 use std::borrow::{CowSlice, CowStr};
 use thiserror::Error;
 use wire_buf::{AnySize, MyDeserialize, ParseBuf};
-use wire_forms::RawBytes;
-use wire_ints::LenEnc;
+use wire_forms::{LenEnc, RawBytes};
 
 /// What a JSON diff does.
 #[derive(Clone, Copy, Debug, PartialEq, Eq, Hash)]

@@ -4,8 +4,7 @@ ghost use Rattle.std.specs.Prelude.{◌≡◌, Some};
 
 use base64::display::Base64Display;
 use base64::engine::general_purpose::STANDARD;
-use rows_decimal::Decimal;
-use rows_times::MysqlTime;
+use rows_values::{Decimal, MysqlTime};
 use std::collections::BTreeMap;
 use std::fmt;
 use wire_consts::ColumnType;

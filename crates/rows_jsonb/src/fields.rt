@@ -2,10 +2,10 @@
 
 ghost use Rattle.std.specs.Prelude.{◌≡◌, List, ℕ, take, Err, None, Some};
 ghost use Rattle.wire_buf.specs.Encoding.{Alone};
-ghost use Rattle.rows_times.specs.declared.fault.RowsError.TheVariants.{Jsonb};
+ghost use Rattle.rows_values.specs.declared.fault.RowsError.TheVariants.{Jsonb};
 ghost use Rattle.std.specs.Cow.{cow_slice_items};
 ghost use Rattle.wire_buf.specs.Numbers.{IsCounted};
-ghost use Rattle.wire_ints.specs.Sevens.{IsVarLen};
+ghost use Rattle.wire_forms.specs.Sevens.{IsVarLen};
 ghost use Rattle.wire_forms.specs.RawTexts.{raw_string};
 ghost use Rattle.wire_forms.specs.Texts.{varlen_string_encoded};
 ghost use Rattle.rows_jsonb.specs.JsonbLayout.{format as format_of};
@@ -17,7 +17,7 @@ use crate::complex::ComplexValue;
 use crate::storage_format::{ComplexType, StorageFormat};
 use crate::text::JsonbString;
 use crate::value::Value;
-use rows_times::RowsError;
+use rows_values::RowsError;
 use std::alloc::{Allocator, Global};
 use wire_buf::{AnySize, Inner, MyDeserialize, MySerialize, ParseBuf, WireFault};
 use wire_forms::RawBytes;

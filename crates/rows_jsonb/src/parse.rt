@@ -11,9 +11,8 @@ ghost use Rattle.rows_jsonb.specs.JsonParsing.{ReturnsFound, Meets, Parses};
 
 use crate::dom::{JsonContainer, JsonDom, JsonNumber, JsonOpaque, JsonScalar};
 use crate::value::Value;
-use rows_decimal::Decimal;
 use rows_json_rules::{set_member, take_value};
-use rows_times::{MysqlTime, RowsError};
+use rows_values::{Decimal, MysqlTime, RowsError};
 use std::alloc::Global;
 use std::collections::BTreeMap;
 use std::str;

@@ -8,8 +8,7 @@ ghost use Rattle.wire_forms.specs.RawTexts.{raw_string};
 use std::alloc::{AllocError, Global};
 use std::borrow::{CowSlice, CowStr};
 use wire_consts::ColumnType;
-use wire_forms::{BareU16Bytes, RawBytes};
-use wire_ints::VarLen;
+use wire_forms::{BareU16Bytes, RawBytes, VarLen};
 
 /// The bytes of a string of a document, which may not be UTF-8.
 #[derive(PartialEq, Eq, Drop)]

@@ -6,8 +6,8 @@ use Rattle.std.proofs.lemmas.Bool.Decides.{leb_tells}
 use Rattle.wire_buf.specs.Numbers.{lenenc_encoded}
 use Rattle.wire_buf.specs.Writing.{concat_some}
 use Rattle.wire_buf.proofs.LenencLemmas.{little_bytes-sound}
-use Rattle.wire_ints.specs.Ints.{little_encoded}
-use Rattle.wire_ints.specs.Strings.{counted_bytes, lenenc_string_encoded}
+use Rattle.wire_forms.specs.Ints.{little_encoded}
+use Rattle.wire_forms.specs.Strings.{counted_bytes, lenenc_string_encoded}
 use Rattle.rows_meta.specs.Lengths.{IsEventLen}
 use Rattle.rows_meta.specs.TableMaps.{TableMap, table_map_encoded}
 

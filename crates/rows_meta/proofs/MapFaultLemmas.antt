@@ -9,7 +9,7 @@ use Rattle.wire_buf.specs.declared.fault.WireFault.{WireFault}
 use Rattle.wire_buf.specs.declared.fault.WireFault.TheVariants.{Eof, BadNumber}
 use Rattle.wire_buf.proofs.LenencLemmas.{split_lenenc-complete}
 use Rattle.wire_buf.proofs.EncodingLemmas.{split_prefix, same_parts, Begins-both, Both-first, Both-second, Lacks-both_first}
-use Rattle.wire_ints.specs.Faults.{lenenc_fault}
+use Rattle.wire_forms.specs.Faults.{lenenc_fault}
 use Rattle.wire_forms.specs.Texts.{IsAll, CountedFails}
 use Rattle.rows_meta.specs.TableMaps.{little_endian, plain_bytes, id_width, Names, Skipped, IsNames, IsTypes, BeginsNoLenenc, HasBadNumber, IsMapFault}
 use Rattle.rows_meta.proofs.TableMapParts.{Head, bytes_length}

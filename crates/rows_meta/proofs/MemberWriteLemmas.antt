@@ -7,7 +7,7 @@ use Rattle.wire_buf.specs.Encoding.{AreBytes, Alone}
 use Rattle.wire_buf.specs.Numbers.{IsLenenc, IsLenencString}
 use Rattle.wire_buf.specs.Writing.{Writes, WritesField}
 use Rattle.wire_buf.proofs.WritingLemmas.{AreBytes-prefix, AreBytes-suffix}
-use Rattle.wire_ints.specs.Strings.{lenenc_string_encoded}
+use Rattle.wire_forms.specs.Strings.{lenenc_string_encoded}
 use Rattle.rows_meta.specs.Members.{AreStrings, MembersEncoding}
 use Rattle.rows_meta.specs.FieldEncodings.{number_encoded, string_encoded, joined_strings, members_encoded}
 

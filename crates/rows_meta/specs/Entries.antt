@@ -4,11 +4,11 @@ use Rattle.std.specs.declared.result.Result.TheVariants.{Ok, Err}
 use Rattle.wire_buf.specs.Encoding.{Encoding, Alone, Both}
 use Rattle.wire_buf.specs.Numbers.{IsLenenc, IsLenencString}
 use Rattle.wire_buf.specs.LenencSplit.{split_lenenc}
-use Rattle.wire_ints.specs.Faults.{lenenc_fault}
-use Rattle.rows_times.specs.Faults.{rows_error}
-use Rattle.rows_times.specs.declared.fault.RowsError.{RowsError}
-use Rattle.rows_times.specs.declared.fault.RowsError.TheVariants.{EndOfBody}
-use Rattle.rows_times.specs.Readings.{Reading, ◌>>=◌}
+use Rattle.wire_forms.specs.Faults.{lenenc_fault}
+use Rattle.rows_values.specs.Faults.{rows_error}
+use Rattle.rows_values.specs.declared.fault.RowsError.{RowsError}
+use Rattle.rows_values.specs.declared.fault.RowsError.TheVariants.{EndOfBody}
+use Rattle.rows_values.specs.Readings.{Reading, ◌>>=◌}
 
 -- the encodings of entries: a length-encoded integer, a length-encoded string, two length-encoded integers
 abbrev pub NumberEncoding : Encoding ℕ

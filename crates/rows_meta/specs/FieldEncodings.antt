@@ -3,7 +3,7 @@ use Rattle.std.specs.Prelude.{ℕ, ◌++◌, List, [], ◌∷◌, length, Option
 use Rattle.wire_buf.specs.Encoding.{Encoding, Both}
 use Rattle.wire_buf.specs.Numbers.{lenenc_encoded}
 use Rattle.wire_buf.specs.Writing.{both_encoded}
-use Rattle.wire_ints.specs.Strings.{lenenc_string_encoded}
+use Rattle.wire_forms.specs.Strings.{lenenc_string_encoded}
 use Rattle.wire_forms.specs.Texts.{IsAll}
 use Rattle.rows_meta.specs.Entries.{NumberEncoding}
 

@@ -7,9 +7,9 @@ use Rattle.wire_forms.specs.RawTexts.{raw_string}
 use Rattle.wire_consts.specs.declared.geometry_type.GeometryType.{GeometryType}
 use Rattle.rows_values.specs.BitLists.{bit_of, len_of}
 use Rattle.rows_values.specs.declared.bits.Bits.{Bits}
-use Rattle.rows_times.specs.declared.fault.RowsError.{RowsError}
-use Rattle.rows_times.specs.declared.fault.RowsError.TheVariants.{Memory}
-use Rattle.rows_times.specs.Readings.{Reading, ◌>>=◌, map_reading}
+use Rattle.rows_values.specs.declared.fault.RowsError.{RowsError}
+use Rattle.rows_values.specs.declared.fault.RowsError.TheVariants.{Memory}
+use Rattle.rows_values.specs.Readings.{Reading, ◌>>=◌, map_reading}
 use Rattle.rows_meta.specs.declared.entries.Entries.{Entries}
 use Rattle.rows_meta.specs.declared.charsets.DefaultCharset.{DefaultCharset}
 use Rattle.rows_meta.specs.declared.charsets.NonDefaultCharset.{NonDefaultCharset}

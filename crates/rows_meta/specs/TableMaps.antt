@@ -6,9 +6,9 @@ use Rattle.wire_buf.specs.Writing.{concat_some}
 use Rattle.wire_buf.specs.Numbers.{IsLittle, IsLenenc, IsShortString, IsLenencString, lenenc_encoded}
 use Rattle.wire_buf.specs.declared.fault.WireFault.{WireFault}
 use Rattle.wire_buf.specs.declared.fault.WireFault.TheVariants.{Eof, BadNumber}
-use Rattle.wire_ints.specs.Faults.{lenenc_fault}
-use Rattle.wire_ints.specs.Ints.{little_encoded}
-use Rattle.wire_ints.specs.Strings.{counted_bytes, lenenc_string_encoded}
+use Rattle.wire_forms.specs.Faults.{lenenc_fault}
+use Rattle.wire_forms.specs.Ints.{little_encoded}
+use Rattle.wire_forms.specs.Strings.{counted_bytes, lenenc_string_encoded}
 use Rattle.wire_forms.specs.Texts.{IsAll, IsSkipped}
 
 -- a number in n bytes, in little-endian order

@@ -7,8 +7,7 @@ ghost use Rattle.rows_meta.specs.Served.{key_indexes, first_item};
 ghost use Rattle.rows_meta.specs.MetadataViews.{bits_view, signs_left, indexes_view, keys_view, key_indexes_left, primary_key_left};
 
 use crate::primary_keys::{IterIndexes, IterKeys, PrimaryKeysWithPrefix, SimplePrimaryKey};
-use rows_times::RowsError;
-use rows_values::Bits;
+use rows_values::{Bits, RowsError};
 
 /// The remaining numeric columns: whether each is unsigned.
 #[derive(Clone, Copy)]

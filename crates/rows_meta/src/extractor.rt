@@ -1,7 +1,7 @@
 //! What the columns of a table use from its optional metadata.
 
 ghost use Rattle.std.specs.Prelude.{◌≡◌};
-ghost use Rattle.rows_times.specs.Readings.{map_reading};
+ghost use Rattle.rows_values.specs.Readings.{map_reading};
 ghost use Rattle.rows_meta.specs.Lists.{strings};
 ghost use Rattle.rows_meta.specs.Extracted.{extracted, with_field, nothing};
 ghost use Rattle.rows_meta.specs.Served.{bytes_or_none, key_indexes, charset_item, signs_or_none};
@@ -13,8 +13,7 @@ use crate::field::{OptionalMetadataField, OptionalMetadataIter};
 use crate::names::{ColumnNames, IterNames};
 use crate::primary_keys::{PrimaryKeysWithPrefix, SimplePrimaryKey};
 use crate::served_charsets::IterCharset;
-use rows_times::RowsError;
-use rows_values::Bits;
+use rows_values::{Bits, RowsError};
 
 /// The optional metadata that columns use. Of two fields of the same type the later one counts. The contents of a list aren't
 /// checked before a column asks for its entry.

@@ -3,7 +3,7 @@
 ghost use Rattle.std.specs.Prelude.{◌≡◌, sum, min};
 
 use crate::table_map::TableMapEvent;
-use wire_ints::lenenc_int_len;
+use wire_forms::lenenc_int_len;
 
 /// The maximum that an event's `len` returns: with its header of 19 bytes, the size of such an event fits in 32 bits.
 pub const MAX_EVENT_LEN: usize = 4_294_967_276;

@@ -5,7 +5,7 @@ ghost use Rattle.rows_meta.specs.TableMaps.{id_width, little_endian};
 
 use std::alloc::Global;
 use wire_buf::{AnySize, MyDeserialize, ParseBuf, WireFault};
-use wire_ints::{LeU32, LeU48, RawInt};
+use wire_forms::{LeU32, LeU48, RawInt};
 
 /// The id of a table, by which rows events refer to it.
 #[derive(Clone, Copy, Debug, PartialEq, Eq, Hash)]

@@ -9,8 +9,7 @@ ghost use Rattle.rows_meta.specs.FieldEncodings.{all_encoded, pair_encoded};
 use std::alloc::Allocator;
 use std::borrow::CowSlice;
 use wire_buf::{MySerialize, WireFault};
-use wire_forms::{EofBytes, RawBytes};
-use wire_ints::{LenEnc, RawInt};
+use wire_forms::{EofBytes, LenEnc, RawBytes, RawInt};
 
 /// Appends the value of a list.
 pub(crate) fn put_all<A: Allocator>(bytes: &[u8], buf: &mut Vec<u8, A>) -> Result<(), WireFault>

@@ -1,6 +1,6 @@
 //! Packed times: their arithmetic, and those of the bytes in TIME2, DATETIME2 and TIMESTAMP2 cells.
 //!
-//! `specs/PackedTimes.antt` defines the number that the bytes of a cell pack. `rows_times` re-exports all of this, and has the
+//! `specs/PackedTimes.antt` defines the number that the bytes of a cell pack. `rows_values` re-exports all of this, and has the
 //! calls that read from a reader.
 #![tactic(auto)]
 

@@ -4,7 +4,7 @@ use rows_cells::{
     CellFormat, CellRef, Width, read_bytes, read_cell, read_datetime, read_signed, read_time,
     read_unsigned, split_decimal,
 };
-use rows_times::RowsError;
+use rows_values::RowsError;
 
 /// Whether this number is read, with one byte after it.
 fn is_number(prefix: Result<(i64, &[u8]), RowsError>, wanted: i64) -> bool {

@@ -2,8 +2,9 @@
 //! of `rows_cases`.
 
 use crate::devices::{FailingReader, NarrowWriter, is_text};
-use rows_decimal::{DIG_BASE, DIG_PER_DEC, DIG_TO_BYTES, Decimal, POWERS_10, decimal_bin_size};
-use rows_times::RowsError;
+use rows_values::{
+    DIG_BASE, DIG_PER_DEC, DIG_TO_BYTES, Decimal, POWERS_10, RowsError, decimal_bin_size,
+};
 use std::alloc::{AllocError, Global};
 use std::str;
 use wire_buf::WireFault;

@@ -4,7 +4,7 @@ use feed_text::put_cell_ref;
 use rows_cells::RowPart;
 use rows_events::{ColumnPlan, EventColumns, RowsEvent, RowsEventCtx, RowsEventType};
 use rows_meta::TableMapEvent;
-use rows_times::RowsError;
+use rows_values::RowsError;
 use std::alloc::Global;
 use wire_buf::ParseBuf;
 

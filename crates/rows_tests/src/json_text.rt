@@ -6,7 +6,7 @@ use feed_text::{TextBuffer, put_json};
 use linked_list_allocator::LocalHeap;
 use rows_cells::CellRef;
 use rows_jsonb::JsonDom;
-use rows_times::RowsError;
+use rows_values::RowsError;
 use std::alloc::Global;
 
 // If a key isn't UTF-8, nothing is appended.

@@ -8,7 +8,7 @@ use rows_jsonb::{
     JsonbType, LiteralType, Object, ObjectKey, OpaqueValue, Small, UnknownJsonDiffOperation,
     UnknownJsonbType, UnknownLiteralType, Value, check_json_diffs, json_diffs,
 };
-use rows_times::RowsError;
+use rows_values::RowsError;
 use std::alloc::{AllocError, Global};
 use std::borrow::CowSlice;
 use wire_buf::{MySerialize, ParseBuf};

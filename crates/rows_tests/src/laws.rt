@@ -16,21 +16,21 @@ fn laws_of_values() {
 }
 
 fn laws_of_times() {
-    rows_times::laws::times_by_cases();
-    rows_times::laws::packed_fields_are_read_back();
-    rows_times::laws::worked_time();
+    rows_values::laws::times_by_cases();
+    rows_values::laws::packed_fields_are_read_back();
+    rows_values::laws::worked_time();
 }
 
 fn laws_of_decimals() {
-    rows_decimal::laws::numbers_in_order();
-    rows_decimal::laws::packed_bytes_are_uniquely_read();
-    rows_decimal::laws::packed_bytes_are_unpacked();
-    rows_decimal::laws::packed_bytes_are_read_back();
-    rows_decimal::laws::named_numbers();
-    rows_decimal::laws::only_zero_groups_are_dropped();
-    rows_decimal::laws::texts_are_parsed_back();
-    rows_decimal::laws::worked_decimals();
-    rows_decimal::laws::worked_unpacking();
+    rows_values::laws::numbers_in_order();
+    rows_values::laws::packed_bytes_are_uniquely_read();
+    rows_values::laws::packed_bytes_are_unpacked();
+    rows_values::laws::packed_bytes_are_read_back();
+    rows_values::laws::named_numbers();
+    rows_values::laws::only_zero_groups_are_dropped();
+    rows_values::laws::texts_are_parsed_back();
+    rows_values::laws::worked_decimals();
+    rows_values::laws::worked_unpacking();
 }
 
 fn laws_of_documents_and_metadata() {

@@ -2,7 +2,7 @@
 
 use linked_list_allocator::LocalHeap;
 use rows_meta::{OptionalMetadataField, OptionalMetadataIter, SetStrValues};
-use rows_times::RowsError;
+use rows_values::RowsError;
 use std::alloc::Global;
 use wire_buf::{MyDeserialize, MySerialize, ParseBuf, WireFault};
 

@@ -6,8 +6,7 @@ use rows_events::{
     RowsEventCtx, RowsEventType,
 };
 use rows_meta::TableMapEvent;
-use rows_times::RowsError;
-use rows_values::{Bits, Column, Value};
+use rows_values::{Bits, Column, RowsError, Value};
 use std::alloc::{AllocError, Global};
 use wire_buf::ParseBuf;
 use wire_consts::{ColumnFlags, ColumnType};

@@ -2,7 +2,7 @@
 
 use feed_text::TextBuffer;
 use rows_cells::{CellFormat, CellRef, ImageCells, ImageColumn, ImagePlan, Width};
-use rows_times::RowsError;
+use rows_values::RowsError;
 use std::alloc::Global;
 
 /// A column with this index in the table.

@@ -2,8 +2,7 @@
 
 use feed_text::{put_decimal, put_value, quote};
 use linked_list_allocator::LocalHeap;
-use rows_times::RowsError;
-use rows_values::Value;
+use rows_values::{RowsError, Value};
 use std::alloc::Global;
 
 /// Whether the value has this text.

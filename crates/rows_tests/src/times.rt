@@ -1,13 +1,12 @@
 //! Packed times, times in slices, and the texts of times that no cell has. The cells are cases of `rows_cases`.
 
 use crate::devices::{FailingReader, is_text};
-use rows_times::{
-    DATETIMEF_INT_OFS, MysqlTime, MysqlTimestampType, RowsError, TIMEF_INT_OFS, TIMEF_OFS,
-    datetime_of, fraction_size, my_datetime_packed_from_binary, my_packed_time_get_frac_part,
-    my_packed_time_get_int_part, my_packed_time_make, my_packed_time_make_int,
-    my_timestamp_from_binary, time_of, timestamp_of,
+use rows_values::{
+    DATETIMEF_INT_OFS, MysqlTime, MysqlTimestampType, RowsError, TIMEF_INT_OFS, TIMEF_OFS, Value,
+    datetime_from_packed, datetime_of, fraction_size, my_datetime_packed_from_binary,
+    my_packed_time_get_frac_part, my_packed_time_get_int_part, my_packed_time_make,
+    my_packed_time_make_int, my_timestamp_from_binary, time_from_packed, time_of, timestamp_of,
 };
-use rows_values::{Value, datetime_from_packed, time_from_packed};
 use std::alloc::Global;
 
 /// A date and time of this type.

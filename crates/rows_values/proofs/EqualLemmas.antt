@@ -8,18 +8,18 @@ use Rattle.std.specs.Option.{option_eq}
 use lib.Pointwise.{pointwise, bytes_decides}
 use denote.Enum.Bare.{same_true, true_same}
 use Rattle.wire_consts.specs.contracts.column_type.ColumnType.{the_type as column_type}
-use Rattle.rows_times.specs.contracts.times.mysql_time.MysqlTimestampType.{the_type as time_type}
+use Rattle.rows_values.specs.contracts.times.mysql_time.MysqlTimestampType.{the_type as time_type}
 use Rattle.rows_values.specs.declared.rows.column.Column.{Column}
 use Rattle.rows_values.specs.declared.rows.value.Value.{Value}
 use Rattle.rows_values.specs.declared.rows.row.Row.{Row}
-use Rattle.rows_times.specs.declared.times.mysql_time.MysqlTime.{MysqlTime}
+use Rattle.rows_values.specs.declared.times.mysql_time.MysqlTime.{MysqlTime}
 use Rattle.rows_values.specs.Columns.{parts_of}
 use Rattle.rows_values.specs.Rows.{values_of, columns_of, SameCell}
 use Rattle.rows_values.specs.Values.{SameValue}
 use Rattle.rows_values.specs.contracts.rows.value.ValuePartialEq.TheImpl.{ghosts as value_equality}
 use Rattle.rows_values.specs.contracts.rows.column.ColumnPartialEq.TheImpl.{ghosts as column_equality}
 use Rattle.rows_values.specs.contracts.rows.row.RowPartialEq.TheImpl.{ghosts as row_equality}
-use Rattle.rows_times.specs.contracts.times.mysql_time.MysqlTimePartialEq.TheImpl.{ghosts as time_equality}
+use Rattle.rows_values.specs.contracts.times.mysql_time.MysqlTimePartialEq.TheImpl.{ghosts as time_equality}
 
 pub columns_decide : (a b : Column) → Decides (column_equality.eq a b) (parts_of a ≡ parts_of b)
 columns_decide a b =

@@ -2,9 +2,9 @@
 use Rattle.std.specs.Prelude.{◌≡◌, ◌/◌, ◌%◌, ℤ}
 use Rattle.rows_values.specs.declared.rows.value.Value.{Value}
 use Rattle.rows_values.specs.declared.rows.value.Value.TheVariants.{Bytes, Date, Time}
-use Rattle.rows_times.specs.declared.times.mysql_time.MysqlTime.{MysqlTime}
-use Rattle.rows_times.specs.declared.times.mysql_time.MysqlTimestampType.TheVariants.{MYSQL_TIMESTAMP_DATETIME}
-use Rattle.rows_times.specs.TimeFields.{span_fields, date_fields}
+use Rattle.rows_values.specs.declared.times.mysql_time.MysqlTime.{MysqlTime}
+use Rattle.rows_values.specs.declared.times.mysql_time.MysqlTimestampType.TheVariants.{MYSQL_TIMESTAMP_DATETIME}
+use Rattle.rows_values.specs.TimeFields.{span_fields, date_fields}
 
 -- the same value, wherever its bytes are stored
 abbrev pub SameValue : Value → Value → Type 0

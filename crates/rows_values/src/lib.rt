@@ -1,12 +1,50 @@
-//! The parts of a binary log's rows: values, columns, rows and bits.
+//! The values in the cells of a binary log's rows, and the errors of reading rows: packed times and dates, MySQL's DECIMAL, and
+//! plain values with their columns, rows and bits.
 //!
-//! `specs/Values.antt` defines which values are the same and the value of a packed time,
-//! `specs/BitLists.antt` the order of the bits in bytes.
+//! `rows_packed_times`, which is re-exported here, defines the number that the bytes of a cell pack, `specs/TimeFields.antt` the
+//! fields of such a number, and `specs/TimeTexts.antt` the text of a time. [`Decimal`] holds a sign and the digits before and after
+//! the point: `specs/Digits.antt` defines how digits are packed, `specs/Decimals.antt` what is read and written, `specs/Texts.antt`
+//! the text that is printed and parsed, and `specs/Unpacked.antt` which decimal given bytes pack, and its text.
+//! `specs/Values.antt` defines which values are the same and the value of a packed time, `specs/BitLists.antt` the order of the bits
+//! in bytes. [`laws`] relates these to one another, and has worked values.
 #![tactic(auto)]
 
+mod append;
 mod bits;
+mod decimal;
+mod digit_text;
+mod digits;
+mod display;
+mod fault;
+mod fields;
+mod group_number;
+mod groups;
 pub mod laws;
+mod numbers;
+mod order;
+mod packed_check;
+mod packed_text;
+mod packing;
+mod parse;
 mod rows;
+mod times;
+mod unpacking;
 
 pub use bits::{Bits, BitsIter};
+pub use digits::{DIG_BASE, DIG_PER_DEC, DIG_TO_BYTES, Digit, POWERS_10, decimal_bin_size};
+pub use fault::{JsonbError, RowsError};
+pub use fields::Decimal;
+pub use numbers::{DecimalNumbers, decimal_numbers};
+pub use packed_check::packs_decimal;
+pub use packed_text::put_decimal_text;
+pub use parse::ParseDecimalError;
 pub use rows::{Column, Row, Value, datetime_from_packed, new_row_raw, time_from_packed};
+pub use rows_packed_times::{
+    DATETIMEF_INT_OFS, TIMEF_INT_OFS, TIMEF_OFS, datetime_of, fraction_size,
+    my_packed_time_get_frac_part, my_packed_time_get_int_part, my_packed_time_make,
+    my_packed_time_make_int, time_of, timestamp_of,
+};
+pub use times::{
+    MysqlTime, MysqlTimestampType, my_datetime_packed_from_binary, my_time_packed_from_binary,
+    my_timestamp_from_binary,
+};

@@ -16,10 +16,10 @@ use Rattle.wire_buf.specs.declared.fault.WireFault.{WireFault}
 use Rattle.wire_buf.specs.declared.fault.WireFault.TheVariants.{Eof}
 use Rattle.wire_buf.proofs.EncodingLemmas.{split_prefix}
 use Rattle.wire_buf.proofs.StringLemmas.{Lacks-count, Lacks-counted}
-use Rattle.wire_ints.specs.Sevens.{IsVarLen, varlen_encoded}
-use Rattle.wire_ints.specs.Strings.{counted_bytes, counted_encoded}
-use Rattle.wire_ints.proofs.WritingLemmas.{counted_least}
-use Rattle.wire_ints.proofs.SevenLemmas.{varlen_least}
+use Rattle.wire_forms.specs.Sevens.{IsVarLen, varlen_encoded}
+use Rattle.wire_forms.specs.Strings.{counted_bytes, counted_encoded}
+use Rattle.wire_forms.proofs.WritingLemmas.{counted_least}
+use Rattle.wire_forms.proofs.SevenLemmas.{varlen_least}
 use Rattle.wire_forms.specs.Texts.{IsNullTerminated, before_zero, varlen_string_encoded, CountedFails}
 
 -- the bytes before the first zero

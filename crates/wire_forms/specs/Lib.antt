@@ -1,3 +1,14 @@
+pub mod Sequences
+pub mod Counts
+pub mod Ints
+pub mod Faults
+pub mod Strings
+pub mod Sevens
+pub mod TrailingOnes
+pub mod Streams
+pub mod Raw
+pub mod Bits
+pub mod Bytewise
 pub mod Texts
 pub mod Eithers
 pub mod Consts

@@ -3,7 +3,7 @@ use Rattle.std.specs.Prelude.{◌≡◌, ◌≢◌, ◌++◌, ◌<◌, ◌-◌, 
 use Rattle.wire_buf.specs.Encoding.{Alone, BeginsWith, Lacks}
 use Rattle.wire_buf.specs.declared.fault.WireFault.{WireFault}
 use Rattle.wire_buf.specs.declared.fault.WireFault.TheVariants.{Eof}
-use Rattle.wire_ints.specs.Sevens.{varlen_encoded}
+use Rattle.wire_forms.specs.Sevens.{varlen_encoded}
 
 -- all remaining bytes
 pub record IsAll (v bytes rest : List ℕ) : Type 0 where

@@ -8,12 +8,12 @@ ghost use Rattle.wire_forms.specs.Overwritten.{replace_value, replace_raw_number
 ghost use Rattle.wire_buf.specs.Encoding.{Alone, Lacks};
 ghost use Rattle.wire_forms.specs.Consts.{ConstFails, IsConstant};
 
+use crate::IntRepr;
 use std::alloc::{Allocator, Global};
 use std::marker::PhantomData;
 use std::ops::{Deref, DerefMut};
 use wire_buf::{Inner, MyDeserialize, MySerialize, ParseBuf, WireFault};
 use wire_consts::Constant;
-use wire_ints::IntRepr;
 
 /// A number in the representation `T`, for a constant of type `U`. It may be one that no constant has.
 #[derive(Drop)]

@@ -4,16 +4,16 @@ ghost use Rattle.std.specs.Prelude.{◌≡◌, take};
 ghost use Rattle.std.proofs.Common.{refl};
 ghost use Rattle.wire_buf.specs.Encoding.{Alone};
 ghost use Rattle.wire_buf.specs.Numbers.{IsCounted, IsLenenc, IsLenencString, IsShortString, IsLongString};
-ghost use Rattle.wire_ints.specs.Strings.{lenenc_string_encoded, counted_bytes};
-ghost use Rattle.wire_ints.specs.Sevens.{IsVarLen};
-ghost use Rattle.wire_ints.specs.Faults.{lenenc_fault, varlen_fault};
+ghost use Rattle.wire_forms.specs.Strings.{lenenc_string_encoded, counted_bytes};
+ghost use Rattle.wire_forms.specs.Sevens.{IsVarLen};
+ghost use Rattle.wire_forms.specs.Faults.{lenenc_fault, varlen_fault};
 ghost use Rattle.wire_forms.specs.Texts.{varlen_string_encoded, CountedFails};
 
 use crate::bytes_repr::{BytesRepr, InnerBytes};
+use crate::{BufMutExt, IntRepr, LenEnc, VarLen, varlen_bytes};
 use std::alloc::Allocator;
 use std::borrow::CowSlice;
 use wire_buf::{AnySize, ParseBuf, WireFault};
-use wire_ints::{BufMutExt, IntRepr, LenEnc, VarLen, varlen_bytes};
 
 /// A string after its length in one byte. Only the first 255 bytes of a longer string are written.
 pub struct U8Bytes;

@@ -1,282 +1,212 @@
-//! Fields whose bytes are constant, and bytes without meaning.
+//! Integers of a fixed number of bytes, little-endian or big-endian. Writing an integer that doesn't fit
+//! returns `Form`.
 
-ghost use Rattle.std.specs.Prelude.{◌≡◌, ◌≢◌, ◌↔◌, ℕ, List, length, replicate, IsTrue, Some};
-ghost use Rattle.byteorder.specs.Endian.{little_bytes};
-ghost use Rattle.wire_buf.specs.Encoding.{Alone, IsBytes};
-ghost use Rattle.wire_buf.specs.ReadErrors.{EndsBefore};
-ghost use Rattle.wire_forms.specs.Consts.{ConstFails};
-ghost use Rattle.wire_forms.specs.Texts.{IsSkipped};
-ghost use Rattle.wire_buf.specs.Numbers.{IsLittle};
-ghost use Rattle.wire_buf.specs.declared.fault.WireFault.TheVariants.{Eof};
+ghost use Rattle.std.specs.Prelude.{◌≤◌, option_map};
+ghost use Rattle.std.proofs.Common.{arith, rules};
+ghost use Rattle.wire_buf.specs.Encoding.{IsFixed};
 
-use crate::plain_bytes::append_zeros;
-use std::alloc::{Allocator, Global};
+use crate::int_repr::IntRepr;
+use crate::number::Number;
+use byteorder::{BigEndian, ByteOrder, LittleEndian};
+use std::alloc::Allocator;
 use std::marker::PhantomData;
-use wire_buf::{FixedSize, Inner, MyDeserialize, MySerialize, ParseBuf, WireFault};
+use wire_buf::{FixedSize, ParseBuf, WireFault};
 
-/// The byte `VALUE`. Reading another byte returns `BadConst`. `T` distinguishes such fields.
-#[derive(Drop)]
-#[derive_where(PartialEq, Eq, Debug)]
-pub struct ConstU8<T, const VALUE: u8>(PhantomData<T>);
-
-impl<T, const VALUE: u8> ConstU8<T, VALUE> {
-    /// The field.
-    pub const fn new() -> ConstU8<T, VALUE> {
-        ConstU8(PhantomData)
-    }
-
-    /// Returns the byte.
-    pub const fn value(&self) -> u8
-        ensures { result ≡ VALUE }
-    {
-        VALUE
-    }
+/// A number that can be encoded in `N` bytes.
+pub trait InBytes<const N: usize>: Number {
+    /// `N` is at least 1 and at most the number's width.
+    ghost in_range: { (1 ≤ N) × (N ≤ Self.WIDTH) };
 }
 
-impl<'de, T, const VALUE: u8> MyDeserialize<'de> for ConstU8<T, VALUE> {
-    const SIZE: Option<usize> = Some(1);
+/// A number of type `P` in `N` bytes of byte order `O`; two's complement if it is signed.
+pub struct Fixed<P, O, const N: usize>(PhantomData<P>, PhantomData<O>);
 
-    type Size = FixedSize<1>;
+impl<P: InBytes<N>, O: ByteOrder, const N: usize> IntRepr for Fixed<P, O, N> {
+    const SIZE: Option<usize> = Some(N);
 
-    type Ctx = ();
+    type Size = FixedSize<N>;
 
-    type Fault = WireFault;
+    type Primitive = P;
 
-    ghost View = { Unit {0} };
+    ghost encodes = { IsFixed (λ bytes. P.value_of N (O.number_of N bytes)) N };
 
-    ghost view = { λ v. tt };
+    ghost encoded = { λ v. option_map (O.bytes_of N) (P.bits_of N v) };
 
-    ghost encodes = { λ ctx v. Alone (IsLittle 1) VALUE };
-
-    ghost fails_with = { λ ctx. ConstFails (λ n. n ≢ VALUE) (IsLittle 1) (λ x. Eof) };
-
-    fn deserialize(
-        _alloc: Global,
-        _ctx: (),
-        buf: &mut ParseBuf<'de>,
-    ) -> Result<ConstU8<T, VALUE>, WireFault> {
-        if buf.eat_u8() != VALUE {
-            return Err(WireFault::BadConst);
-        }
-        Ok(ConstU8::new())
+    fn deserialize(buf: &mut ParseBuf<'_>) -> Result<P, WireFault> {
+        let value = P::read::<O>(buf.0, N);
+        buf.skip(N);
+        Ok(value)
     }
 
-    ghost sized = { λ ctx v bytes rest h. h.size };
-}
-
-impl<T, const VALUE: u8> MySerialize for ConstU8<T, VALUE> {
-    ghost View = { Unit {0} };
-
-    ghost view = { λ v. tt };
-
-    ghost encoding = { λ v. Alone (IsLittle 1) VALUE };
-
-    ghost encoded = { λ v. Some (little_bytes 1 VALUE) };
-
-    #[tactic(auto, using(crate::proofs::ShortestLemmas::number_written))]
-    fn serialize<A: Allocator>(&self, buf: &mut Vec<u8, A>) -> Result<(), WireFault> {
-        buf.extend_from_slice(&VALUE.to_le_bytes())?;
+    fn serialize<A: Allocator>(val: P, buf: &mut Vec<u8, A>) -> Result<(), WireFault> {
+        let Some(bits) = val.bits(N) else {
+            return Err(WireFault::Form);
+        };
+        let mut bytes = [0u8; N];
+        O::write_uint128(&mut bytes, bits, N);
+        buf.extend_from_slice(&bytes)?;
         Ok(())
     }
+
+    ghost sized = { λ v bytes h. h.size };
 }
 
-impl<T, const VALUE: u8> Inner for ConstU8<T, VALUE> {
-    ghost before_any = { λ rest. tt };
+impl InBytes<2> for u16 {
+    ghost in_range = { (Prim.search rules, Prim.search rules) };
 }
 
-/// The four little-endian bytes of `VALUE`. Reading other bytes returns `BadConst`. `T` distinguishes such
-/// fields.
-#[derive(Drop)]
-#[derive_where(PartialEq, Eq, Debug)]
-pub struct ConstU32<T, const VALUE: u32>(PhantomData<T>);
-
-impl<T, const VALUE: u32> ConstU32<T, VALUE> {
-    /// The field.
-    pub const fn new() -> ConstU32<T, VALUE> {
-        ConstU32(PhantomData)
-    }
+impl InBytes<2> for i16 {
+    ghost in_range = { (Prim.search rules, Prim.search rules) };
 }
 
-impl<'de, T, const VALUE: u32> MyDeserialize<'de> for ConstU32<T, VALUE> {
-    const SIZE: Option<usize> = Some(4);
-
-    type Size = FixedSize<4>;
-
-    type Ctx = ();
-
-    type Fault = WireFault;
-
-    ghost View = { Unit {0} };
-
-    ghost view = { λ v. tt };
-
-    ghost encodes = { λ ctx v. Alone (IsLittle 4) VALUE };
-
-    ghost fails_with = { λ ctx. ConstFails (λ n. n ≢ VALUE) (IsLittle 4) (λ x. Eof) };
-
-    fn deserialize(
-        _alloc: Global,
-        _ctx: (),
-        buf: &mut ParseBuf<'de>,
-    ) -> Result<ConstU32<T, VALUE>, WireFault> {
-        if buf.eat_u32_le() != VALUE {
-            return Err(WireFault::BadConst);
-        }
-        Ok(ConstU32::new())
-    }
-
-    ghost sized = { λ ctx v bytes rest h. h.size };
+impl InBytes<3> for u32 {
+    ghost in_range = { (Prim.search rules, Prim.search rules) };
 }
 
-impl<T, const VALUE: u32> MySerialize for ConstU32<T, VALUE> {
-    ghost View = { Unit {0} };
-
-    ghost view = { λ v. tt };
-
-    ghost encoding = { λ v. Alone (IsLittle 4) VALUE };
-
-    ghost encoded = { λ v. Some (little_bytes 4 VALUE) };
-
-    #[tactic(auto, using(crate::proofs::ShortestLemmas::number_written))]
-    fn serialize<A: Allocator>(&self, buf: &mut Vec<u8, A>) -> Result<(), WireFault> {
-        buf.extend_from_slice(&VALUE.to_le_bytes())?;
-        Ok(())
-    }
+impl InBytes<3> for i32 {
+    ghost in_range = { (Prim.search rules, Prim.search rules) };
 }
 
-impl<T, const VALUE: u32> Inner for ConstU32<T, VALUE> {
-    ghost before_any = { λ rest. tt };
+impl InBytes<4> for u32 {
+    ghost in_range = { (Prim.search rules, Prim.search rules) };
 }
 
-/// The bytes of a constant field.
-pub trait ConstBytesValue<const LEN: usize> {
-    /// The bytes.
-    ghost bytes: { List ℕ };
-
-    /// Returns the bytes of the field.
-    fn value<'a>() -> &'a [u8]
-        ensures value { result.now ≡ bytes }
-        ensures size { length result.now ≡ LEN };
+impl InBytes<4> for i32 {
+    ghost in_range = { (Prim.search rules, Prim.search rules) };
 }
 
-/// Exactly the bytes of `T`. Reading other bytes returns `BadConst`.
-#[derive(Drop)]
-#[derive_where(PartialEq, Eq, Debug)]
-pub struct ConstBytes<T, const LEN: usize>(PhantomData<T>);
-
-impl<T, const LEN: usize> ConstBytes<T, LEN> {
-    /// The field.
-    pub const fn new() -> ConstBytes<T, LEN> {
-        ConstBytes(PhantomData)
-    }
+impl InBytes<5> for u64 {
+    ghost in_range = { (Prim.search rules, Prim.search rules) };
 }
 
-impl<'de, T: ConstBytesValue<LEN>, const LEN: usize> MyDeserialize<'de> for ConstBytes<T, LEN> {
-    const SIZE: Option<usize> = Some(LEN);
-
-    type Size = FixedSize<LEN>;
-
-    type Ctx = ();
-
-    type Fault = WireFault;
-
-    ghost View = { Unit {0} };
-
-    ghost view = { λ v. tt };
-
-    ghost encodes = { λ ctx v. Alone (IsBytes LEN) T.bytes };
-
-    ghost fails_with = { λ ctx. ConstFails (λ bytes. bytes ≢ T.bytes) (IsBytes LEN) (λ x. Eof) };
-
-    fn deserialize(
-        _alloc: Global,
-        _ctx: (),
-        buf: &mut ParseBuf<'de>,
-    ) -> Result<ConstBytes<T, LEN>, WireFault> {
-        if !are_equal(buf.eat(LEN), T::value()) {
-            return Err(WireFault::BadConst);
-        }
-        Ok(ConstBytes::new())
-    }
-
-    ghost sized = { λ ctx v bytes rest h. h.size };
+impl InBytes<5> for i64 {
+    ghost in_range = { (Prim.search rules, Prim.search rules) };
 }
 
-impl<T: ConstBytesValue<LEN>, const LEN: usize> MySerialize for ConstBytes<T, LEN> {
-    ghost View = { Unit {0} };
-
-    ghost view = { λ v. tt };
-
-    ghost encoding = { λ v. Alone (IsBytes LEN) T.bytes };
-
-    ghost encoded = { λ v. Some T.bytes };
-
-    #[tactic(auto, using(crate::proofs::ShortestLemmas::constant_written))]
-    fn serialize<A: Allocator>(&self, buf: &mut Vec<u8, A>) -> Result<(), WireFault> {
-        buf.extend_from_slice(T::value())?;
-        Ok(())
-    }
+impl InBytes<6> for u64 {
+    ghost in_range = { (Prim.search rules, Prim.search rules) };
 }
 
-impl<T: ConstBytesValue<LEN>, const LEN: usize> Inner for ConstBytes<T, LEN> {
-    ghost before_any = { λ rest. tt };
+impl InBytes<6> for i64 {
+    ghost in_range = { (Prim.search rules, Prim.search rules) };
 }
 
-/// Returns whether the bytes are equal.
-fn are_equal(left: &[u8], right: &[u8]) -> bool
-    ensures { IsTrue result ↔ (left.now ≡ right.now) }
-{
-    left == right
+impl InBytes<7> for u64 {
+    ghost in_range = { (Prim.search rules, Prim.search rules) };
 }
 
-/// `LEN` bytes without meaning. They are skipped when read, and written as zeros.
-#[derive(Clone, Copy, Debug, Default, PartialEq, Eq, Hash)]
-pub struct Skip<const LEN: usize>;
-
-impl<'de, const LEN: usize> MyDeserialize<'de> for Skip<LEN> {
-    const SIZE: Option<usize> = Some(LEN);
-
-    type Size = FixedSize<LEN>;
-
-    type Ctx = ();
-
-    type Fault = WireFault;
-
-    ghost View = { Unit {0} };
-
-    ghost view = { λ v. tt };
-
-    ghost encodes = { λ ctx v. IsSkipped LEN };
-
-    ghost fails_with = { λ ctx. EndsBefore LEN };
-
-    fn deserialize(
-        _alloc: Global,
-        _ctx: (),
-        buf: &mut ParseBuf<'de>,
-    ) -> Result<Skip<LEN>, WireFault> {
-        buf.skip(LEN);
-        Ok(Skip)
-    }
-
-    ghost sized = { λ ctx v bytes rest h. h };
+impl InBytes<7> for i64 {
+    ghost in_range = { (Prim.search rules, Prim.search rules) };
 }
 
-impl<const LEN: usize> MySerialize for Skip<LEN> {
-    ghost View = { Unit {0} };
-
-    ghost view = { λ v. tt };
-
-    ghost encoding = { λ v. IsSkipped LEN };
-
-    ghost encoded = { λ v. Some (replicate LEN 0) };
-
-    #[tactic(auto, using(crate::proofs::ShortestLemmas::zeros_written))]
-    fn serialize<A: Allocator>(&self, buf: &mut Vec<u8, A>) -> Result<(), WireFault> {
-        append_zeros(LEN, buf)
-    }
+impl InBytes<8> for u64 {
+    ghost in_range = { (Prim.search rules, Prim.search rules) };
 }
 
-impl<const LEN: usize> Inner for Skip<LEN> {
-    ghost before_any = { λ rest. tt };
+impl InBytes<8> for i64 {
+    ghost in_range = { (Prim.search rules, Prim.search rules) };
 }
+
+impl InBytes<16> for u128 {
+    ghost in_range = { (Prim.search rules, Prim.search rules) };
+}
+
+impl InBytes<16> for i128 {
+    ghost in_range = { (Prim.search rules, Prim.search rules) };
+}
+
+/// An unsigned 2-byte little-endian integer.
+pub type LeU16 = Fixed<u16, LittleEndian, 2>;
+
+/// A signed 2-byte little-endian integer.
+pub type LeI16 = Fixed<i16, LittleEndian, 2>;
+
+/// An unsigned 3-byte little-endian integer.
+pub type LeU24 = Fixed<u32, LittleEndian, 3>;
+
+/// A signed 3-byte little-endian integer.
+pub type LeI24 = Fixed<i32, LittleEndian, 3>;
+
+/// An unsigned 4-byte little-endian integer.
+pub type LeU32 = Fixed<u32, LittleEndian, 4>;
+
+/// A signed 4-byte little-endian integer.
+pub type LeI32 = Fixed<i32, LittleEndian, 4>;
+
+/// An unsigned 5-byte little-endian integer.
+pub type LeU40 = Fixed<u64, LittleEndian, 5>;
+
+/// A signed 5-byte little-endian integer.
+pub type LeI40 = Fixed<i64, LittleEndian, 5>;
+
+/// An unsigned 6-byte little-endian integer.
+pub type LeU48 = Fixed<u64, LittleEndian, 6>;
+
+/// A signed 6-byte little-endian integer.
+pub type LeI48 = Fixed<i64, LittleEndian, 6>;
+
+/// An unsigned 7-byte little-endian integer.
+pub type LeU56 = Fixed<u64, LittleEndian, 7>;
+
+/// A signed 7-byte little-endian integer.
+pub type LeI56 = Fixed<i64, LittleEndian, 7>;
+
+/// An unsigned 8-byte little-endian integer.
+pub type LeU64 = Fixed<u64, LittleEndian, 8>;
+
+/// A signed 8-byte little-endian integer.
+pub type LeI64 = Fixed<i64, LittleEndian, 8>;
+
+/// An unsigned 16-byte little-endian integer.
+pub type LeU128 = Fixed<u128, LittleEndian, 16>;
+
+/// A signed 16-byte little-endian integer.
+pub type LeI128 = Fixed<i128, LittleEndian, 16>;
+
+/// An unsigned 2-byte big-endian integer.
+pub type BeU16 = Fixed<u16, BigEndian, 2>;
+
+/// A signed 2-byte big-endian integer.
+pub type BeI16 = Fixed<i16, BigEndian, 2>;
+
+/// An unsigned 3-byte big-endian integer.
+pub type BeU24 = Fixed<u32, BigEndian, 3>;
+
+/// A signed 3-byte big-endian integer.
+pub type BeI24 = Fixed<i32, BigEndian, 3>;
+
+/// An unsigned 4-byte big-endian integer.
+pub type BeU32 = Fixed<u32, BigEndian, 4>;
+
+/// A signed 4-byte big-endian integer.
+pub type BeI32 = Fixed<i32, BigEndian, 4>;
+
+/// An unsigned 5-byte big-endian integer.
+pub type BeU40 = Fixed<u64, BigEndian, 5>;
+
+/// A signed 5-byte big-endian integer.
+pub type BeI40 = Fixed<i64, BigEndian, 5>;
+
+/// An unsigned 6-byte big-endian integer.
+pub type BeU48 = Fixed<u64, BigEndian, 6>;
+
+/// A signed 6-byte big-endian integer.
+pub type BeI48 = Fixed<i64, BigEndian, 6>;
+
+/// An unsigned 7-byte big-endian integer.
+pub type BeU56 = Fixed<u64, BigEndian, 7>;
+
+/// A signed 7-byte big-endian integer.
+pub type BeI56 = Fixed<i64, BigEndian, 7>;
+
+/// An unsigned 8-byte big-endian integer.
+pub type BeU64 = Fixed<u64, BigEndian, 8>;
+
+/// A signed 8-byte big-endian integer.
+pub type BeI64 = Fixed<i64, BigEndian, 8>;
+
+/// An unsigned 16-byte big-endian integer.
+pub type BeU128 = Fixed<u128, BigEndian, 16>;
+
+/// A signed 16-byte big-endian integer.
+pub type BeI128 = Fixed<i128, BigEndian, 16>;

@@ -3,11 +3,11 @@ ghost use Rattle.std.specs.Int.RustNames.{bit_and};
 ghost use Rattle.bitflags.specs.Sets.{known_bits};
 ghost use Rattle.wire_buf.specs.Encoding.{Alone, Lacks};
 
+use crate::IntRepr;
 use bitflags::Flags;
 use std::alloc::{Allocator, Global};
 use std::marker::PhantomData;
 use wire_buf::{Inner, MyDeserialize, MySerialize, ParseBuf, WireFault};
-use wire_ints::IntRepr;
 
 /// A set of flags as a number in the representation `U`. Bits that no flag of `T` has are kept.
 #[derive(Drop)]

@@ -7,10 +7,9 @@ use std::alloc::Global;
 use wire_buf::{MySerialize, ParseBuf, WireFault};
 use wire_consts::{ColumnFlags, ColumnType, GeometryType, ItemResult};
 use wire_forms::{
-    BareU8Bytes, Const, ConstBytes, ConstBytesValue, ConstU8, ConstU32, Either, RawBytes, RawConst,
-    RawFlags, Skip,
+    BareU8Bytes, Const, ConstBytes, ConstBytesValue, ConstU8, ConstU32, Either, LeU16, RawBytes,
+    RawConst, RawFlags, RawInt, Skip,
 };
-use wire_ints::{LeU16, RawInt};
 
 fn constants_and_flags(alloc: Global) -> bool {
     let flags = RawFlags::<ColumnFlags, LeU16>::new(0x0100);

@@ -2,7 +2,7 @@
 
 use crate::helpers::{agrees, is_too_wide, number_size_agrees};
 use std::alloc::Global;
-use wire_ints::{
+use wire_forms::{
     BeI16, BeI24, BeI32, BeI40, BeI48, BeI56, BeI64, BeI128, BeU16, BeU24, BeU32, BeU40, BeU48,
     BeU56, BeU64, BeU128, LeI16, LeI24, LeI32, LeI40, LeI48, LeI56, LeI64, LeI128, LeU16, LeU24,
     LeU32, LeU32LowerHalf, LeU32UpperHalf, LeU40, LeU48, LeU56, LeU64, LeU128, LenEnc, VarLen,

@@ -2,7 +2,7 @@
 
 use std::alloc::Global;
 use wire_buf::{MyDeserialize, MySerialize, ParseBuf, WireFault, WireSize};
-use wire_ints::{IntRepr, RawInt};
+use wire_forms::{IntRepr, RawInt};
 
 /// The bytes that are written for the value.
 pub fn written<V: MySerialize>(alloc: Global, value: &V) -> Result<Vec<u8>, WireFault> {

@@ -4,9 +4,7 @@ use linked_list_allocator::LocalHeap;
 use std::alloc::Global;
 use std::borrow::CowSlice;
 use wire_buf::{MySerialize, WireFault};
-use wire_forms::{BytesRepr, NullBytes, RawBytes, U8Bytes};
-use wire_ints::{LeU16, LeU128, LenEnc, RawInt};
-use wire_seqs::Seq;
+use wire_forms::{BytesRepr, LeU16, LeU128, LenEnc, NullBytes, RawBytes, RawInt, Seq, U8Bytes};
 
 /// Writes a value after `ab` with memory for so many bytes. Returns the result and the number of bytes then
 /// in the buffer, or None if there is no memory even for `ab`.

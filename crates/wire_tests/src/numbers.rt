@@ -3,8 +3,8 @@
 use crate::helpers::{number_parsed, writes_number, written};
 use std::alloc::Global;
 use wire_buf::{ParseBuf, WireFault};
-use wire_ints::laws::read_back;
-use wire_ints::{
+use wire_forms::laws::read_back;
+use wire_forms::{
     BufMutExt, InvalidLengthEncodedInteger, LeI24, LeI48, LeU16, LeU24, LeU32LowerHalf,
     LeU32UpperHalf, LeU128, LenEnc, RawInt, VarLen, lenenc_int_len, lenenc_str_len,
     read_varlen_uint, varlen_uint_size, write_varlen_uint,

@@ -4,8 +4,7 @@ use bytes::BytesMut;
 use std::alloc::Global;
 use wire_buf::{MySerialize, ParseBuf, WireFault};
 use wire_consts::{DEFAULT_MAX_ALLOWED_PACKET, MAX_PAYLOAD_LEN};
-use wire_forms::{EofBytes, RawBytes, Skip, U8Bytes};
-use wire_ints::{LeU24, LenEnc, RawInt};
+use wire_forms::{EofBytes, LeU24, LenEnc, RawBytes, RawInt, Skip, U8Bytes};
 use wire_packets::{
     ChunkDecoder, ChunkInfo, PACKET_HEADER_LEN, PacketCodec, PacketCodecError, decode_pieces,
     packet_to_chunks, split_version,

@@ -6,10 +6,9 @@ use std::borrow::CowSlice;
 use wire_buf::{ParseBuf, WireFault, WireSize};
 use wire_forms::laws::read_back_bytes;
 use wire_forms::{
-    BareU8Bytes, BareU16Bytes, BytesRepr, EofBytes, FixedLengthText, NullBytes, RawBytes, U8Bytes,
-    U32Bytes,
+    BareU8Bytes, BareU16Bytes, BytesRepr, EofBytes, FixedLengthText, LenEnc, NullBytes, RawBytes,
+    U8Bytes, U32Bytes, VarLen,
 };
-use wire_ints::{LenEnc, VarLen};
 
 /// Whether the representation writes the text as the bytes.
 fn writes_text<T: BytesRepr>(alloc: Global, text: &[u8], bytes: &[u8]) -> bool {

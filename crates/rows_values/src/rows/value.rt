@@ -1,7 +1,7 @@
 ghost use Rattle.std.specs.Prelude.{◌≡◌, IfOk};
 ghost use Rattle.rows_values.specs.Values.{SameValue, span_value, date_value};
 
-use rows_times::MysqlTime;
+use crate::MysqlTime;
 use std::alloc::{AllocError, Global};
 
 /// The value of a cell. Floats are stored and compared as their bits.

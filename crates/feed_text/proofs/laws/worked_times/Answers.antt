@@ -3,7 +3,7 @@ use Rattle.std.specs.Fmt.{digits}
 use Rattle.feed_writers.specs.TimesOfDay.{clock_text}
 use Rattle.feed_text.specs.Times.{span_text}
 use Rattle.feed_text.specs.ValueText.{value_text}
-use Rattle.rows_times.specs.TimeTexts.{padded_decimal}
+use Rattle.rows_values.specs.TimeTexts.{padded_decimal}
 use Rattle.feed_text.proofs.WorkedLemmas.{worked_date, worked_date_text}
 use Rattle.feed_text.proofs.laws.worked_times.Goals as goal
 

@@ -1,5 +1,5 @@
 use Rattle.std.proofs.Common.{ℕ, ◌++◌, take, ap, ◌∙◌, arith}
-use Rattle.rows_times.specs.TimeTexts.{padded_decimal}
+use Rattle.rows_values.specs.TimeTexts.{padded_decimal}
 use Rattle.feed_writers.proofs.DigitLemmas.{padded_long, zeros_more, zeros_done}
 use Rattle.feed_writers.proofs.digits.put_padded.Goals as goal
 

@@ -1,5 +1,5 @@
 use Rattle.std.proofs.Common.{◌≡◌, ◌-◌, ◌*◌, ◌/◌, ◌%◌, ◌++◌, ℕ, take, arith, ap, ◌∙◌}
-use Rattle.rows_times.specs.TimeTexts.{padded_decimal}
+use Rattle.rows_values.specs.TimeTexts.{padded_decimal}
 use Rattle.feed_writers.proofs.DigitLemmas.{count_three, decimal_three, pushed_then}
 use Rattle.feed_writers.proofs.digits.put_three.Goals as goal
 

@@ -1,7 +1,7 @@
 use Rattle.std.proofs.Common.{◌≡◌, ◌≤◌, ◌+◌, length, take, arith}
 use Rattle.std.proofs.lemmas.List.{take_all}
 use Rattle.std.proofs.lemmas.Result.{on_ok_weaker}
-use Rattle.wire_ints.specs.Bits.{map_if}
+use Rattle.wire_forms.specs.Bits.{map_if}
 use Rattle.wire_forms.specs.RawTexts.{raw_string}
 use Rattle.rows_events.proofs.FieldLemmas.{extra_written}
 use Rattle.rows_events.proofs.extra_data.ExtraDataMySerialize.serialize.Goals as goal

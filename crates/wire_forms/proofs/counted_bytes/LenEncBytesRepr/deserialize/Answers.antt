@@ -1,6 +1,6 @@
 use Rattle.wire_buf.proofs.StringLemmas.{Reads-counted}
 use Rattle.wire_buf.specs.Numbers.{IsLenenc}
-use Rattle.wire_ints.specs.Faults.{lenenc_fault}
+use Rattle.wire_forms.specs.Faults.{lenenc_fault}
 use Rattle.wire_forms.proofs.TextLemmas.{count_failed, count_short}
 use Rattle.wire_forms.proofs.counted_bytes.LenEncBytesRepr.deserialize.Goals as goal
 

@@ -1,6 +1,6 @@
 use Rattle.wire_buf.proofs.StringLemmas.{Reads-counted}
-use Rattle.wire_ints.specs.Sevens.{IsVarLen}
-use Rattle.wire_ints.specs.Faults.{varlen_fault}
+use Rattle.wire_forms.specs.Sevens.{IsVarLen}
+use Rattle.wire_forms.specs.Faults.{varlen_fault}
 use Rattle.wire_forms.proofs.TextLemmas.{count_failed, count_short}
 use Rattle.wire_forms.proofs.counted_bytes.VarLenBytesRepr.deserialize.Goals as goal
 

@@ -1,9 +1,0 @@
-use Rattle.std.proofs.Common.{rules}
-use Rattle.std.proofs.Output.{has_written_styled_append, has_written_styled_of_eq}
-use Rattle.rows_decimal.proofs.display.put_fraction.Goals as goal
-
-pub returns : goal.returns
-returns g c = λ flush done.
-    let a = c.write_str.ensures.styled flush (search rules) in
-    let b = c.put_glyphs.ensures a.flush done in
-    has_written_styled_of_eq _ _ _ _ _ (search rules) (has_written_styled_append _ _ _ _ _ _ a b)

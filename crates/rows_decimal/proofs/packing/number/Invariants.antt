@@ -1,7 +1,0 @@
-use Rattle.std.proofs.Common.{◌≡◌, take}
-use Rattle.std.specs.Int.Digits.{number_from_digits}
-use Rattle.rows_decimal.proofs.packing.number.Given as goal
-
--- the number of the digits so far
-abbrev pub invariant-loop-digit : goal.invariant-loop-digit
-invariant-loop-digit l = l.number ≡ number_from_digits 10 (take l.digit-index l.digits)

@@ -1,8 +1,0 @@
-pub mod Digits
-pub mod Decimals
-pub mod Texts
-pub mod Steps
-pub mod RemainingGroups
-pub mod Unpacked
-pub mod PackedTexts
-pub mod PackedNumbers

@@ -1,2 +1,0 @@
-pub mod TimeTextLemmas
-pub mod TimeCaseLemmas

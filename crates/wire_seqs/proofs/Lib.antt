@@ -1,3 +1,0 @@
-pub mod SequenceLemmas
-pub mod CountLemmas
-pub mod BytewiseLemmas
