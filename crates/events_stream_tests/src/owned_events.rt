@@ -72,20 +72,11 @@ fn cut_events_are_refused(alloc: Global) -> bool {
             == Some(EventError::Frame)
 }
 
-/// The parts of the event with these bytes, read from a slice.
-fn taken<'a>(
-    reader: &mut EventStreamReader,
-    event: &'a [u8],
-) -> Result<EventParts<'a>, EventError> {
-    reader.read_slice(event)
-}
-
-/// The event with these bytes, read from a reader.
-fn taken_owned(
-    reader: &mut EventStreamReader,
-    event: &[u8],
-) -> Result<Option<Event<'static>>, EventError> {
-    reader.read(&mut Watched::new(event))
+/// Whether the event has these parts.
+fn has_parts(event: Event<'_>, parts: Result<EventParts<'_>, EventError>) -> bool {
+    let has_parts = parts == Ok(event.parts());
+    drop(event);
+    has_parts
 }
 
 /// Whether these bytes have the same result read from a slice and read from a reader.
@@ -94,10 +85,11 @@ fn is_taken_alike(
     owned: &mut EventStreamReader,
     event: &[u8],
 ) -> bool {
-    match (taken(slices, event), taken_owned(owned, event)) {
-        (Ok(parts), Ok(Some(event))) => event.parts() == parts,
-        (Err(fault), Err(again)) => fault == again,
-        _ => false,
+    let parts = slices.read_slice(event);
+    match owned.read(&mut Watched::new(event)) {
+        Ok(Some(event)) => has_parts(event, parts),
+        Ok(None) => false,
+        Err(fault) => parts == Err(fault),
     }
 }
 

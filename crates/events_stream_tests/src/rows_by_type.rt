@@ -1,7 +1,8 @@
 //! Rows events by type, and bodies that are read in the context of their event.
 
 use events_frames::{
-    BinlogCtx, BinlogEvent, BinlogStruct, EventError, FormatDescriptionEvent, read_struct,
+    BinlogCtx, BinlogEvent, BinlogStruct, EventError, FormatDescriptionEvent, read_body,
+    read_struct,
 };
 use events_rows::{
     DeleteRowsEvent, DeleteRowsEventV1, PartialUpdateRowsEvent, RowsEventData, UpdateRowsEvent,
