@@ -1,5 +1,4 @@
-//! The event types whose bodies have a struct; those of table maps and rows events are in
-//! `events_stream_tests`.
+//! The event types whose bodies have a struct; those of table maps and rows events are in `rows_by_type`.
 
 use events_bodies::{
     BeginLoadQueryEvent, IncidentEvent, IntvarEvent, RandEvent, RotateEvent, RowsQueryEvent,

@@ -1,6 +1,4 @@
-//! Tests of frames, descriptions and the bodies of events: a file for each subject, and `devices` and `written` for what they
-//! share. Tests of rows events, bodies of any type, owned events, files and streams are in `events_stream_tests`; both use the
-//! bytes in `samples` and `worked`.
+//! Tests of events: a file for each subject, and `devices`, `memory`, `samples`, `worked` and `written` for what they share.
 #![tactic(auto)]
 
 #[cfg(test)]
@@ -10,7 +8,13 @@ mod descriptions;
 #[cfg(test)]
 mod devices;
 #[cfg(test)]
+mod event_data;
+#[cfg(test)]
 mod event_types;
+#[cfg(test)]
+mod example;
+#[cfg(test)]
+mod files;
 #[cfg(test)]
 mod footers_and_bodies;
 #[cfg(test)]
@@ -20,16 +24,28 @@ mod gtids;
 #[cfg(test)]
 mod headers;
 #[cfg(test)]
+mod memory;
+#[cfg(test)]
+mod owned_events;
+#[cfg(test)]
 mod parts;
 #[cfg(test)]
 mod queries;
-pub mod samples;
+#[cfg(test)]
+mod readers;
+#[cfg(test)]
+mod rows_by_type;
+#[cfg(test)]
+mod samples;
 #[cfg(test)]
 mod sources;
 #[cfg(test)]
 mod status_vars;
 #[cfg(test)]
 mod user_vars;
-pub mod worked;
+#[cfg(test)]
+mod worked;
 #[cfg(test)]
 mod written;
+#[cfg(test)]
+mod written_files;

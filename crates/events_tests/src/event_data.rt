@@ -1,12 +1,12 @@
 //! The body of an event of any type: read by its type, made owned, and written again, also if memory may run out.
 
 use crate::memory::is_all_or_nothing;
-use events_frames::{BinlogCtx, EventError, FormatDescriptionEvent};
-use events_stream::EventData;
-use events_tests::samples::{
+use crate::samples::{
     BEGIN_LOAD, FULL, INCIDENT, INTVAR, LOAD, QUERY, RAND, ROTATE, UNSIGNED, UPDATE, XID,
 };
-use events_tests::worked::{DESCRIPTION, INSERT, TABLE_MAP};
+use crate::worked::{DESCRIPTION, INSERT, TABLE_MAP};
+use events_frames::{BinlogCtx, EventError, FormatDescriptionEvent};
+use events_stream::EventData;
 use rows_consts::{BinlogVersion, EventType};
 use std::alloc::Global;
 use wire_buf::MySerialize;
@@ -45,21 +45,59 @@ fn is_shown(alloc: Global, event: &EventData<'_>, start: &str, bytes: &[u8]) -> 
         }
 }
 
-/// Whether the event is shown so, and equals the owned one, which is written as the same bytes, completely or not at all.
-fn is_same(
+/// Whether the event is shown so, and equals the other, which is written as the same bytes, completely or not at all.
+fn are_same(
     alloc: Global,
-    event: EventData<'_>,
-    owned: EventData<'_>,
+    event: &EventData<'_>,
+    other: &EventData<'_>,
     start: &str,
     bytes: &[u8],
 ) -> bool {
-    let is_same = is_shown(alloc, &event, start, bytes)
-        && is_written(alloc, &owned, bytes)
-        && (bytes.is_empty() || is_all_or_nothing(alloc, &owned, bytes.len()))
-        && event == owned;
+    is_shown(alloc, event, start, bytes)
+        && is_written(alloc, other, bytes)
+        && (bytes.is_empty() || is_all_or_nothing(alloc, other, bytes.len()))
+        && event == other
+}
+
+/// The same for an event that is then dropped.
+fn is_same(
+    alloc: Global,
+    event: EventData<'_>,
+    other: &EventData<'_>,
+    start: &str,
+    bytes: &[u8],
+) -> bool {
+    let is_same = are_same(alloc, &event, other, start, bytes);
     drop(event);
-    drop(owned);
     is_same
+}
+
+/// Whether the body is read as an event that is shown so and equals the other.
+fn is_read_as(
+    alloc: Global,
+    event_type: EventType,
+    other: &EventData<'_>,
+    start: &str,
+    body: &[u8],
+) -> bool {
+    let in_force = FormatDescriptionEvent::new(BinlogVersion::Version4);
+    match read(alloc, &in_force, event_type, body) {
+        Ok(event) => is_same(alloc, event, other, start, body),
+        Err(_) => false,
+    }
+}
+
+/// The same for an event that is then dropped.
+fn is_read_again(
+    alloc: Global,
+    event_type: EventType,
+    other: EventData<'_>,
+    start: &str,
+    body: &[u8],
+) -> bool {
+    let is_read = is_read_as(alloc, event_type, &other, start, body);
+    drop(other);
+    is_read
 }
 
 /// The body of an event of the type, with bytes of its own.
@@ -79,15 +117,9 @@ fn owned(
 /// equals it, and is written so too or, if memory runs out, not at all.
 fn is_kept(alloc: Global, event_type: EventType, start: &str, body: &[u8]) -> bool {
     let in_force = FormatDescriptionEvent::new(BinlogVersion::Version4);
-    let Some(owned) = owned(alloc, &in_force, event_type, body) else {
-        return false;
-    };
-    match read(alloc, &in_force, event_type, body) {
-        Ok(event) => is_same(alloc, event, owned, start, body),
-        Err(_) => {
-            drop(owned);
-            false
-        }
+    match owned(alloc, &in_force, event_type, body) {
+        Some(owned) => is_read_again(alloc, event_type, owned, start, body),
+        None => false,
     }
 }
 
