@@ -1,7 +1,7 @@
 use Rattle.std.proofs.Common.{ℕ, ◌≡◌, ◌%◌, ◌==◌, ap, ◌∙◌, bit_and, arith}
 use Rattle.std.proofs.lemmas.Nat.{and_mask}
 use Rattle.bitflags.proofs.OnLiterals.{bitflags_on_literals}
-use Rattle.feed_payloads.proofs.format.is_ack_flag_set.Goals as goal
+use Rattle.feed_streams.proofs.acknowledgements.is_ack_flag_set.Goals as goal
 
 -- the only flag is the lowest bit
 pub returns : goal.returns
