@@ -6,7 +6,8 @@ ghost use Rattle.wire_packets.specs.Framing.{max_chunk_len, chunk, framing};
 ghost use Rattle.feed_kinds.specs.Events.{log_pos_of};
 ghost use Rattle.feed_reports.specs.Events.{joined};
 ghost use Rattle.feed_streams.specs.Acknowledgements.{is_ack_requested, requested_acks};
-ghost use Rattle.feed_payloads.specs.Streams.{Plain, event_in};
+ghost use Rattle.feed_payloads.specs.declared.format.PayloadFormat.TheVariants.{Plain};
+ghost use Rattle.feed_payloads.specs.Streams.{event_in};
 
 use bitflags::Flags;
 use feed_payloads::{LogName, PayloadFormat};
