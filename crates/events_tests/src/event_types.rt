@@ -1,4 +1,5 @@
-//! The event types whose bodies have a struct; those of table maps and rows events are in `rows_by_type`.
+//! The event types whose bodies have a struct; those of table maps and rows events are in
+//! `events_stream_tests`.
 
 use events_bodies::{
     BeginLoadQueryEvent, IncidentEvent, IntvarEvent, RandEvent, RotateEvent, RowsQueryEvent,

@@ -1,4 +1,6 @@
-//! Tests of events: a file for each subject, and `devices`, `memory`, `samples`, `worked` and `written` for what they share.
+//! Tests of frames, descriptions and the bodies of events: a file for each subject, and `devices` and `written` for what they
+//! share. Tests of bodies of any type, owned events, files and streams are in `events_stream_tests`; both use the
+//! bytes in `samples` and `worked`.
 #![tactic(auto)]
 
 #[cfg(test)]
@@ -8,13 +10,7 @@ mod descriptions;
 #[cfg(test)]
 mod devices;
 #[cfg(test)]
-mod event_data;
-#[cfg(test)]
 mod event_types;
-#[cfg(test)]
-mod example;
-#[cfg(test)]
-mod files;
 #[cfg(test)]
 mod footers_and_bodies;
 #[cfg(test)]
@@ -24,28 +20,18 @@ mod gtids;
 #[cfg(test)]
 mod headers;
 #[cfg(test)]
-mod memory;
-#[cfg(test)]
-mod owned_events;
-#[cfg(test)]
 mod parts;
 #[cfg(test)]
 mod queries;
 #[cfg(test)]
-mod readers;
-#[cfg(test)]
 mod rows_by_type;
-#[cfg(test)]
-mod samples;
+pub mod samples;
 #[cfg(test)]
 mod sources;
 #[cfg(test)]
 mod status_vars;
 #[cfg(test)]
 mod user_vars;
-#[cfg(test)]
-mod worked;
+pub mod worked;
 #[cfg(test)]
 mod written;
-#[cfg(test)]
-mod written_files;

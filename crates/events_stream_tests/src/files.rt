@@ -1,8 +1,8 @@
 //! Binary log files, and writing events.
 
-use crate::worked::{BEGIN, COMMIT, DESCRIPTION, INSERT, TABLE_MAP, changed};
 use events_frames::{BinlogEventFooter, BinlogFileHeader, EventError, EventParts, calc_checksum};
 use events_stream::{BinlogFile, write_event};
+use events_tests::worked::{BEGIN, COMMIT, DESCRIPTION, INSERT, TABLE_MAP, changed};
 use rows_consts::BinlogVersion;
 use std::alloc::{AllocError, Global};
 

@@ -1,12 +1,12 @@
 //! The body of an event of any type: read by its type, made owned, and written again, also if memory may run out.
 
 use crate::memory::is_all_or_nothing;
-use crate::samples::{
-    BEGIN_LOAD, FULL, INCIDENT, INTVAR, LOAD, QUERY, RAND, ROTATE, UNSIGNED, UPDATE, XID,
-};
-use crate::worked::{DESCRIPTION, INSERT, TABLE_MAP};
 use events_frames::{BinlogCtx, EventError, FormatDescriptionEvent};
 use events_stream::EventData;
+use events_tests::samples::{
+    BEGIN_LOAD, FULL, INCIDENT, INTVAR, LOAD, QUERY, RAND, ROTATE, UNSIGNED, UPDATE, XID,
+};
+use events_tests::worked::{DESCRIPTION, INSERT, TABLE_MAP};
 use rows_consts::{BinlogVersion, EventType};
 use std::alloc::Global;
 use wire_buf::MySerialize;

@@ -1,8 +1,8 @@
 //! Readers of a log's events: the format description in force, and table maps.
 
-use crate::worked::{BEGIN, DESCRIPTION, TABLE_MAP, changed};
 use events_frames::{EventError, EventParts};
 use events_reader::EventStreamReader;
+use events_tests::worked::{BEGIN, DESCRIPTION, TABLE_MAP, changed};
 use rows_consts::BinlogVersion;
 use std::alloc::{AllocError, Global};
 

@@ -1,11 +1,11 @@
 //! Owned events.
 
 use crate::files::{added, file_with};
-use crate::worked::{BEGIN, COMMIT, DESCRIPTION, INSERT, TABLE_MAP, changed};
 use events_bodies::XidEvent;
 use events_frames::{EventError, EventParts, FormatDescriptionEvent};
 use events_reader::EventStreamReader;
 use events_stream::{BinlogFile, Event, EventData, ReadEvents};
+use events_tests::worked::{BEGIN, COMMIT, DESCRIPTION, INSERT, TABLE_MAP, changed};
 use rows_consts::{BinlogChecksumAlg, BinlogVersion};
 use std::alloc::Global;
 use std::rc::Rc;
