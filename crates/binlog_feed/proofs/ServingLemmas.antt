@@ -13,7 +13,8 @@ use Rattle.feed_kinds.specs.declared.verdict.Verdict.TheVariants as verdicts
 use Rattle.feed_kinds.specs.Words.{first, onto}
 use Rattle.feed_kinds.specs.Events.{Event, in_force}
 use Rattle.feed_kinds.specs.Kinds.{kind_of, kinds}
-use Rattle.feed_rules.specs.Checks.{body_fault, context_fault, rows_fault, outer_fault, inner_fault, is_body_checked, fault_of, damage_of}
+use Rattle.feed_checks.specs.Damage.{body_fault, outer_fault, is_body_checked, damage_of}
+use Rattle.feed_rules.specs.Checks.{context_fault, rows_fault, inner_fault, fault_of}
 use Rattle.feed_rules.specs.Laws.{Each}
 use Rattle.feed_rules.specs.Rules.{Rules, Judge, rules, up_to_fault, fault_after, shown_after, shown, first_fault}
 use Rattle.feed_rules.specs.Transactions.{Transaction}

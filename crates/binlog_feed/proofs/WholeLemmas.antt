@@ -8,7 +8,8 @@ use Rattle.feed_kinds.specs.Words.{first, when}
 use Rattle.feed_kinds.specs.Events.{Event, log_pos_of, in_force}
 use Rattle.feed_rows.specs.Rows.{Change, Insert, Update, Delete}
 use Rattle.feed_kinds.specs.Kinds.{Kind, Format, NextGtid, Begin, Commit, Rollback, IsStatement, Map, Rows, RealRotate, Ignored, Unshown, Unknown, BadBody, is_inside, waiting, kinds, kind_of}
-use Rattle.feed_rules.specs.Checks.{outer_fault, inner_fault, fault_of}
+use Rattle.feed_checks.specs.Damage.{outer_fault}
+use Rattle.feed_rules.specs.Checks.{inner_fault, fault_of}
 use Rattle.feed_rules.specs.Transactions.{Transaction, Line, Changed, Stated, committed, kind_shows, shown_by, lines_of}
 use Rattle.feed_rules.specs.Rules.{up_to_fault, shown_after, rules}
 use Rattle.feed_rules.specs.Texts.{with_line_feed, change_word, names_text, images_text, line_text}

@@ -20,7 +20,8 @@ use Rattle.feed_kinds.specs.Bodies.{query_in, rotate_in, xid_in, table_map_in, r
 use Rattle.feed_kinds.specs.Events.{parts, description_of, in_force}
 use Rattle.feed_rows.specs.Rows.{image_texts, row_texts, texts_of_rows, rows_result}
 use Rattle.feed_kinds.specs.Kinds.{kind_by, kinds, is_inside, waiting, since_begin, newest_map}
-use Rattle.feed_rules.specs.Checks.{frame_fault, algorithm_fault, checksum_fault, size_fault, fault_of}
+use Rattle.feed_checks.specs.Damage.{frame_fault, algorithm_fault, checksum_fault, size_fault}
+use Rattle.feed_rules.specs.Checks.{fault_of}
 use Rattle.feed_rules.specs.Transactions.{lines_of, shown_by}
 use Rattle.feed_rules.specs.Rules.{up_to_fault, fault_after, shown_after}
 use Rattle.feed_rules.specs.Texts.{gtid_text, line_text, transaction_text}

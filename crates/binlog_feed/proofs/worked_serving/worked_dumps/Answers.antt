@@ -6,7 +6,7 @@ use Rattle.wire_packets.specs.Version.{number_at, after_point, numbers_at}
 use Rattle.feed_kinds.specs.Bodies.{rotate_in, table_map_in}
 use Rattle.feed_kinds.specs.Events.{parts, description_of, in_force}
 use Rattle.feed_kinds.specs.Kinds.{kind_by}
-use Rattle.feed_rules.specs.Checks.{frame_fault, algorithm_fault, checksum_fault, size_fault, damage_of}
+use Rattle.feed_checks.specs.Damage.{frame_fault, algorithm_fault, checksum_fault, size_fault, damage_of}
 use Rattle.feed_rules.specs.Rules.{up_to_fault, fault_after}
 use Rattle.feed_reports.specs.Events.{events_in}
 use Rattle.feed_serving.specs.Requests.{payload_of_packet}
