@@ -1,5 +1,7 @@
 //! Rows events by type, and bodies that are read in the context of their event.
 
+use crate::samples::UPDATE;
+use crate::worked::{DESCRIPTION, INSERT, TABLE_MAP, changed};
 use events_frames::{
     BinlogCtx, BinlogEvent, BinlogStruct, EventError, FormatDescriptionEvent, read_body,
     read_struct,
@@ -8,8 +10,6 @@ use events_rows::{
     DeleteRowsEvent, DeleteRowsEventV1, PartialUpdateRowsEvent, RowsEventData, UpdateRowsEvent,
     UpdateRowsEventV1, WriteRowsEvent, WriteRowsEventV1,
 };
-use crate::samples::UPDATE;
-use crate::worked::{DESCRIPTION, INSERT, TABLE_MAP, changed};
 use rows_consts::{BinlogVersion, EventType};
 use rows_events::{BinlogRow, RowsEventRows, RowsEventType};
 use rows_meta::TableMapEvent;
