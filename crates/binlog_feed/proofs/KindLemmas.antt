@@ -1,7 +1,7 @@
 -- What the kinds of earlier events imply.
 use Rattle.std.proofs.Common.{◌≡◌, true, List, [], ◌∷◌, None, refl, ap, ◌∙◌}
 use Rattle.feed_kinds.specs.Words.{before_newest}
-use Rattle.feed_kinds.specs.Kinds.{Kind, Format, NextGtid, Begin, Commit, Rollback, IsStatement, Map, Rows, RealRotate, Ignored, Unshown, Unknown, BadBody, open_change, is_inside, is_begin, since_begin}
+use Rattle.feed_kinds.specs.Kinds.{Kind, Format, NextGtid, Begin, Commit, Rollback, Statement, Map, Rows, RealRotate, Ignored, Unshown, Unknown, BadBody, open_change, is_inside, is_begin, since_begin}
 use Rattle.feed_rules.specs.Laws.{IsOpen}
 
 -- one more kind of a transaction that is open
@@ -24,7 +24,7 @@ inside-open (Commit ∷ past) h = absurd cc
 inside-open (Rollback ∷ past) h = absurd cc
 inside-open (Format ∷ past) h = absurd cc
 inside-open (NextGtid g ∷ past) h = longer (NextGtid g) past refl refl refl (inside-open past h)
-inside-open (IsStatement q ∷ past) h = longer (IsStatement q) past refl refl refl (inside-open past h)
+inside-open (Statement q ∷ past) h = longer (Statement q) past refl refl refl (inside-open past h)
 inside-open (Map m ∷ past) h = longer (Map m) past refl refl refl (inside-open past h)
 inside-open (Rows r ∷ past) h = longer (Rows r) past refl refl refl (inside-open past h)
 inside-open (RealRotate ∷ past) h = longer RealRotate past refl refl refl (inside-open past h)

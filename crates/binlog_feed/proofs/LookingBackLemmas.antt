@@ -5,7 +5,7 @@ use Rattle.std.specs.List.{list_any}
 use Rattle.std.proofs.lemmas.Bool.{cases_Bool, eqb-true}
 use Rattle.rows_meta.specs.TableMaps.{TableMap}
 use Rattle.feed_kinds.specs.Words.{when}
-use Rattle.feed_kinds.specs.Kinds.{Gtid, Kind, Format, NextGtid, Begin, Commit, Rollback, IsStatement, Map, Rows, RealRotate, Ignored, Unshown, Unknown, BadBody, is_inside, waiting, is_waiting, since_begin, newest_map}
+use Rattle.feed_kinds.specs.Kinds.{Gtid, Kind, Format, NextGtid, Begin, Commit, Rollback, Statement, Map, Rows, RealRotate, Ignored, Unshown, Unknown, BadBody, is_inside, waiting, is_waiting, since_begin, newest_map}
 use Rattle.binlog_feed.specs.LookingBack.{HasNewest, IsAnyGtid, IsMap, ends_transaction, takes_gtid, replaces_gtid, replaces_map}
 
 -- this element
@@ -33,7 +33,7 @@ inside-has (Commit ∷ past) h = absurd cc
 inside-has (Rollback ∷ past) h = absurd cc
 inside-has (Format ∷ past) h = absurd cc
 inside-has (NextGtid g ∷ past) h = before (λ k. k ≡ Begin) ends_transaction (NextGtid g) past refl (inside-has past h)
-inside-has (IsStatement q ∷ past) h = before (λ k. k ≡ Begin) ends_transaction (IsStatement q) past refl (inside-has past h)
+inside-has (Statement q ∷ past) h = before (λ k. k ≡ Begin) ends_transaction (Statement q) past refl (inside-has past h)
 inside-has (Map m ∷ past) h = before (λ k. k ≡ Begin) ends_transaction (Map m) past refl (inside-has past h)
 inside-has (Rows r ∷ past) h = before (λ k. k ≡ Begin) ends_transaction (Rows r) past refl (inside-has past h)
 inside-has (RealRotate ∷ past) h = before (λ k. k ≡ Begin) ends_transaction RealRotate past refl (inside-has past h)
@@ -51,7 +51,7 @@ inside-after (Commit ∷ later) k older b h = absurd cc
 inside-after (Rollback ∷ later) k older b h = absurd cc
 inside-after (Format ∷ later) k older b h = absurd cc
 inside-after (NextGtid g ∷ later) k older b h = inside-after later k older b h
-inside-after (IsStatement q ∷ later) k older b h = inside-after later k older b h
+inside-after (Statement q ∷ later) k older b h = inside-after later k older b h
 inside-after (Map m ∷ later) k older b h = inside-after later k older b h
 inside-after (Rows r ∷ later) k older b h = inside-after later k older b h
 inside-after (RealRotate ∷ later) k older b h = inside-after later k older b h
@@ -70,7 +70,7 @@ unfolding waiting
 waiting-has [] g h = absurd cc
 waiting-has (NextGtid x ∷ past) g h = here (λ k. k ≡ NextGtid g) replaces_gtid (NextGtid x) past (let e : x ≡ g = cc in ap NextGtid e)
 waiting-has (Begin ∷ past) g h = absurd cc
-waiting-has (IsStatement q ∷ past) g h = absurd cc
+waiting-has (Statement q ∷ past) g h = absurd cc
 waiting-has (Format ∷ past) g h = absurd cc
 waiting-has (Commit ∷ past) g h = before (λ k. k ≡ NextGtid g) replaces_gtid Commit past refl (waiting-has past g h)
 waiting-has (Rollback ∷ past) g h = before (λ k. k ≡ NextGtid g) replaces_gtid Rollback past refl (waiting-has past g h)
@@ -87,7 +87,7 @@ unfolding waiting
 waiting-after [] k older g e h = rw e refl
 waiting-after (NextGtid x ∷ later) k older g e h = absurd cc
 waiting-after (Begin ∷ later) k older g e h = absurd cc
-waiting-after (IsStatement q ∷ later) k older g e h = absurd cc
+waiting-after (Statement q ∷ later) k older g e h = absurd cc
 waiting-after (Format ∷ later) k older g e h = absurd cc
 waiting-after (Commit ∷ later) k older g e h = waiting-after later k older g e h
 waiting-after (Rollback ∷ later) k older g e h = waiting-after later k older g e h
@@ -107,7 +107,7 @@ waiting-of past g h = ap waiting h.split ∙ waiting-after h.later h.element h.o
 fewer : (k : Kind) → replaces_gtid k ≡ false → takes_gtid k ≡ false
 fewer (NextGtid g) h = refl
 fewer Begin h = h
-fewer (IsStatement q) h = h
+fewer (Statement q) h = h
 fewer Format h = h
 fewer Commit h = refl
 fewer Rollback h = refl
@@ -140,7 +140,7 @@ unfolding waiting
 waits-after [] k older e h = rw e.1 refl
 waits-after (NextGtid x ∷ later) k older e h = refl
 waits-after (Begin ∷ later) k older e h = absurd cc
-waits-after (IsStatement q ∷ later) k older e h = absurd cc
+waits-after (Statement q ∷ later) k older e h = absurd cc
 waits-after (Format ∷ later) k older e h = absurd cc
 waits-after (Commit ∷ later) k older e h = waits-after later k older e h
 waits-after (Rollback ∷ later) k older e h = waits-after later k older e h
@@ -169,7 +169,7 @@ map-has [] id m h = absurd cc
 map-has (Begin ∷ past) id m h = absurd cc
 map-has (Map x ∷ past) id m h = map-here past id m x (map-has past id m) (nat_eq x.table_id id) refl h
 map-has (NextGtid g ∷ past) id m h = before (IsMap id m) (replaces_map id) (NextGtid g) past refl (map-has past id m h)
-map-has (IsStatement q ∷ past) id m h = before (IsMap id m) (replaces_map id) (IsStatement q) past refl (map-has past id m h)
+map-has (Statement q ∷ past) id m h = before (IsMap id m) (replaces_map id) (Statement q) past refl (map-has past id m h)
 map-has (Format ∷ past) id m h = before (IsMap id m) (replaces_map id) Format past refl (map-has past id m h)
 map-has (Commit ∷ past) id m h = before (IsMap id m) (replaces_map id) Commit past refl (map-has past id m h)
 map-has (Rollback ∷ past) id m h = before (IsMap id m) (replaces_map id) Rollback past refl (map-has past id m h)
@@ -199,7 +199,7 @@ map-after (Map x ∷ later) k older id m e h = elim (cases_Bool (nat_eq x.table_
   | inr f ↦ (let z : list_any (replaces_map id) later ≡ false = rw f at h in other-map x (later ++ k ∷ older) id f ∙ map-after later k older id m e z)
 ]
 map-after (NextGtid g ∷ later) k older id m e h = map-after later k older id m e h
-map-after (IsStatement q ∷ later) k older id m e h = map-after later k older id m e h
+map-after (Statement q ∷ later) k older id m e h = map-after later k older id m e h
 map-after (Format ∷ later) k older id m e h = map-after later k older id m e h
 map-after (Commit ∷ later) k older id m e h = map-after later k older id m e h
 map-after (Rollback ∷ later) k older id m e h = map-after later k older id m e h

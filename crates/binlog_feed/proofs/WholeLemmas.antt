@@ -7,7 +7,7 @@ use Rattle.feed_kinds.specs.declared.verdict.Verdict.TheVariants as verdicts
 use Rattle.feed_kinds.specs.Words.{first, when}
 use Rattle.feed_kinds.specs.Events.{Event, log_pos_of, in_force}
 use Rattle.feed_rows.specs.Rows.{Change, Insert, Update, Delete}
-use Rattle.feed_kinds.specs.Kinds.{Kind, Format, NextGtid, Begin, Commit, Rollback, IsStatement, Map, Rows, RealRotate, Ignored, Unshown, Unknown, BadBody, is_inside, waiting, kinds, kind_of}
+use Rattle.feed_kinds.specs.Kinds.{Kind, Format, NextGtid, Begin, Commit, Rollback, Statement, Map, Rows, RealRotate, Ignored, Unshown, Unknown, BadBody, is_inside, waiting, kinds, kind_of}
 use Rattle.feed_checks.specs.Damage.{outer_fault}
 use Rattle.feed_rules.specs.Checks.{inner_fault, fault_of}
 use Rattle.feed_rules.specs.Transactions.{Transaction, Line, Changed, Stated, committed, kind_shows, shown_by, lines_of}
@@ -46,8 +46,8 @@ lone P false t h = (h refl, tt)
 
 each-whole : (past : List Kind) (k : Kind) (position : ℕ) → inner_fault past k ≡ None → Each (λ t. IsCompleteTransaction past k t × (t.position ≡ position)) (kind_shows past k position)
 each-whole past Commit position h = ((inl (refl, committed-whole past position (inside_then (is_inside past) h)), refl), tt)
-each-whole past (IsStatement q) position h =
-    lone (λ t. IsCompleteTransaction past (IsStatement q) t × (t.position ≡ position)) (is_inside past) (record { gtid = waiting past; lines = Stated q ∷ []; position = position }) (λ o.
+each-whole past (Statement q) position h =
+    lone (λ t. IsCompleteTransaction past (Statement q) t × (t.position ≡ position)) (is_inside past) (record { gtid = waiting past; lines = Stated q ∷ []; position = position }) (λ o.
     (inr (record { query = q; kind_is = refl; outside = o; gtid_is = refl; lines_are = refl }), refl))
 each-whole past Format position h = tt
 each-whole past (NextGtid g) position h = tt

@@ -33,6 +33,7 @@ pub use Rattle.feed_streams.specs.Following
 pub use Rattle.feed_streams.specs.FollowingSteps
 pub mod WorkedStreams
 pub use Rattle.feed_serving.specs.Requests as ServedRequests
+pub use Rattle.feed_serving.specs.RequestedPackets
 pub use Rattle.feed_serving.specs.Positions
 pub use Rattle.feed_serving.specs.Serving
 pub use Rattle.feed_serving.specs.Sending

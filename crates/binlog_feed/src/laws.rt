@@ -23,7 +23,8 @@ ghost use Rattle.feed_kinds.specs.declared.verdict.Verdict.{Verdict};
 ghost use Rattle.feed_payloads.specs.Requests.{dump_request};
 ghost use Rattle.feed_payloads.specs.declared.format.PayloadFormat.{PayloadFormat as Format};
 ghost use Rattle.feed_serving.specs.Positions.{past_at, is_between_transactions};
-ghost use Rattle.feed_serving.specs.Serving.{answer, served};
+ghost use Rattle.feed_serving.specs.Serving.{answer};
+ghost use Rattle.feed_serving.specs.RequestedPackets.{served};
 ghost use Rattle.feed_serving.specs.Laws.{ServesTheFile, StopsAtDamage, IsOfTheFile};
 ghost use Rattle.wire_buf.specs.Encoding.{AreBytes};
 ghost use Rattle.feed_payloads.specs.Streams.{stream_transactions};
@@ -54,7 +55,7 @@ pub use feed_rules::laws::{
     first_events_show_the_first_transactions, what_came_before_does_not_matter,
 };
 pub use feed_runs::laws::{broken_runs_are_whole, packets_of_a_prefix};
-pub use feed_serving::laws::{lengths_of_packets, requests_are_packets};
+pub use feed_serving::laws::{lengths_of_packets, requests_are_computed, requests_are_packets};
 pub use feed_streams::laws::payloads_are_of_their_events;
 pub use feed_text::laws::{
     equal_quotes_are_of_equal_bytes, values_have_the_texts_of_cells,

@@ -3,8 +3,6 @@ use Rattle.std.proofs.Common.{◌≡◌, ℕ, zero, suc, ◌+◌, ◌-◌, ◌*�
 use Rattle.std.proofs.lemmas.List.Sums.{fold-append}
 use Rattle.std.proofs.lemmas.Grind.{flat_map-append}
 use Rattle.std.proofs.lemmas.List.{take-append-drop, length-take, length-drop, get_or-drop, drop-drop, take_rest}
-use Rattle.std.proofs.Math.Seq.{drop-cons}
-use native.Mathlib.Numerals.{add-one}
 use lib.Bits.{xor_assoc, xor_comm, xor_shr, xor_mod, xor_zero_r}
 use Rattle.byteorder.specs.Endian.{little_from, little_number}
 use Rattle.crc32.specs.Checksums.{polynomial, after_bit, byte_bits, after_bytes}
@@ -164,13 +162,6 @@ four_words x b c d =
 
 -- ---- the iterations of the loops
 
-pub one_more : (xs : List ℕ) (i c : ℕ) → i < length xs
-    → after_bytes c (drop i xs) ≡ after_bytes (after_bytes c (get_or xs i 0 ∷ [])) (drop (i + 1) xs)
-one_more xs i c h =
-    let byte : ℕ = get_or xs i 0 in
-    ap (after_bytes c) (drop-cons xs i 0 h) ∙ after_more c (byte ∷ []) (drop (suc i) xs)
-    ∙ ap (λ (j : ℕ). after_bytes (after_bytes c (byte ∷ [])) (drop j xs)) (sym (add-one i))
-
 -- a word is read
 word_more : (xs : List ℕ) (i j c word : ℕ) → i + 4 ≤ length xs → ((i : ℕ) → get_or xs i 0 < 256) → i + 4 ≡ j
     → word ≡ little_number 4 (take (length xs - i) (drop i xs))
@@ -182,14 +173,6 @@ word_more xs i j c word h k e f =
     after_block 4 c rest long (small_rest i xs k)
     ∙ ap (λ (y : ℕ). after_bytes (zeros 4 (bit_xor c y)) (drop 4 rest)) same
     ∙ ap (after_bytes (zeros 4 (bit_xor c word))) (drop-drop 4 i xs ∙ ap (λ (y : ℕ). drop y xs) e)
-
--- a word is read, and its contribution is looked up
-pub four_more : (xs : List ℕ) (i c word a : ℕ) → 4 ≤ length xs - i → ((i : ℕ) → get_or xs i 0 < 256)
-    → word ≡ little_number 4 (take (length xs - i) (drop i xs)) → a ≡ after_bytes (bit_xor word c) (replicate 4 0)
-    → after_bytes a (drop (i + 4) xs) ≡ after_bytes c (drop i xs)
-four_more xs i c word a h k e l =
-    ap (λ (y : ℕ). after_bytes y (drop (i + 4) xs)) (l ∙ after_zeros 4 (bit_xor word c) ∙ ap (zeros 4) (xor_comm word c))
-    ∙ sym (word_more xs i (i + 4) c word (omega arith) k refl e)
 
 -- four words are read, and the contribution of each is looked up separately
 pub sixteen_more : (xs : List ℕ) (i c first second third fourth a b d e : ℕ) → 16 ≤ length xs - i → ((i : ℕ) → get_or xs i 0 < 256)
@@ -215,3 +198,44 @@ sixteen_more xs i c first second third fourth a b d e h k e0 e1 e2 e3 l0 l1 l2 l
     ∙ word_more xs (i + 4) (i + 8) y1 second (omega arith) k (omega arith) e1
     ∙ word_more xs (i + 8) (i + 12) y2 third (omega arith) k (omega arith) e2
     ∙ word_more xs (i + 12) (i + 16) y3 fourth (omega arith) k (omega arith) e3)
+
+-- ---- the last bytes
+
+-- two words are read, and the contribution of each is looked up separately
+pub eight_last : (xs : List ℕ) (c first second a b : ℕ) → 8 ≤ length xs → ((i : ℕ) → get_or xs i 0 < 256)
+    → first ≡ little_number 4 xs → second ≡ little_number 4 (take (length xs - 4) (drop 4 xs))
+    → a ≡ after_bytes second (replicate 4 0) → b ≡ after_bytes (bit_xor first c) (replicate 8 0)
+    → after_bytes (bit_xor a b) (take (length xs - 8) (drop 8 xs)) ≡ after_bytes c xs
+eight_last xs c first second a b h k e0 e1 l0 l1 =
+    let x : ℕ = bit_xor c first in
+    let sum : bit_xor a b ≡ zeros 4 (bit_xor (zeros 4 x) second) =
+    xor_comm a b ∙ ap (λ (y : ℕ). bit_xor y a) (l1 ∙ after_zeros 8 (bit_xor first c) ∙ ap (zeros 8) (xor_comm first c))
+    ∙ ap (bit_xor (zeros 8 x)) (l0 ∙ after_zeros 4 second) ∙ sym (two_words x second) in
+    ap (after_bytes (bit_xor a b)) (take_rest xs 8)
+    ∙ ap (λ (y : ℕ). after_bytes y (drop 8 xs)) sum
+    ∙ sym (after_block 4 c xs (omega arith) k
+    ∙ ap (λ (y : ℕ). after_bytes (zeros 4 (bit_xor c y)) (drop 4 xs)) (sym e0)
+    ∙ word_more xs 4 8 (zeros 4 x) second (omega arith) k refl e1)
+
+-- a word is read, and its contribution is looked up
+pub four_last : (xs : List ℕ) (c word a : ℕ) → 4 ≤ length xs → ((i : ℕ) → get_or xs i 0 < 256)
+    → word ≡ little_number 4 xs → a ≡ after_bytes (bit_xor word c) (replicate 4 0)
+    → after_bytes a (take (length xs - 4) (drop 4 xs)) ≡ after_bytes c xs
+four_last xs c word a h k e l =
+    ap (after_bytes a) (take_rest xs 4)
+    ∙ ap (λ (y : ℕ). after_bytes y (drop 4 xs)) (l ∙ after_zeros 4 (bit_xor word c) ∙ ap (zeros 4) (xor_comm word c))
+    ∙ sym (after_block 4 c xs h k ∙ ap (λ (y : ℕ). after_bytes (zeros 4 (bit_xor c y)) (drop 4 xs)) (sym e))
+
+-- two bytes are read
+pub two_last : (xs : List ℕ) (c both a : ℕ) → 2 ≤ length xs → ((i : ℕ) → get_or xs i 0 < 256)
+    → both ≡ bit_xor (little_number 2 xs) c → a ≡ zeros 2 both
+    → after_bytes a (take (length xs - 2) (drop 2 xs)) ≡ after_bytes c xs
+two_last xs c both a h k e l =
+    ap (after_bytes a) (take_rest xs 2)
+    ∙ ap (λ (y : ℕ). after_bytes y (drop 2 xs)) (l ∙ ap (zeros 2) (e ∙ xor_comm (little_number 2 xs) c))
+    ∙ sym (after_block 2 c xs h k)
+
+-- no byte is read
+pub none_last : (xs ys : List ℕ) (c e : ℕ) → length ys ≤ 0 → after_bytes e ys ≡ after_bytes c xs → e ≡ after_bytes c xs
+none_last xs [] c e h same = sym (after_nothing e) ∙ same
+none_last xs (y ∷ ys) c e h same = absurd (omega arith)

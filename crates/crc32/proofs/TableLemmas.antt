@@ -69,3 +69,13 @@ word_passed k w h l =
     (peel (k + 1) (k + 2) 16 24 w (omega arith) (omega arith) refl)
     (peel k (k + 1) 24 32 w (omega arith) (omega arith) refl)
     end
+
+-- the two low bytes of w are looked up, and the bits above them move down
+pub two_passed : (w : ℕ) → bit_xor (bit_xor (get_or (get_or TABLES 1 []) (bit_and w 255) 0) (entry 0 w 8)) (w / 2 ^ 16) ≡ zeros 2 w
+unfolding zeros
+two_passed w =
+    let whole : w / 2 ^ 0 ≡ w = omega arith in
+    let lowest : ℕ → ℕ = λ y. get_or (get_or TABLES 1 []) (bit_and y 255) 0 in
+    xor_assoc (lowest w) (entry 0 w 8) (w / 2 ^ 16)
+    ∙ ap (bit_xor (lowest w)) (sym (peel 0 1 8 16 w (omega arith) refl refl))
+    ∙ sym (ap (zeros 2) (sym whole) ∙ peel 1 2 0 8 w (omega arith) refl refl ∙ ap (λ (y : ℕ). bit_xor (lowest y) (zeros 1 (w / 2 ^ 8))) whole)

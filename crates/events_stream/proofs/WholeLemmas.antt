@@ -6,7 +6,7 @@ use Rattle.byteorder.specs.Numbers.{little_from-append}
 use Rattle.wire_buf.proofs.EncodingLemmas.{split_prefix}
 use Rattle.events_frames.specs.Events.{IsWholeEvent, header_size_field}
 use Rattle.events_frames.specs.EventParts.{IsContentError, SmallSize, EndsEarly, GoesOn, TooShort, IsSplitError}
-use Rattle.events_frames.specs.Footers.{Footer}
+use Rattle.events_frames.specs.Footers.{ChecksumSettings}
 use Rattle.events_frames.specs.HeaderLength.{header_sized}
 use Rattle.events_frames.specs.Headers.{Header, IsEventHeader}
 use Rattle.events_frames.specs.declared.event_error.EventError.{EventError}
@@ -29,7 +29,7 @@ size_said h bytes after event t joined =
     let following = (split_prefix 9 event (t.prefix ++ (u.prefix ++ v.prefix)) (w.prefix ++ (w.suffix ++ after)) nine rows).1 in
     w.first_is.value_is ∙ sym (ap (little_number 4) following ∙ little_from-append 4 w.prefix (w.suffix ++ after) (omega (arith, w.first_is.size)))
 
-pub too_short : (in_force : Footer) (event : List ℕ) (fault : EventError) → IsWholeEvent event → IsSplitError in_force event fault → fault ≡ Frame
+pub too_short : (in_force : ChecksumSettings) (event : List ℕ) (fault : EventError) → IsWholeEvent event → IsSplitError in_force event fault → fault ≡ Frame
 too_short in_force event fault whole (inl short) = absurd (omega (arith, short.1, whole_long event whole))
 too_short in_force event fault whole (inr following) = by_content fault following.holds
   where

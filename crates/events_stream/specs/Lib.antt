@@ -7,3 +7,5 @@ pub mod EventViews
 pub mod Files
 pub mod WrittenEvents
 pub mod FileViews
+pub mod EqualBodies
+pub mod EqualBodyLaws

@@ -3,7 +3,7 @@
 ghost use Rattle.std.specs.Prelude.{◌≡◌, ◌↔◌, ◌≤◌, ◌+◌, ◌*◌, ℕ, List, length, Some, true};
 ghost use Rattle.events_frames.specs.EventParts.{Parts, IsSplitError};
 ghost use Rattle.events_frames.specs.Events.{IsWholeEvent};
-ghost use Rattle.events_frames.specs.Footers.{Footer};
+ghost use Rattle.events_frames.specs.Footers.{ChecksumSettings};
 ghost use Rattle.events_frames.specs.declared.event_error.EventError.TheVariants.{Frame};
 ghost use Rattle.events_frames.specs.declared.event_error.EventError.{EventError};
 ghost use Rattle.events_stream.specs.DataEncodings.{HaveSameContents};
@@ -16,7 +16,7 @@ use events_frames::EventError;
 /// The error of a whole event that can't be split is `Frame`: it is too short for its checksum, or for a format description's
 /// fields.
 pub fn whole_events_fail_only_as_too_short()
-    ensures { (in_force : Footer) (event : List ℕ) (fault : EventError) → IsWholeEvent event → IsSplitError in_force event fault → fault ≡ Frame }
+    ensures { (in_force : ChecksumSettings) (event : List ℕ) (fault : EventError) → IsWholeEvent event → IsSplitError in_force event fault → fault ≡ Frame }
 {}
 
 /// Unless reading fails or memory runs out, a file returns at most one item for each 19 bytes after its magic number.

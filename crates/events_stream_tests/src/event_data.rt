@@ -1,5 +1,4 @@
-//! The body of an event of any type: read by its type, made owned, and written again, also if memory may run out. The `Debug`
-//! text shows all fields.
+//! The body of an event of any type: read by its type, made owned, and written again, also if memory may run out.
 
 use crate::memory::is_all_or_nothing;
 use events_frames::{BinlogCtx, EventError, FormatDescriptionEvent};
@@ -40,49 +39,87 @@ fn is_written(alloc: Global, event: &EventData<'_>, bytes: &[u8]) -> bool {
         && (bytes.is_empty() || is_all_or_nothing(alloc, event, bytes.len()))
 }
 
-/// The `Debug` text of the event, if it is written as the bytes.
-fn text_of(alloc: Global, event: EventData<'_>, bytes: &[u8]) -> Option<String> {
-    let text = if is_written(alloc, &event, bytes) {
-        format!(in alloc; "{event:?}").ok()
-    } else {
-        None
-    };
-    drop(event);
-    text
+/// Whether the event is written as the bytes, and its `Debug` text begins so.
+fn is_shown(alloc: Global, event: &EventData<'_>, start: &str, bytes: &[u8]) -> bool {
+    is_written(alloc, event, bytes)
+        && match format!(in alloc; "{event:?}") {
+            Ok(text) => text.starts_with(start),
+            Err(_) => false,
+        }
 }
 
-/// The same for the event with bytes of its own.
-fn owned_text(alloc: Global, event: EventData<'_>, bytes: &[u8]) -> Option<String> {
-    match event.into_owned(alloc) {
-        Ok(owned) => text_of(alloc, owned, bytes),
-        Err(_) => None,
+/// Whether both events are shown so, and are equal.
+fn are_same(
+    alloc: Global,
+    event: &EventData<'_>,
+    other: &EventData<'_>,
+    start: &str,
+    bytes: &[u8],
+) -> bool {
+    is_shown(alloc, event, start, bytes) && is_shown(alloc, other, start, bytes) && *event == *other
+}
+
+/// The same for an event that is then dropped.
+fn is_same(
+    alloc: Global,
+    event: EventData<'_>,
+    other: &EventData<'_>,
+    start: &str,
+    bytes: &[u8],
+) -> bool {
+    let is_same = are_same(alloc, &event, other, start, bytes);
+    drop(event);
+    is_same
+}
+
+/// Whether the body is read as an event that is shown so and equals the other.
+fn is_read_as(
+    alloc: Global,
+    event_type: EventType,
+    other: &EventData<'_>,
+    start: &str,
+    body: &[u8],
+) -> bool {
+    let in_force = FormatDescriptionEvent::new(BinlogVersion::Version4);
+    match read(alloc, &in_force, event_type, body) {
+        Ok(event) => is_same(alloc, event, other, start, body),
+        Err(_) => false,
     }
 }
 
-/// The `Debug` text of the event of the type with these bytes, if it is written as them; with bytes of its own, if it should be.
-fn text(alloc: Global, event_type: EventType, is_owned: bool, body: &[u8]) -> Option<String> {
-    let in_force = FormatDescriptionEvent::new(BinlogVersion::Version4);
-    match read(alloc, &in_force, event_type, body) {
-        Ok(event) => {
-            if is_owned {
-                owned_text(alloc, event, body)
-            } else {
-                text_of(alloc, event, body)
-            }
-        }
+/// The same for an event that is then dropped.
+fn is_read_again(
+    alloc: Global,
+    event_type: EventType,
+    other: EventData<'_>,
+    start: &str,
+    body: &[u8],
+) -> bool {
+    let is_read = is_read_as(alloc, event_type, &other, start, body);
+    drop(other);
+    is_read
+}
+
+/// The body of an event of the type, with bytes of its own.
+fn owned(
+    alloc: Global,
+    in_force: &FormatDescriptionEvent<'_>,
+    event_type: EventType,
+    body: &[u8],
+) -> Option<EventData<'static>> {
+    match read(alloc, in_force, event_type, body) {
+        Ok(event) => event.into_owned(alloc).ok(),
         Err(_) => None,
     }
 }
 
 /// Whether the body is read as an event whose `Debug` text begins so, and written as it was read, also if memory may run out; and
-/// whether the event has the same text when it is owned.
+/// whether the owned event equals it, and is written so too.
 fn is_kept(alloc: Global, event_type: EventType, start: &str, body: &[u8]) -> bool {
-    match (
-        text(alloc, event_type, false, body),
-        text(alloc, event_type, true, body),
-    ) {
-        (Some(text), Some(owned)) => text.starts_with(start) && text == owned,
-        _ => false,
+    let in_force = FormatDescriptionEvent::new(BinlogVersion::Version4);
+    match owned(alloc, &in_force, event_type, body) {
+        Some(owned) => is_read_again(alloc, event_type, owned, start, body),
+        None => false,
     }
 }
 

@@ -116,15 +116,15 @@ fn has_two_of(alloc: Global, size: u32) -> Result<bool, AllocError> {
     )
 }
 
-// The first buffer has 262,144 bytes: both events fit; the second is moved to its start; the first doubles it.
+// The first buffer has 131,072 bytes: both events fit; the second is moved to its start; the first doubles it.
 fn events_longer_than_the_buffer(alloc: Global) -> bool {
-    let Ok(fit) = has_two_of(alloc, 131_072) else {
+    let Ok(fit) = has_two_of(alloc, 65_536) else {
         return false;
     };
-    let Ok(moved) = has_two_of(alloc, 200_000) else {
+    let Ok(moved) = has_two_of(alloc, 100_000) else {
         return false;
     };
-    let Ok(longer) = has_two_of(alloc, 300_000) else {
+    let Ok(longer) = has_two_of(alloc, 150_000) else {
         return false;
     };
     fit && moved && longer

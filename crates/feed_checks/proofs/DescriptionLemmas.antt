@@ -6,18 +6,18 @@ use Rattle.std.proofs.lemmas.List.{append-nil, drop-drop}
 use Rattle.wire_buf.specs.Encoding.{Begins}
 use Rattle.events_frames.specs.Descriptions.{Description, IsDescription}
 use Rattle.events_frames.specs.EventParts.{Parts, Describes}
-use Rattle.events_frames.specs.Footers.{no_footer}
+use Rattle.events_frames.specs.Footers.{no_settings}
 use Rattle.events_frames.proofs.DescriptionLemmas.{Fields, fields_read, short_lacks}
 use Rattle.feed_kinds.specs.Events.{number_at, description_by}
 
 -- the body without the footer
-begins : (d : Description) (p : Parts) → Describes d p → Begins (IsDescription (record d { footer = no_footer })) p.body []
+begins : (d : Description) (p : Parts) → Describes d p → Begins (IsDescription (record d { footer = no_settings })) p.body []
 begins d p h = record { bytes = p.body; joined = sym (append-nil p.body); is = h.body }
 
 room : (d : Description) (p : Parts) → Describes d p → 57 ≤ length p.body
 room d p h = elim (leb_tells 57 (length p.body)) [
   | inl t ↦ t.1
-  | inr t ↦ absurd (short_lacks p.body (omega (arith, t.1)) (record d { footer = no_footer }) [] (begins d p h))
+  | inr t ↦ absurd (short_lacks p.body (omega (arith, t.1)) (record d { footer = no_settings }) [] (begins d p h))
 ]
 
 pub description_one : (d : Description) (p : Parts) → Describes d p → d ≡ description_by p

@@ -6,6 +6,6 @@ use Rattle.std.specs.Fmt.{decimal}
 abbrev pub with_line_feed : List ℕ → List ℕ
 with_line_feed line = line ++ 10 ∷ []
 
--- the line of the position after a transaction
+-- `commit `, the position after the transaction, and a line feed
 abbrev pub commit_line : ℕ → List ℕ
 commit_line position = with_line_feed (codes "commit " ++ decimal position)

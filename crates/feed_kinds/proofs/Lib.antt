@@ -1,3 +1,4 @@
+pub mod PairReaders
 pub mod ReaderLemmas
 pub mod BodyLemmas
 pub mod BodyKindLemmas

@@ -12,10 +12,11 @@ use Rattle.wire_buf.proofs.EncodingLemmas.{same_parts}
 use Rattle.wire_forms.specs.Texts.{IsAll}
 use Rattle.rows_meta.specs.TableMaps.{little_endian, plain_bytes, Skipped}
 use Rattle.rows_events.specs.Fields.{IsMaybe}
-use Rattle.feed_kinds.specs.Readers.{Reader, IsReaderOf, ◌>>=◌, bytes_reader, skip_reader, rest_reader, pair_reader, dependent_pair_reader, dependent_reader, short_string_bytes_reader, lenenc_string_bytes_reader, optional_reader, body_by, IsBodyOf}
+use Rattle.feed_kinds.specs.Readers.{Reader, IsReaderOf, if_found, bytes_reader, skip_reader, rest_reader, short_string_bytes_reader, lenenc_string_bytes_reader, optional_reader, body_by, IsBodyOf}
+use Rattle.feed_kinds.proofs.PairReaders.{pair_reader, dependent_pair_reader, dependent_reader}
 
 -- a step of a reader that found something
-pub bind-some : {A B : Type 0} (o : Option A) (f : A → Option B) (y : B) → (o >>= f) ≡ Some y → (x : A) × (o ≡ Some x) × (f x ≡ Some y)
+pub bind-some : {A B : Type 0} (o : Option A) (f : A → Option B) (y : B) → if_found o f ≡ Some y → (x : A) × (o ≡ Some x) × (f x ≡ Some y)
 bind-some None f y h = absurd cc
 bind-some (Some x) f y h = (x, refl, h)
 
@@ -125,7 +126,7 @@ module _ {A B : Type 0} (first : A → List ℕ → List ℕ → Type 0) (second
   then_found : (v : A) (w : B) (x rest : List ℕ) → dependent_pair_reader p q x ≡ Some ((v, w), rest) → Begins (Then first second (v, w)) x rest
   unfolding Row
   then_found v w x rest e =
-      let a = bind-some (p x) (λ a. q a.0 a.1 >>= λ b. Some ((a.0, b.0), b.1)) ((v, w), rest) e in
+      let a = bind-some (p x) (λ a. if_found (q a.0 a.1) (λ b. Some ((a.0, b.0), b.1))) ((v, w), rest) e in
       let b = bind-some (q a.0.0 a.0.1) (λ b. Some ((a.0.0, b.0), b.1)) ((v, w), rest) a.2 in
       let both = (same_parts (a.0.0, b.0.0) (v, w) b.0.1 rest b.2).0 in
       let ends = (same_parts (a.0.0, b.0.0) (v, w) b.0.1 rest b.2).1 in
@@ -254,3 +255,7 @@ made_body {A = A} {B = B} format value made target is into out b body = (there, 
 
     back : target b body [] → option_map made (value body) ≡ Some b
     back h = let o = out b body h in rw ((is o.0 body).1 o.1.0, o.1.1) refl
+
+-- the same body, computed in another way
+pub same_body : {A : Type 0} (format : A → List ℕ → List ℕ → Type 0) (value other : List ℕ → Option A) → ((body : List ℕ) → value body ≡ other body) → IsBodyOf format other → IsBodyOf format value
+same_body format value other same is v body = (λ e. (is v body).0 (sym (same body) ∙ e), λ h. same body ∙ (is v body).1 h)

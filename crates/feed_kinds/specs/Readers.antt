@@ -12,11 +12,19 @@ pub record IsReaderOf {A : Type 0} (format : A → List ℕ → List ℕ → Typ
   pub found : (v : A) (x rest : List ℕ) → read x ≡ Some (v, rest) → Begins (format v) x rest
   pub here : (v : A) (bytes rest : List ℕ) → format v bytes rest → read (bytes ++ rest) ≡ Some (v, rest)
 
--- a step that may find nothing
+-- go on with the value that was found, if one was
+abbrev pub if_found : {A B : Type 0} → Option A → (A → Option B) → Option B
+if_found None next = None
+if_found (Some x) next = next x
+
+-- read a value, then go on after it
 infixl 10 ◌>>=◌
-abbrev pub ◌>>=◌ : {A B : Type 0} → Option A → (A → Option B) → Option B
-None >>= f = None
-(Some x) >>= f = f x
+abbrev pub ◌>>=◌ : {A B : Type 0} → Reader A → (A → Reader B) → Reader B
+read >>= next = λ x. if_found (read x) (λ p. next p.0 p.1)
+
+-- this value, without reading
+abbrev pub done : {A : Type 0} → A → Reader A
+done v x = Some (v, x)
 
 -- n bytes
 abbrev pub bytes_reader : ℕ → Reader (List ℕ)
@@ -30,34 +38,22 @@ skip_reader x = if nat_le 1 (length x) then Some (tt, drop 1 x) else None
 abbrev pub rest_reader : Reader (List ℕ)
 rest_reader x = Some (x, [])
 
--- two values in sequence
-abbrev pub pair_reader : {A B : Type 0} → Reader A → Reader B → Reader (A × B)
-pair_reader first second x = first x >>= λ p. second p.1 >>= λ q. Some ((p.0, q.0), q.1)
-
--- two values in sequence; the first decides how the second is read
-abbrev pub dependent_pair_reader : {A B : Type 0} → Reader A → (A → Reader B) → Reader (A × B)
-dependent_pair_reader first second x = first x >>= λ p. second p.0 p.1 >>= λ q. Some ((p.0, q.0), q.1)
-
--- the same, keeping only the second
-abbrev pub dependent_reader : {A B : Type 0} → Reader A → (A → Reader B) → Reader B
-dependent_reader first second x = first x >>= λ p. second p.0 p.1
-
 -- a string after its length of one byte
 abbrev pub short_string_bytes_reader : Reader (List ℕ)
-short_string_bytes_reader = dependent_reader (split_number 1) bytes_reader
+short_string_bytes_reader = split_number 1 >>= bytes_reader
 
 -- a length-encoded string
 abbrev pub lenenc_string_bytes_reader : Reader (List ℕ)
-lenenc_string_bytes_reader = dependent_reader split_lenenc bytes_reader
+lenenc_string_bytes_reader = split_lenenc >>= bytes_reader
 
--- a field that is present if its context is
+-- a field that is read with its context, or None if there is no context
 abbrev pub optional_reader : {C A : Type 0} → (C → Reader A) → Option C → Reader (Option A)
 optional_reader read None x = Some (None, x)
-optional_reader read (Some ctx) x = read ctx x >>= λ p. Some (Some p.0, p.1)
+optional_reader read (Some ctx) x = if_found (read ctx x) (λ p. Some (Some p.0, p.1))
 
--- the value of a body; it takes all of the bytes
+-- the value that a body encodes; None if bytes remain
 abbrev pub body_by : {A : Type 0} → Reader A → List ℕ → Option A
-body_by read body = read body >>= λ p. if length p.1 == 0 then Some p.0 else None
+body_by read body = if_found (read body) (λ p. if length p.1 == 0 then Some p.0 else None)
 
 -- the function returns the value of a body exactly if the body is in its format
 abbrev pub IsBodyOf : {A : Type 0} → Encoding A → (List ℕ → Option A) → Type 0

@@ -1,16 +1,18 @@
 -- A rows event with other rows under another table id and other flags.
 use Rattle.std.proofs.Common.{◌≡◌, ◌<◌, ◌-◌, ◌++◌, ℕ, Bool, true, false, List, [], length, take, drop, Option, Some, None, Ok, Err, refl, sym, ap, subst, ◌∙◌, arith, append_assoc}
-use Rattle.std.specs.Prelude.{◌==◌}
+use Rattle.std.specs.Prelude.{◌==◌, Result, OnOk, IfErr}
+use Rattle.std.specs.Bool.{⊤}
 use Rattle.std.proofs.lemmas.Bool.{ne_eqb}
 use Rattle.rows_meta.specs.TableMaps.{TableMap}
 use Rattle.rows_meta.specs.MapViews.{map_of}
 use Rattle.rows_events.specs.ImageShapes.{table_plan}
 use Rattle.rows_events.specs.EventColumnViews.{shapes_of}
-use Rattle.feed_rows.specs.declared.tables.Table.{Table}
 use Rattle.feed_rows.specs.declared.tables.Tables.{Tables}
 use Rattle.feed_kinds.specs.declared.verdict.Verdict.{Verdict}
 use Rattle.feed_rows.specs.RowLines.{PutsLines, IsRowsError, rows_texts_at}
-use Rattle.feed_rows.specs.Tables.{mapped, IsKnownRows, PutsKnownRows, IsKnownRowsError}
+use Rattle.feed_rows.specs.Tables.{mapped}
+use Rattle.feed_rows.specs.KnownRows.{FindsRows, PutsKnownRows, IsKnownRowsError, start_of}
+use Rattle.feed_rows.specs.declared.known_rows.KnownRows.{KnownRows}
 use Rattle.feed_rows.proofs.RowLineLemmas.{lines_put, lines_unput}
 use Rattle.std.specs.Prelude.{option_map, if◌then◌else◌}
 use Rattle.std.proofs.lemmas.List.{length-append, take-append-drop, length-take-le}
@@ -29,7 +31,7 @@ use Rattle.rows_events.specs.declared.rows_event_type.RowsEventType.{RowsEventTy
 use Rattle.feed_kinds.specs.Bodies.{rows_event_in}
 use Rattle.feed_rows.specs.KnownImages.{rows_event_of, KnowsImages}
 use Rattle.feed_rows.specs.Rows.{change_by, change_of, plan_by}
-use Rattle.feed_rows.specs.RowTexts.{change_word, names_text}
+use Rattle.feed_rows.specs.RowTexts.{change_word}
 use Rattle.feed_kinds.proofs.BodyLemmas.{rows_event_body}
 use Rattle.feed_kinds.proofs.ReaderLemmas.{some_is}
 
@@ -191,57 +193,40 @@ known_event t head fields rows_data p shapes names start knows size =
 
 -- ---- rows of a table whose images are known
 
--- the event whose rows these are, and the start of its lines
-pub record IsFound (s : Tables) (event_type : RowsEventType) (body : List ℕ) (t : Table) (rows_data : List ℕ) : Type 0 where
-  pub event : RowsBody
-  pub known : IsKnownRows s event_type body event (map_of t.map)
-  pub rows_are : rows_data ≡ event.rows_data
-  pub shapes_are : event_shapes event (plan_by (map_of t.map)) ≡ Ok (shapes_of t.images.columns)
-  pub start_is : t.images.start.items ≡ change_word (change_of event) ++ names_text (map_of t.map).database (map_of t.map).table
-
 some_rows : (x y : List ℕ) → x ≡ y → 0 < length y → (length x == 0) ≡ false
 some_rows x y is some = ne_eqb (length x) 0 (λ h. absurd (omega (arith, ap length is, h, some)))
 
-pub found_rows : (s : Tables) (event_type : RowsEventType) (body head rest rows_data : List ℕ) (t : Table) (id : ℕ) → body ≡ head ++ rest → length head ≡ 8 → id ≡ little_number 6 head → ◌≡◌ {A = Option TableMap} (Some (map_of t.map)) (mapped s id)
-    → t.images.event_type ≡ Some event_type → rest ≡ t.images.fields.items ++ rows_data → 0 < length rows_data → IsFound s event_type body t rows_data
-found_rows s event_type body head rest rows_data t id joined size id_is found type fields some =
+pub found_rows : (s : Tables) (k : KnownRows) (head rest : List ℕ) (id : ℕ) → k.body.now ≡ head ++ rest → length head ≡ 8 → id ≡ little_number 6 head → ◌≡◌ {A = Option TableMap} (Some (map_of k.table.now.map)) (mapped s id)
+    → k.table.now.images.event_type ≡ Some k.event_type → rest ≡ k.table.now.images.fields.items ++ k.rows_data.now → 0 < length k.rows_data.now → FindsRows s k.event_type k.body.now k
+found_rows s k head rest id joined size id_is found type fields some =
+    let t = k.table.now in
     let m = map_of t.map in
-    let knows = t.images_are event_type type in
-    let e = known_event event_type head t.images.fields.items rows_data (table_plan t.plan) (shapes_of t.images.columns) t.names.items t.images.start.items knows size in
-    let whole : body ≡ head ++ (t.images.fields.items ++ rows_data) = joined ∙ ap (λ (l : List ℕ). head ++ l) fields in
+    let knows = t.images_are k.event_type type in
+    let e = known_event k.event_type head t.images.fields.items k.rows_data.now (table_plan t.plan) (shapes_of t.images.columns) t.names.items t.images.start.items knows size in
+    let whole : k.body.now ≡ head ++ (t.images.fields.items ++ k.rows_data.now) = joined ∙ ap (λ (l : List ℕ). head ++ l) fields in
+    let is : rows_event_in (written_ctx k.event_type) k.body.now ≡ Some e.event = ap (rows_event_in (written_ctx k.event_type)) whole ∙ e.is in
     record {
-      event = e.event;
-      known = record {
-        is = ap (rows_event_in (written_ctx event_type)) whole ∙ e.is;
-        some = some_rows e.event.rows_data rows_data e.rows_are some;
-        map = ap (mapped s) (e.id ∙ sym id_is) ∙ sym found;
+      rows = e.event;
+      map = m;
+      is = is;
+      found = ap (mapped s) (e.id ∙ sym id_is) ∙ sym found;
+      has = record {
+        is = is;
+        some = some_rows e.event.rows_data k.rows_data.now e.rows_are some;
+        map_is = refl;
+        rows_are = sym e.rows_are;
+        shapes_are = ap (event_shapes e.event) (sym t.plan_is.0) ∙ e.shapes_are;
+        start_is = knows.start_is ∙ ap (λ (u : RowsEventType). change_word (change_by (images_of u)) ++ t.names.items) (sym e.type_is) ∙ ap (λ (names : List ℕ). change_word (change_of e.event) ++ names) t.plan_is.1;
       };
-      rows_are = sym e.rows_are;
-      shapes_are = ap (event_shapes e.event) (sym t.plan_is.0) ∙ e.shapes_are;
-      start_is = knows.start_is ∙ ap (λ (u : RowsEventType). change_word (change_by (images_of u)) ++ t.names.items) (sym e.type_is) ∙ ap (λ (names : List ℕ). change_word (change_of e.event) ++ names) t.plan_is.1;
     }
 
-pub found_put : (s : Tables) (event_type : RowsEventType) (body : List ℕ) (t : Table) (rows_data start before after : List ℕ) (shapes : List ImageShape) → IsFound s event_type body t rows_data → shapes ≡ shapes_of t.images.columns → start ≡ t.images.start.items
-    → PutsLines shapes start rows_data before after → PutsKnownRows s event_type body before after
-found_put s event_type body t rows_data start before after shapes f shapes_is start_is h =
-    let m = map_of t.map in
-    let p = plan_by m in
-    let line : List ℕ = change_word (change_of f.event) ++ names_text m.database m.table in
-    record {
-      rows = f.event;
-      map = m;
-      known = f.known;
-      puts = lines_put f.event p shapes line rows_data before after (Ok tt) (f.shapes_are ∙ ap (λ (l : List ImageShape). Ok l) (sym shapes_is)) f.rows_are
-          (subst (λ (l : List ℕ). PutsLines shapes l rows_data before after) (start_is ∙ f.start_is) h);
-    }
+pub known_put : (k : KnownRows) (start before after : List ℕ) (shapes : List ImageShape) (a : Result ⊤ Verdict) → shapes ≡ shapes_of k.table.now.images.columns → start ≡ k.table.now.images.start.items
+    → OnOk a (PutsLines shapes start k.rows_data.now before after) → OnOk a (PutsKnownRows k before after)
+known_put k start before after shapes (Ok x) shapes_is start_is h = λ r m has.
+    lines_put r (plan_by m) shapes (start_of r m) k.rows_data.now before after (Ok tt) (has.shapes_are ∙ ap (λ (l : List ImageShape). Ok l) (sym shapes_is)) has.rows_are
+    (subst (λ (l : List ℕ). PutsLines shapes l k.rows_data.now before after) (start_is ∙ has.start_is) h)
+known_put k start before after shapes (Err v) shapes_is start_is h = tt
 
-pub found_unput : (s : Tables) (event_type : RowsEventType) (body : List ℕ) (t : Table) (rows_data : List ℕ) (shapes : List ImageShape) (v : Verdict) → IsFound s event_type body t rows_data → shapes ≡ shapes_of t.images.columns
-    → IsRowsError (rows_texts_at shapes rows_data) v → IsKnownRowsError s event_type body v
-found_unput s event_type body t rows_data shapes v f shapes_is h =
-    let m = map_of t.map in
-    record {
-      rows = f.event;
-      map = m;
-      known = f.known;
-      why = lines_unput f.event (plan_by m) shapes rows_data (Err v) (f.shapes_are ∙ ap (λ (l : List ImageShape). Ok l) (sym shapes_is)) f.rows_are h;
-    }
+pub known_unput : (k : KnownRows) (shapes : List ImageShape) (a : Result ⊤ Verdict) → shapes ≡ shapes_of k.table.now.images.columns → IfErr a (IsRowsError (rows_texts_at shapes k.rows_data.now)) → IfErr a (IsKnownRowsError k)
+known_unput k shapes (Ok x) shapes_is h = tt
+known_unput k shapes (Err v) shapes_is h = λ r m has. lines_unput r (plan_by m) shapes k.rows_data.now (Err v) (has.shapes_are ∙ ap (λ (l : List ImageShape). Ok l) (sym shapes_is)) has.rows_are h

@@ -3,3 +3,4 @@ pub mod RowTexts
 pub mod RowLines
 pub mod KnownImages
 pub mod Tables
+pub mod KnownRows

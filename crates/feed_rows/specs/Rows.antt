@@ -19,7 +19,7 @@ use Rattle.feed_text.specs.ImageText.{cells_text}
 use Rattle.feed_kinds.specs.declared.verdict.Verdict.{Verdict}
 use Rattle.feed_kinds.specs.declared.verdict.Verdict.TheVariants as verdicts
 
--- the plan for reading a table's rows, by its map
+-- how the rows of a table are read, by its table map
 abbrev pub plan_by : TableMap → TablePlan
 plan_by t = record {
   first = λ n. extracted (fields t.column_types t.optional_metadata) >>= λ e. first_columns (table_columns_of (columns_with_metadata t.column_types (Some t.metadata)) e) n;
@@ -58,7 +58,7 @@ image_texts (image ∷ images) = do
   texts ← image_texts images
   Ok (text ∷ texts)
 
--- the texts of the cells of each row, if all can be read
+-- the texts of each row's images, if all cells can be printed
 unfoldable pub row_texts : List (List (List ColumnValue)) → Reading (List (List (List ℕ)))
 row_texts [] = Ok []
 row_texts (row ∷ rows) = do
@@ -83,7 +83,7 @@ event_texts r p = walked_texts (event_rows r p)
 unfoldable pub texts_of_rows : RowsBody → TableMap → Option (List (List (List ℕ)))
 texts_of_rows r t = event_texts r (plan_by t)
 
--- the rows with these texts, or `Row` if there are none
+-- the rows with these texts; without texts the fault `Row`
 abbrev pub rows_by : RowsBody → TableMap → Option (List (List (List ℕ))) → Result (List Row) Verdict
 rows_by r t None = Err verdicts.Row
 rows_by r t (Some texts) = Ok (map (λ images. record { on_rows = change_of r; database = t.database; table = t.table; images = images }) texts)
@@ -95,12 +95,12 @@ rows_result m r = elim (length r.rows_data == 0) [
   | false ↦ elim m [ None ↦ Err verdicts.NoTableMap | Some t ↦ rows_by r t (texts_of_rows r t) ]
 ]
 
--- why there are no rows
+-- the fault, if there is one
 abbrev pub fault_in : Result (List Row) Verdict → Option Verdict
 fault_in (Ok rows) = None
 fault_in (Err v) = Some v
 
--- the rows, or none
+-- the rows; the empty list after a fault
 abbrev pub rows_in : Result (List Row) Verdict → List Row
 rows_in (Ok rows) = rows
 rows_in (Err v) = []

@@ -2,11 +2,13 @@
 #![tactic(auto)]
 
 mod known_images;
+mod known_rows;
 pub mod laws;
 mod lines;
 mod row_texts;
 mod tables;
 
+pub use known_rows::KnownRows;
 pub use lines::put_rows;
-pub use row_texts::{put_row_start, put_two_quoted};
+pub use row_texts::put_row_start;
 pub use tables::{Table, Tables};

@@ -1,7 +1,6 @@
 //! Prints the start of a row's line.
 
-ghost use Rattle.std.specs.Prelude.{◌≡◌, ◌++◌, ◌∷◌, OnOk};
-ghost use Rattle.feed_writers.specs.Quoting.{quoted};
+ghost use Rattle.std.specs.Prelude.{◌≡◌, ◌++◌, OnOk};
 ghost use Rattle.feed_text.specs.Buffers.{text_in};
 ghost use Rattle.feed_rows.specs.Rows.{change_by};
 ghost use Rattle.feed_rows.specs.RowTexts.{change_word};
@@ -32,17 +31,4 @@ pub fn change_word(images: RowImages) -> &'static [u8]
         RowImages::After => b"insert ",
         RowImages::BeforeAndAfter | RowImages::BeforeAndPartialAfter => b"update ",
     }
-}
-
-/// Appends two quoted strings with a space between them.
-pub fn put_two_quoted<A: Allocator>(
-    first: &[u8],
-    second: &[u8],
-    text: &mut TextBuffer<A>,
-) -> Result<(), AllocError>
-    ensures ok { OnOk result (text_in text.new ≡ text_in text.old ++ (quoted first.now ++ 32 ∷ quoted second.now)) }
-{
-    text.put_quoted(first)?;
-    text.put(b' ')?;
-    text.put_quoted(second)
 }

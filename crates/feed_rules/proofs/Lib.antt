@@ -5,3 +5,4 @@ pub mod FeedStateLemmas
 pub mod KnownEventLemmas
 pub mod TakingLemmas
 pub mod UsualLemmas
+pub mod RecordedTextLemmas

@@ -2,6 +2,10 @@ pub mod Checks
 pub mod Transactions
 pub mod Rules
 pub mod Texts
+pub mod Changes
+pub mod Recorders
+pub mod RecordedTexts
+pub mod KeptGtids
 pub mod FeedStates
 pub mod FeedSteps
 pub mod KnownEvents

@@ -10,11 +10,11 @@ ghost use Rattle.feed_rules.specs.Transactions.{Stated};
 ghost use Rattle.feed_rules.specs.Texts.{commit_line, gtid_text, line_text, uuid_text};
 
 use feed_kinds::{Gtid, QueryTexts};
-use feed_rows::put_two_quoted;
 use feed_text::TextBuffer;
 use std::alloc::{AllocError, Allocator};
 
 /// Appends the text of a GTID: `-`, `uuid:number`, or `tagged` and the quoted body. Out of memory: a part of it may be appended.
+#[inline(never)]
 pub(crate) fn put_gtid<A: Allocator>(
     gtid: &Gtid<'_>,
     text: &mut TextBuffer<A>,
@@ -43,7 +43,7 @@ pub(crate) fn put_statement<A: Allocator>(
     ensures ok { OnOk result ((q : Query) → HasTexts texts.entry q → text_in text.new ≡ text_in text.old ++ line_text (Stated q)) }
 {
     text.put_text(b"statement ")?;
-    put_two_quoted(texts.schema, texts.query, text)?;
+    text.put_two_quoted(texts.schema, texts.query)?;
     text.put(b'\n')
 }
 

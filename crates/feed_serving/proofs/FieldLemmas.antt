@@ -11,9 +11,11 @@ use Rattle.feed_payloads.specs.declared.format.PayloadFormat.{PayloadFormat as F
 use Rattle.feed_serving.specs.declared.served.Refusal.{Refusal}
 use Rattle.feed_serving.specs.declared.served.Refusal.TheVariants as errors
 use Rattle.feed_serving.specs.declared.served.Served.{Served}
-use Rattle.feed_serving.specs.Requests.{position_in, name_in, requested, position_for}
+use Rattle.feed_serving.specs.Requests.{position_in, name_in}
+use Rattle.feed_serving.specs.RequestedPackets.{requested, requested_by}
 use Rattle.feed_serving.specs.Positions.{is_event_boundary}
-use Rattle.feed_serving.specs.Serving.{Answer, damage_before, rejection_or_fault, damage_from, all_payloads, outcome_of, fits, fitting_payloads, answer, answer_to, served}
+use Rattle.feed_serving.specs.Serving.{Answer, damage_before, rejection_or_fault, damage_from, all_payloads, outcome_of, fits, fitting_payloads, answer, answer_to}
+use Rattle.feed_serving.specs.RequestedPackets.{served}
 use Rattle.feed_payloads.specs.Words.{from_first_failing}
 use Rattle.feed_serving.specs.Laws.{IsOfTheFile}
 use Rattle.feed_serving.proofs.RequestLemmas.{same_bytes, payload_back}
@@ -40,7 +42,7 @@ same-request p q s t m n hp hq hs ht e =
 requested-position : (position server : ℕ) (name : List ℕ) → position < 2 ^ 32 → requested (dump_request position server name) name ≡ Ok position
 unfolding dump_request
 requested-position position server name h =
-    ap (position_for name) (payload_back (dump_payload position server name))
+    ap (requested_by name) (payload_back (dump_payload position server name))
     ∙ ap (λ (b : Bool). asked_when b true name (dump_payload position server name)) (dump_here (dump_payload position server name) (omega arith) refl)
     ∙ ap (λ (b : Bool). if not b then Err errors.Name else Ok (position_in (dump_payload position server name))) (same_bytes name)
     ∙ ap (λ (n : ℕ). Ok n) (position-back position server name h)

@@ -13,7 +13,7 @@ use Rattle.wire_packets.specs.declared.error.PacketCodecError.TheVariants as cod
 use Rattle.wire_packets.specs.declared.packet_codec.PacketCodec.{PacketCodec}
 use Rattle.wire_packets.proofs.FramingLemmas.{chunks_none}
 use Rattle.wire_packets.proofs.PacketLemmas.{framing_short, framing_long, framings_read, prefix_of_packets, packets_of, order}
-use Rattle.feed_serving.specs.Requests.{sole_payload, payload_of_packet}
+use Rattle.feed_serving.specs.RequestedPackets.{sole_payload, payload_of_packet}
 
 -- ---- lengths
 

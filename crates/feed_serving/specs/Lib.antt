@@ -7,3 +7,4 @@ pub mod ServedNames
 pub mod Passing
 pub mod Waiting
 pub mod Laws
+pub mod RequestedPackets

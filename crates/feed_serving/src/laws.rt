@@ -1,11 +1,13 @@
 //! Laws of a server, each stated as the contract of a function that does nothing.
 
-ghost use Rattle.std.specs.Prelude.{◌≡◌, ◌↔◌, ◌+◌, ◌*◌, ◌/◌, ℕ, List, ◌∷◌, Some, length};
+ghost use Rattle.std.specs.Prelude.{◌≡◌, ◌↔◌, ◌+◌, ◌*◌, ◌/◌, ℕ, List, ◌∷◌, Some, Result, length};
 ghost use Rattle.wire_packets.specs.Framing.{max_chunk_len, framing};
 ghost use Rattle.feed_kinds.specs.Events.{Event};
 ghost use Rattle.feed_payloads.specs.declared.format.PayloadFormat.TheVariants.{Plain, SemiSync};
 ghost use Rattle.feed_payloads.specs.Streams.{payload_of};
-ghost use Rattle.feed_serving.specs.Requests.{payload_of_packet};
+ghost use Rattle.feed_serving.specs.RequestedPackets.{payload_of_packet, requested};
+ghost use Rattle.feed_serving.specs.Requests.{IsRequested};
+ghost use Rattle.feed_serving.specs.declared.served.Refusal.{Refusal};
 ghost use Rattle.feed_serving.specs.Serving.{closing_payload};
 
 /// The payload of an event of n bytes has n + 1 bytes if plain, a zero byte and its own, and n + 3 if semi-synchronous. Its
@@ -20,4 +22,9 @@ pub fn lengths_of_packets()
 /// Bytes are a request with a payload exactly if they are the payload's packet with sequence numbers from 0 on.
 pub fn requests_are_packets()
     ensures { (bytes p : List ℕ) → (payload_of_packet bytes ≡ Some p) ↔ (bytes ≡ framing 0 p) }
+{}
+
+/// What a request asks for is what the server computes from its bytes: each request asks for one thing.
+pub fn requests_are_computed()
+    ensures { (request name : List ℕ) (asked : Result ℕ Refusal) → IsRequested request name asked ↔ (requested request name ≡ asked) }
 {}

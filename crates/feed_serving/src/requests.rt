@@ -1,7 +1,7 @@
 //! Dump requests, as a server reads them.
 
 ghost use Rattle.std.specs.Prelude.{◌≡◌, Ok, Err, IfOk, IfErr, option_map};
-ghost use Rattle.feed_serving.specs.Requests.{payload_of_packet, requested, IsNotAsked};
+ghost use Rattle.feed_serving.specs.RequestedPackets.{payload_of_packet, requested, IsNotAsked};
 ghost use Rattle.feed_kinds.specs.declared.verdict.Verdict.TheVariants.{Memory as MemoryVerdict};
 
 use crate::served::{Refusal, Served};

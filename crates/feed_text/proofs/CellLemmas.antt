@@ -36,25 +36,25 @@ use Rattle.feed_writers.specs.Quoting.{quoted}
 use Rattle.feed_text.specs.DecimalText.{quoted_decimal, IsDecimalError}
 use Rattle.feed_text.specs.JsonText.{document_text}
 use Rattle.feed_text.specs.ValueText.{value_text}
-use Rattle.feed_text.specs.CellText.{label, text_of, tree_text, cell_text, kept_text, kept_cell_text, Appends, AppendsLabeled, AppendsLabeledReading, IsTextError, PacksNone, IsCellError}
+use Rattle.feed_text.specs.CellText.{label, cell_value_text, tree_text, cell_text, kept_text, kept_cell_text, Appends, AppendsLabeled, AppendsLabeledReading, IsTextError, PacksNone, IsCellError}
 
 -- the text was appended
 pub appends : (column : ℕ) (found : Reading (List ℕ)) (text old new : List ℕ) → found ≡ Ok text → new ≡ old ++ (label column ++ text) → Appends (found >>= λ t. Ok (label column ++ t)) old new
 appends column found text old new h is = rw h is
 
-pub bytes_text : (v : CellValue) (b : List ℕ) → v ≡ bytes b → text_of v ≡ Ok (quoted b)
-unfolding text_of
+pub bytes_text : (v : CellValue) (b : List ℕ) → v ≡ bytes b → cell_value_text v ≡ Ok (quoted b)
+unfolding cell_value_text
 bytes_text v b h = rw h refl
 
-pub json_text : (v : CellValue) (b : List ℕ) → v ≡ json b → text_of v ≡ tree_text (document_tree b)
-unfolding text_of
+pub json_text : (v : CellValue) (b : List ℕ) → v ≡ json b → cell_value_text v ≡ tree_text (document_tree b)
+unfolding cell_value_text
 json_text v b h = rw h refl
 
-pub tree_written : (v : CellValue) (b : List ℕ) (t : Tree) → v ≡ json b → document_tree b ≡ Ok t → text_of v ≡ Ok (document_text t)
+pub tree_written : (v : CellValue) (b : List ℕ) (t : Tree) → v ≡ json b → document_tree b ≡ Ok t → cell_value_text v ≡ Ok (document_text t)
 tree_written v b t h e = json_text v b h ∙ ap tree_text e
 
 packed_appended : (column : ℕ) (o : Option (List ℕ)) (old new : List ℕ) → AppendsLabeled column (option_map quoted o) old new → Appends (cell_text column (bytes (text_or_none o))) old new
-unfolding text_of
+unfolding cell_value_text
 packed_appended column None old new h = absurd h
 packed_appended column (Some t) old new h = h
 
@@ -74,8 +74,8 @@ decimal_failed column cell precision scale b e old new h r = (why r.cause, r.unc
     why (inl m) = inr (rw m tt)
     why (inr d) = inl (d.0, rw h (unquoted_none (packed_text precision scale b.now) d.1))
 
-pub value_text_is : (v : Value) → text_of (cell_value_of v) ≡ Ok (value_text v)
-unfolding text_of value_text
+pub value_text_is : (v : Value) → cell_value_text (cell_value_of v) ≡ Ok (value_text v)
+unfolding cell_value_text value_text
 value_text_is NULL = refl
 value_text_is (Bytes b) = refl
 value_text_is (Int z) = refl
@@ -142,9 +142,9 @@ pub kept_failed : (column : ℕ) (b : BinlogValue) (d : JsonbValue) (e : RowsErr
 kept_failed column b d e h p = rw (kept_document b d h) (no_text column e (tree_in (jsonb_value d)) p)
 
 -- the value that was made from a cell has the cell's text
-pub same_text : (v : CellValue) (b : BinlogValue) → Holds v b → kept_text b ≡ text_of v
-unfolding kept_text text_of
-same_text v (made.Value w) h = ap text_of (sym h)
+pub same_text : (v : CellValue) (b : BinlogValue) → Holds v b → kept_text b ≡ cell_value_text v
+unfolding kept_text cell_value_text
+same_text v (made.Value w) h = ap cell_value_text (sym h)
 same_text (json b) (made.Jsonb d) h = ap (λ (o : Reading Seen). tree_text (o >>= tree_in)) (sym h)
 same_text null (made.Jsonb d) h = absurd h
 same_text (bytes b) (made.Jsonb d) h = absurd h
@@ -176,8 +176,8 @@ pub kept_diffs_failed : (column : ℕ) (b : BinlogValue) (ds : Vec JsonDiff Glob
     → IsTextError e (kept_cell_text column b) old new
 kept_diffs_failed column b ds old new e h p = (rw (kept_diffs b ds h) (no_more (λ (t : List ℕ). t) e (diffs_text (map diff_view ds.items)) (λ t. Ok (label column ++ t)) p.0), p.1)
 
-pub diffs_written : (v : CellValue) (b : List ℕ) (ds : List Diff) → v ≡ json_diffs b → items_at diff_at b ≡ all_found ds → text_of v ≡ diffs_text ds
-unfolding text_of
+pub diffs_written : (v : CellValue) (b : List ℕ) (ds : List Diff) → v ≡ json_diffs b → items_at diff_at b ≡ all_found ds → cell_value_text v ≡ diffs_text ds
+unfolding cell_value_text
 diffs_written v b ds h e = rw (h, e) refl
 
 pub diffs_appended : (column : ℕ) (v : CellValue) (b : List ℕ) (ds : List Diff) (old new : List ℕ) → v ≡ json_diffs b → items_at diff_at b ≡ all_found ds → AppendsLabeledReading column (diffs_text ds) old new → Appends (cell_text column v) old new
@@ -190,7 +190,7 @@ diffs_unwritten column cell b ds old new e h f p = (inr (rw (diffs_written (cell
 
 -- bytes that aren't partial updates
 pub diffs_failed : (column : ℕ) (v : CellValue) (b : List ℕ) (e : RowsError) → v ≡ json_diffs b → (e ≡ Memory) ⊎ ((items_at diff_at b).fault ≡ Some e) → (let failed : Reading (List ℕ) = Err e in Parses (λ (t : List ℕ). t) failed (cell_text column v))
-unfolding text_of
+unfolding cell_value_text
 diffs_failed column v b e h (inl m) = rw m tt
 diffs_failed column v b e h (inr f) = rw (h, f) (own e (diffs_fault b e f))
   where

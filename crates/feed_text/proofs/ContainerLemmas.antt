@@ -6,7 +6,7 @@ use Rattle.std.specs.Str.{is_utf8}
 use Rattle.rows_jsonb.specs.JsonTrees.{Tree, array, object, Items, no_items, item, Members, no_members}
 use Rattle.rows_jsonb.specs.JsonbValues.{JsonbValue, elem_in, object_key, count_in, is_array_in, is_object_in}
 use Rattle.rows_values.specs.Readings.{Reading, ◌>>=◌}
-use Rattle.rows_jsonb.specs.DocumentTrees.{Counted, items, member_trees, tree_of, utf8}
+use Rattle.rows_jsonb.specs.DocumentTrees.{Counted, items, member_trees, tree_of, utf8, values_read}
 use Rattle.rows_jsonb.proofs.Building.{array_tree, object_tree, after_members, none_after_members, members_turn, members_end}
 use Rattle.feed_writers.specs.Quoting.{quoted}
 use Rattle.feed_text.specs.JsonText.{document_text, item_texts}
@@ -216,7 +216,7 @@ module _ (depth : ℕ) (value : JsonbValue) where
       let e : (n + 1) + k ≡ n + suc k = omega arith in
       ap (λ (j : ℕ). found 0 j no_members) e
       ∙ members_so_far n (before ++ after) order fewer (suc k)
-      ∙ members_turn below (object_key value) (elem_in value) (along keys trees counts (before ++ after)) (trees n) (keys n) (keys n) (count_all keys trees counts (before ++ after)) (counts n) n (suc k) k m.seen refl m.key_is m.seen_is (utf8_found (keys n) m.is_text) m.is
+      ∙ members_turn below (values_read depth) (object_key value) (elem_in value) (along keys trees counts (before ++ after)) (trees n) (keys n) (keys n) (count_all keys trees counts (before ++ after)) (counts n) n (suc k) k m.seen refl m.key_is m.seen_is (utf8_found (keys n) m.is_text) m.is
       ∙ ap₂ (λ (c : ℕ) (ms : Members). after_members c (found (n + 1) k ms)) (count_insert keys trees counts before after n) (put_along keys trees counts before after n first last)
 
   pub members_are : (n : ℕ) (order : List ℕ) → AreInOrder (keys_of value) n order → AllOf (IsThere depth value) order
@@ -226,7 +226,7 @@ module _ (depth : ℕ) (value : JsonbValue) where
       let e : n ≡ n + 0 = omega arith in
       ap (λ (j : ℕ). member_trees (tree_of depth) (object_key value) (elem_in value) 0 j no_members) e
       ∙ members_so_far n order are (all_numbers (keys_of value) (IsThere depth value) n order are all) 0
-      ∙ members_end (tree_of depth) (object_key value) (elem_in value) (along (keys_of value) (trees_of depth value) (counts_of depth value) order) (count_all (keys_of value) (trees_of depth value) (counts_of depth value) order) n 0 refl
+      ∙ members_end (tree_of depth) (values_read depth) (object_key value) (elem_in value) (along (keys_of value) (trees_of depth value) (counts_of depth value) order) (count_all (keys_of value) (trees_of depth value) (counts_of depth value) order) n 0 refl
 
 -- some members of an object are written
 pub record MembersSoFar (depth : ℕ) (value : JsonbValue) (done : List ℕ) (budget left : ℕ) (base out : List ℕ) (is_first : Bool) : Type 0 where

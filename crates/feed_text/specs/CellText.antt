@@ -29,20 +29,20 @@ use Rattle.feed_text.specs.DiffText.{diffs_text}
 abbrev pub tree_text : Reading Tree → Reading (List ℕ)
 tree_text found = found >>= λ t. Ok (document_text t)
 
--- the text of a value; a JSON document that can't be parsed has none, and neither have partial updates with such a document
-unfoldable pub text_of : CellValue → Reading (List ℕ)
-text_of null = Ok (codes "NULL")
-text_of (bytes b) = Ok (quoted b)
-text_of (int z) = Ok (signed_decimal z)
-text_of (uint n) = Ok (117 ∷ decimal n)
-text_of (float bits) = Ok (float_text bits)
-text_of (double bits) = Ok (double_text bits)
-text_of (date year month day hour minute second micros) =
+-- the text of a value; an error for a JSON document without a tree, or for JSON diffs with such a document
+unfoldable pub cell_value_text : CellValue → Reading (List ℕ)
+cell_value_text null = Ok (codes "NULL")
+cell_value_text (bytes b) = Ok (quoted b)
+cell_value_text (int z) = Ok (signed_decimal z)
+cell_value_text (uint n) = Ok (117 ∷ decimal n)
+cell_value_text (float bits) = Ok (float_text bits)
+cell_value_text (double bits) = Ok (double_text bits)
+cell_value_text (date year month day hour minute second micros) =
     Ok (date_text (record { year = year; month = month; day = day }) (record { hour = hour; minute = minute; second = second; micros = micros }))
-text_of (time negative days hours minutes seconds micros) =
+cell_value_text (time negative days hours minutes seconds micros) =
     Ok (span_text negative days (record { hour = hours; minute = minutes; second = seconds; micros = micros }))
-text_of (json b) = tree_text (document_tree b)
-text_of (json_diffs b) = unless (items_at diff_at b).fault (items_at diff_at b).items >>= diffs_text
+cell_value_text (json b) = tree_text (document_tree b)
+cell_value_text (json_diffs b) = unless (items_at diff_at b).fault (items_at diff_at b).items >>= diffs_text
 
 -- a space, the column's index in the table, and `=`
 abbrev pub label : ℕ → List ℕ
@@ -50,11 +50,11 @@ label column = 32 ∷ decimal column ++ 61 ∷ []
 
 -- the text of a cell, given its column's index
 abbrev pub cell_text : ℕ → CellValue → Reading (List ℕ)
-cell_text column v = text_of v >>= λ t. Ok (label column ++ t)
+cell_text column v = cell_value_text v >>= λ t. Ok (label column ++ t)
 
 -- the text of an owned value
 unfoldable pub kept_text : BinlogValue → Reading (List ℕ)
-kept_text (made.Value v) = text_of (cell_value_of v)
+kept_text (made.Value v) = cell_value_text (cell_value_of v)
 kept_text (made.Jsonb d) = tree_text (tree_in (jsonb_value d))
 kept_text (made.JsonDiff ds) = diffs_text (map diff_view ds.items)
 

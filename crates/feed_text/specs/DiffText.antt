@@ -35,10 +35,10 @@ unfoldable pub diff_texts : List Diff → Reading (List (List ℕ))
 diff_texts [] = Ok []
 diff_texts (d ∷ ds) = diff_text d >>= λ t. diff_texts ds >>= λ ts. Ok (t ∷ ts)
 
--- all updates, with a comma between each two; no text if one of them has none
+-- `diff[`, the texts with a comma between each two, and `]`
 abbrev pub bracketed : List (List ℕ) → List ℕ
 bracketed texts = codes "diff[" ++ (join_with_byte 44 texts ++ codes "]")
 
--- the text of all updates of a cell
+-- the text of all updates of a cell; an error if one has none
 abbrev pub diffs_text : List Diff → Reading (List ℕ)
 diffs_text ds = diff_texts ds >>= λ ts. Ok (bracketed ts)

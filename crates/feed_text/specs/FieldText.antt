@@ -5,14 +5,14 @@ use Rattle.std.specs.declared.result.Result.TheVariants.{Ok}
 use Rattle.rows_cells.specs.declared.format.CellFormat.{CellFormat}
 use Rattle.rows_cells.specs.CellValues.{CellValue}
 use Rattle.rows_cells.specs.Images.{field_at}
-use Rattle.feed_text.specs.CellText.{text_of}
+use Rattle.feed_text.specs.CellText.{cell_value_text}
 
 -- the text of the value was written, up to the offset `end`, and `rest` are the bytes after the cell
 pub record WritesField (is_null : Bool) (format : CellFormat) (bytes : List ℕ) (at : ℕ) (old new : List ℕ) (end : ℕ) (rest : List ℕ) : Type 0 where
   pub value : CellValue
   pub text : List ℕ
   pub read : field_at is_null format bytes ≡ Ok (value, rest)
-  pub is : text_of value ≡ Ok text
+  pub is : cell_value_text value ≡ Ok text
   pub most : end ≤ at + 194
   pub written : take end new ≡ take at old ++ text
 

@@ -15,9 +15,11 @@ use Rattle.feed_writers.specs.declared.times.Clock.{Clock}
 use Rattle.feed_writers.specs.declared.times.Day.{Day}
 use Rattle.feed_writers.specs.TimesOfDay.{clock_text, day_text}
 
+-- the date of a value
 abbrev pub day_of : MysqlTime → Day
 day_of t = record { year = t.year; month = t.month; day = t.day }
 
+-- the time of day of a value
 abbrev pub clock_of : MysqlTime → Clock
 clock_of t = record { hour = t.hour; minute = t.minute; second = t.second; micros = t.second_part }
 
@@ -49,6 +51,7 @@ unfoldable mutual
   document_text (tree.array is) = codes "[" ++ (join_with_byte 44 (item_texts is) ++ codes "]")
   document_text (tree.object ms) = codes "{" ++ (join_with_byte 44 (member_texts ms) ++ codes "}")
 
+  -- the text of each element
   pub item_texts : Items → List (List ℕ)
   item_texts no_items = []
   item_texts (item t ts) = document_text t ∷ item_texts ts

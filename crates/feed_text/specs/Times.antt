@@ -10,6 +10,6 @@ use Rattle.feed_writers.specs.TimesOfDay.{clock_text, day_text}
 unfoldable pub date_text : Day → Clock → List ℕ
 date_text day clock = day_text day ++ 84 ∷ clock_text clock
 
--- a `-` if it is negative, days, `d` and the rest of the time
+-- `-` if negative, the days, `d`, and `hh:mm:ss.uuuuuu`
 unfoldable pub span_text : Bool → ℕ → Clock → List ℕ
 span_text negative days clock = sign_text negative ++ (decimal days ++ 100 ∷ clock_text clock)

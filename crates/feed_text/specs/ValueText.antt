@@ -8,7 +8,7 @@ use Rattle.rows_values.specs.declared.rows.value.Value.TheVariants.{NULL, Bytes,
 use Rattle.feed_writers.specs.Quoting.{quoted}
 use Rattle.feed_text.specs.Times.{date_text, span_text}
 
--- a float as the hexadecimal digits of its bits
+-- the text of a FLOAT: `f` and its 32 bits in hexadecimal digits, the highest byte first
 abbrev pub float_text : ℕ → List ℕ
 float_text bits = 102 ∷ encode_lower (to_be_bytes w32 bits)
 

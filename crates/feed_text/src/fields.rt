@@ -74,7 +74,7 @@ fn put_signed_field<'a>(
 
 /// The same for one width.
 #[inline(always)]
-#[tactic(auto, unfolding(crate::specs::CellText::text_of))]
+#[tactic(auto, unfolding(crate::specs::CellText::cell_value_text))]
 fn put_signed_of<'a>(
     text: &mut [u8],
     at: usize,
@@ -112,7 +112,7 @@ fn put_unsigned_field<'a>(
 
 /// The same for one width.
 #[inline(always)]
-#[tactic(auto, unfolding(crate::specs::CellText::text_of))]
+#[tactic(auto, unfolding(crate::specs::CellText::cell_value_text))]
 fn put_unsigned_of<'a>(
     text: &mut [u8],
     at: usize,
@@ -134,7 +134,7 @@ fn put_unsigned_of<'a>(
 
 /// Writes the text of a few bytes after a length of one byte.
 #[inline(never)]
-#[tactic(auto, unfolding(crate::specs::CellText::text_of))]
+#[tactic(auto, unfolding(crate::specs::CellText::cell_value_text))]
 fn put_few_field<'a>(text: &mut [u8], at: usize, bytes: &'a [u8]) -> Option<(usize, &'a [u8])>
     requires { at + 194 ≤ length text.old }
     ensures { WritesOrNone false (Counted One) bytes.now at text.old text.new result }
@@ -149,7 +149,7 @@ fn put_few_field<'a>(text: &mut [u8], at: usize, bytes: &'a [u8]) -> Option<(usi
 
 /// Writes the text of a few bytes.
 #[inline(never)]
-#[tactic(auto, unfolding(crate::specs::CellText::text_of))]
+#[tactic(auto, unfolding(crate::specs::CellText::cell_value_text))]
 fn put_bytes_field<'a>(
     text: &mut [u8],
     at: usize,
@@ -172,7 +172,7 @@ fn put_bytes_field<'a>(
 
 /// Writes the text of a DATETIME.
 #[inline(never)]
-#[tactic(auto, unfolding(crate::specs::CellText::text_of, crate::specs::ShortTexts::short_text))]
+#[tactic(auto, unfolding(crate::specs::CellText::cell_value_text, crate::specs::ShortTexts::short_text))]
 fn put_datetime_field<'a>(
     text: &mut [u8],
     at: usize,
@@ -193,7 +193,7 @@ fn put_datetime_field<'a>(
 
 /// Writes the text of a TIME.
 #[inline(never)]
-#[tactic(auto, unfolding(crate::specs::CellText::text_of, crate::specs::ShortTexts::short_text))]
+#[tactic(auto, unfolding(crate::specs::CellText::cell_value_text, crate::specs::ShortTexts::short_text))]
 fn put_time_field<'a>(
     text: &mut [u8],
     at: usize,

@@ -10,7 +10,7 @@ ghost use Rattle.rows_cells.specs.CellValues.{CellValue};
 ghost use Rattle.rows_cells.specs.CellViews.{cell_value_of, Holds};
 ghost use Rattle.rows_cells.specs.declared.binlog_value.BinlogValue.{BinlogValue};
 ghost use Rattle.feed_text.specs.ValueText.{value_text};
-ghost use Rattle.feed_text.specs.CellText.{text_of, kept_text};
+ghost use Rattle.feed_text.specs.CellText.{cell_value_text, kept_text};
 
 /// Equal quoted texts have equal bytes.
 pub fn equal_quotes_are_of_equal_bytes()
@@ -19,12 +19,12 @@ pub fn equal_quotes_are_of_equal_bytes()
 
 /// The text of a value is that of a cell with this value.
 pub fn values_have_the_texts_of_cells()
-    ensures { (v : Value) → text_of (cell_value_of v) ≡ Ok (value_text v) }
+    ensures { (v : Value) → cell_value_text (cell_value_of v) ≡ Ok (value_text v) }
 {}
 
 /// The value that was made from a cell has the cell's text.
 pub fn values_of_cells_have_their_texts()
-    ensures { (v : CellValue) (b : BinlogValue) → Holds v b → kept_text b ≡ text_of v }
+    ensures { (v : CellValue) (b : BinlogValue) → Holds v b → kept_text b ≡ cell_value_text v }
 {}
 
 /// The text of the bytes `27 5c 0a 41`: a quote, a backslash, a line feed and a letter.

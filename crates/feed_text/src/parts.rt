@@ -2,7 +2,7 @@
 
 ghost use Rattle.std.specs.Prelude.{◌≡◌, Ok};
 ghost use Rattle.rows_cells.specs.CellValues.{new_date as new_date_value, old_time as old_time_value, old_datetime as old_datetime_value, cell_date, cell_time};
-ghost use Rattle.feed_text.specs.CellText.{text_of};
+ghost use Rattle.feed_text.specs.CellText.{cell_value_text};
 ghost use Rattle.feed_text.specs.Times.{date_text, span_text};
 ghost use Rattle.feed_text.specs.ShortTexts.{short_text};
 
@@ -28,7 +28,7 @@ impl<'a> CellContent<'a> {
 
     /// The values of a cell. Dates and times are split into their fields.
     #[inline(always)]
-    #[tactic(auto, unfolding(crate::specs::CellText::text_of, crate::specs::ShortTexts::short_text))]
+    #[tactic(auto, unfolding(crate::specs::CellText::cell_value_text, crate::specs::ShortTexts::short_text))]
     pub(crate) fn of(cell: CellRef<'a>) -> CellContent<'a>
         ensures { ArePartsOf cell.entry result }
     {
@@ -59,9 +59,9 @@ impl<'a> CellContent<'a> {
 
 /// The text of a DATE of three bytes.
 #[inline(always)]
-#[tactic(auto, unfolding(crate::specs::CellText::text_of, crate::specs::ShortTexts::short_text))]
+#[tactic(auto, unfolding(crate::specs::CellText::cell_value_text, crate::specs::ShortTexts::short_text))]
 fn new_date(bits: u32) -> Short
-    ensures { text_of (new_date_value bits) ≡ Ok (short_text result) }
+    ensures { cell_value_text (new_date_value bits) ≡ Ok (short_text result) }
 {
     let day = Day {
         year: bits / 512 % 65_536,
@@ -81,9 +81,9 @@ fn new_date(bits: u32) -> Short
 
 /// The text of a TIME of three bytes, without fraction.
 #[inline(always)]
-#[tactic(auto, unfolding(crate::specs::CellText::text_of, crate::specs::ShortTexts::short_text))]
+#[tactic(auto, unfolding(crate::specs::CellText::cell_value_text, crate::specs::ShortTexts::short_text))]
 fn old_time(digits: i32) -> Short
-    ensures { text_of (old_time_value digits) ≡ Ok (short_text result) }
+    ensures { cell_value_text (old_time_value digits) ≡ Ok (short_text result) }
 {
     let size = digits.unsigned_abs();
     let hours = size / 10_000;
@@ -101,9 +101,9 @@ fn old_time(digits: i32) -> Short
 
 /// The text of a DATETIME of eight bytes, without fraction.
 #[inline(always)]
-#[tactic(auto, unfolding(crate::specs::CellText::text_of, crate::specs::ShortTexts::short_text))]
+#[tactic(auto, unfolding(crate::specs::CellText::cell_value_text, crate::specs::ShortTexts::short_text))]
 fn old_datetime(digits: u64) -> Short
-    ensures { text_of (old_datetime_value digits) ≡ Ok (short_text result) }
+    ensures { cell_value_text (old_datetime_value digits) ≡ Ok (short_text result) }
 {
     Short::Date(
         Day {
@@ -124,7 +124,7 @@ fn old_datetime(digits: u64) -> Short
 #[inline(always)]
 #[tactic(auto, unfolding(crate::specs::ShortTexts::short_text))]
 fn datetime(packed: i64) -> Short
-    ensures { text_of (cell_date packed) ≡ Ok (short_text result) }
+    ensures { cell_value_text (cell_date packed) ≡ Ok (short_text result) }
 {
     let (day, clock) = datetime_parts(packed);
     Short::Date(day, clock)
@@ -132,9 +132,9 @@ fn datetime(packed: i64) -> Short
 
 /// The date and the time of day of a packed DATETIME2.
 #[inline(always)]
-#[tactic(auto, unfolding(crate::specs::CellText::text_of))]
+#[tactic(auto, unfolding(crate::specs::CellText::cell_value_text))]
 pub(crate) fn datetime_parts(packed: i64) -> (Day, Clock)
-    ensures { text_of (cell_date packed) ≡ Ok (date_text result.0 result.1) }
+    ensures { cell_value_text (cell_date packed) ≡ Ok (date_text result.0 result.1) }
 {
     let size = packed.unsigned_abs();
     let whole = size / 16_777_216;
@@ -157,7 +157,7 @@ pub(crate) fn datetime_parts(packed: i64) -> (Day, Clock)
 #[inline(always)]
 #[tactic(auto, unfolding(crate::specs::ShortTexts::short_text))]
 fn time(packed: i64) -> Short
-    ensures { text_of (cell_time packed) ≡ Ok (short_text result) }
+    ensures { cell_value_text (cell_time packed) ≡ Ok (short_text result) }
 {
     let (is_negative, days, clock) = time_parts(packed);
     Short::Span(is_negative, days, clock)
@@ -165,9 +165,9 @@ fn time(packed: i64) -> Short
 
 /// Whether a packed TIME2 is negative, its days, and the rest of it.
 #[inline(always)]
-#[tactic(auto, unfolding(crate::specs::CellText::text_of))]
+#[tactic(auto, unfolding(crate::specs::CellText::cell_value_text))]
 pub(crate) fn time_parts(packed: i64) -> (bool, u32, Clock)
-    ensures { text_of (cell_time packed) ≡ Ok (span_text result.0 result.1 result.2) }
+    ensures { cell_value_text (cell_time packed) ≡ Ok (span_text result.0 result.1 result.2) }
 {
     let size = packed.unsigned_abs();
     let whole = size / 16_777_216;

@@ -1,22 +1,22 @@
 -- Sixteen bytes between quotes, lane by lane.
-use Rattle.std.proofs.Common.{◌≡◌, ℕ, zero, suc, ◌+◌, ◌-◌, ◌*◌, ◌/◌, ◌%◌, ◌^◌, ◌<◌, ◌≤◌, Bool, true, false, not, cond, List, [], ◌∷◌, ◌++◌, map, length, take, drop, get_or, replicate, bit_and, eqb, eqb→eq, refl, sym, ap, ap₂, ◌∙◌, subst, append_assoc, inl, inr, arith, w8, Fits}
-use Rattle.std.specs.Prelude.{⊤, if◌then◌else◌}
+use Rattle.std.proofs.Common.{◌≡◌, ℕ, zero, suc, ◌+◌, ◌-◌, ◌*◌, ◌/◌, ◌%◌, ◌^◌, ◌<◌, ◌≤◌, Bool, true, false, not, cond, List, [], ◌∷◌, ◌++◌, map, length, take, drop, get_or, replicate, bit_and, eqb, eqb→eq, refl, sym, ap, ap₂, add-one, ◌∙◌, subst, append_assoc, inl, inr, arith, w8, Fits}
+use Rattle.std.specs.Prelude.{⊤, if◌then◌else◌, take_while}
 use Rattle.std.proofs.lemmas.Bool.{cases_lt}
 use Rattle.std.specs.List.{flat_map, range_with_len}
 use Rattle.std.proofs.lemmas.List.{get_or-map, length-map, ext_get_or, take-take, take_all, length-append, length-replicate, length-take-le, length-drop, drop-drop, take-append-drop}
 use Rattle.std.proofs.lemmas.List.FromFn.{length-map-range_with_len, get_or-map-range_with_len}
 use Rattle.std.proofs.lemmas.Nat.{and_le_r, and_mask, ones-le}
-use Rattle.std.proofs.lemmas.Simd.{Each1-all, Each1-weaker, Each1-zip2, Each2-splat, below_from_Fits, length-zip2, zip2_splat, swz_l, SwzOk, SwzOk-from_below, length-swz_l, get_or-swz_l_below, length-chunk, take_more_put_chunk, mask_l-mod}
+use Rattle.std.proofs.lemmas.Simd.{Each1-all, Each1-weaker, Each1-zip2, Each2-splat, below_from_Fits, length-zip2, zip2_splat, swz_l, SwzOk, SwzOk-from_below, length-swz_l, get_or-swz_l_below, length-chunk, take_more_put_chunk, mask_l-mod, trailing_mask_l}
 use Rattle.std.proofs.lemmas.List.Concat.{flat_map-append}
 use Rattle.std.proofs.Math.Seq.{take-add, take-append_seam, drop-append_seam}
-use lib.Count.{ones}
+use lib.Count.{ones, count_trailing_zeros}
 use lib.Lanes.{chunk, zip2, pick_l, put_chunk, sel_l, mask_l, top, Each1}
 use Rattle.feed_writers.specs.declared.escapes.TheConstants.{DIGITS}
 use Rattle.feed_writers.specs.declared.blocks.TheConstants.{WRITTEN, OFFSETS, LOWER, UPPER, LOWER_PAIRS, UPPER_PAIRS}
-use Rattle.feed_writers.specs.Quoting.{is_plain_byte, quoted_byte}
+use Rattle.feed_writers.specs.Quoting.{is_plain_byte, quoted_byte, escape}
 use Rattle.feed_writers.specs.Fields.{first_of_byte, high_digit, low_digit, field_of, stops_in, AreParts}
 use Rattle.feed_writers.proofs.EscapeLemmas.{glyph_at}
-use Rattle.feed_writers.proofs.PlainLemmas.{upto_sound, is_stop, below, tests_of, stops_by_lane}
+use Rattle.feed_writers.proofs.PlainLemmas.{upto_sound, is_stop, below, tests_of, stops_by_lane, first_more, passed_count, positive}
 
 abbrev listed : (ℕ → ℕ) → ℕ → List ℕ
 listed f n = map f (range_with_len 0 n)
@@ -330,36 +330,105 @@ spaces : (k : ℕ) → flat_map quoted_byte (replicate k 32) ≡ replicate k 32
 spaces zero = refl
 spaces (suc k) = ap (λ (t : List ℕ). 32 ∷ t) (spaces k)
 
-pub record Padded (r n : ℕ) (base new v : List ℕ) : Type 0 where
-  pub within : 16 - n ≤ r
-  pub most : r - (16 - n) ≤ length base + 3 * n
-  pub text : take (r - (16 - n)) new ≡ base ++ flat_map quoted_byte (take n v)
+pub record Padded (r k n : ℕ) (base new rest : List ℕ) : Type 0 where
+  pub within : k - n ≤ r
+  pub most : r - (k - n) ≤ length base + 3 * n
+  pub text : take (r - (k - n)) new ≡ base ++ flat_map quoted_byte rest
 
--- the spaces don't count
-pub padded : (r n : ℕ) (base new v : List ℕ) → n ≤ 16 → length v ≡ 16 → r ≤ length new → v ≡ take n v ++ replicate (16 - n) 32 → take r new ≡ base ++ flat_map quoted_byte v → Padded r n base new v
-padded r n base new v few long room e is =
-    let k = 16 - n in
-    let q = flat_map quoted_byte (take n v) in
-    let s : List ℕ = replicate k 32 in
-    let parts : flat_map quoted_byte v ≡ q ++ s = ap (flat_map quoted_byte) e ∙ flat_map-append quoted_byte (take n v) s ∙ ap (λ (t : List ℕ). q ++ t) (spaces k) in
+-- of k bytes the first n were to be written; the spaces after them don't count
+pub padded : (r k : ℕ) (base new v rest : List ℕ) → length rest ≤ k → r ≤ length new → v ≡ rest ++ replicate (k - length rest) 32 → take r new ≡ base ++ flat_map quoted_byte v → Padded r k (length rest) base new rest
+padded r k base new v rest few room e is =
+    let n = length rest in
+    let m = k - n in
+    let q = flat_map quoted_byte rest in
+    let s : List ℕ = replicate m 32 in
+    let parts : flat_map quoted_byte v ≡ q ++ s = ap (flat_map quoted_byte) e ∙ flat_map-append quoted_byte rest s ∙ ap (λ (t : List ℕ). q ++ t) (spaces m) in
     let whole : take r new ≡ (base ++ q) ++ s = is ∙ ap (λ (t : List ℕ). base ++ t) parts ∙ sym (append_assoc base q s) in
-    let len : r ≡ length base + length q + k = omega (arith, ap length whole, length-take-le r new room, length-append (base ++ q) s, length-append base q, length-replicate {A = ℕ} k 32) in
-    let end : r - k ≡ length (base ++ q) = omega (arith, length-append base q) in
+    let len : r ≡ length base + length q + m = omega (arith, ap length whole, length-take-le r new room, length-append (base ++ q) s, length-append base q, length-replicate {A = ℕ} m 32) in
+    let end : r - m ≡ length (base ++ q) = omega (arith, length-append base q) in
     record {
       within = omega arith;
-      most = omega (arith, quoted_most (take n v), length-take-le n v (omega arith));
-      text = sym (take-take (r - k) r new (omega arith)) ∙ ap (take (r - k)) whole ∙ ap (λ (m : ℕ). take m ((base ++ q) ++ s)) end ∙ take-append_seam (base ++ q) s;
+      most = omega (arith, quoted_most rest);
+      text = sym (take-take (r - m) r new (omega arith)) ∙ ap (take (r - m)) whole ∙ ap (λ (j : ℕ). take j ((base ++ q) ++ s)) end ∙ take-append_seam (base ++ q) s;
     }
 
--- ---- sixteen bytes after others
-pub sixteen_more : (base new all rest after : List ℕ) → new ≡ base ++ flat_map quoted_byte (take 16 rest) → after ≡ drop 16 rest → base ++ flat_map quoted_byte rest ≡ all → new ++ flat_map quoted_byte after ≡ all
-sixteen_more base new all rest after f g h =
+-- ---- up to the first byte that needs an escape
+-- of bytes among which some need an escape, how many are before the first such, and what is written of these and it
+pub record UpTo (n : ℕ) (v : List ℕ) : Type 0 where
+  pub within : n < length v
+  pub text : flat_map quoted_byte (take (suc n) v) ≡ take n v ++ escape (get_or v n 0)
+
+up_to_more : (x m : ℕ) (v : List ℕ) → is_plain_byte x ≡ true → UpTo m v → UpTo (suc m) (x ∷ v)
+up_to_more x m v h t = record { within = omega (arith, t.within); text = rw h (ap (λ (l : List ℕ). x ∷ l) t.text) }
+
+up_to : (v : List ℕ) (n : ℕ) → (stops_in v ≡ 0 → ⊥) → n ≡ length (take_while is_plain_byte v) → UpTo n v
+up_to [] n some e = absurd (some refl)
+up_to (x ∷ v) n some e = split (λ m more f. up_to v m more f) (is_plain_byte x) refl n e
+  where
+    split : ((m : ℕ) → (stops_in v ≡ 0 → ⊥) → m ≡ length (take_while is_plain_byte v) → UpTo m v) → (p : Bool) → is_plain_byte x ≡ p → (m : ℕ) → m ≡ length (take_while is_plain_byte (x ∷ v)) → UpTo m (x ∷ v)
+    split more true h zero f = let one = first_more x v h in absurd (omega (arith, f, one))
+    split more true h (suc m) f =
+        let one = first_more x v h in
+        up_to_more x m v h (more m (λ z. some (rw (h, z) refl)) (omega (arith, f, one)))
+    split more false h m f =
+        let none : length (take_while is_plain_byte (x ∷ v)) ≡ 0 = rw h refl in
+        let at : m ≡ 0 = f ∙ none in
+        subst (λ k. UpTo k (x ∷ v)) (sym at) (record { within = omega arith; text = rw h refl })
+
+pub up_to_stop : (v : List ℕ) (stops : ℕ) → Bytes v → stops ≡ mask_l (tests_of v 16) % 2 ^ 64 → (stops ≡ 0 → ⊥) → UpTo (count_trailing_zeros 64 stops) v
+up_to_stop v stops fits is some =
+    let by_lane : stops ≡ mask_l (map is_stop v) = is ∙ ap (λ l. mask_l l % 2 ^ 64) (stops_by_lane v 16 fits.0 fits.1) ∙ mask_l-mod (map is_stop v) 64 (omega (arith, length-map v is_stop, fits.0)) in
+    let bits : stops ≡ stops_in v = is ∙ stops_are v fits in
+    up_to v (count_trailing_zeros 64 stops) (λ z. some (bits ∙ z)) (ap (count_trailing_zeros 64) by_lane ∙ trailing_mask_l is_stop 64 v (omega (arith, fits.0)) (omega (arith, by_lane, positive stops some)) ∙ passed_count is_plain_byte v)
+
+pub escape_stored : (at n end : ℕ) (text new v e : List ℕ) → length v ≡ 16 → n < 16 → at + 52 ≤ length text → end ≡ at + n + 3 → take end new ≡ take (at + n) (put_chunk at text v) ++ e → take end new ≡ take at text ++ (take n v ++ e)
+escape_stored at n end text new v e long few room to is = is ∙ ap (λ (t : List ℕ). t ++ e) (stored at n text v (omega arith) (omega arith)) ∙ append_assoc (take at text) (take n v) e
+
+pub all_written : (base new v : List ℕ) → length v ≡ 16 → new ≡ base ++ flat_map quoted_byte v → new ≡ base ++ flat_map quoted_byte (take 16 v)
+all_written base new v long is = is ∙ ap (λ (t : List ℕ). base ++ flat_map quoted_byte t) (sym (take_all 16 v (omega (arith, long))))
+
+pub escape_written : (base new v : List ℕ) (n : ℕ) → UpTo n v → new ≡ base ++ (take n v ++ escape (get_or v n 0)) → new ≡ base ++ flat_map quoted_byte (take (n + 1) v)
+escape_written base new v n t is = is ∙ ap (λ (l : List ℕ). base ++ l) (sym t.text) ∙ ap (λ (k : ℕ). base ++ flat_map quoted_byte (take k v)) (sym (add-one n))
+
+-- ---- a run of bytes after others
+pub run_more : (n : ℕ) (base new all v rest after : List ℕ) → new ≡ base ++ flat_map quoted_byte (take n v) → take n v ≡ take n rest → after ≡ drop n rest → base ++ flat_map quoted_byte rest ≡ all → new ++ flat_map quoted_byte after ≡ all
+run_more n base new all v rest after f same g h =
     let q = flat_map quoted_byte in
-    ap (λ (t : List ℕ). t ++ q after) f
-    ∙ append_assoc base (q (take 16 rest)) (q after)
+    ap (λ (t : List ℕ). t ++ q after) (f ∙ ap (λ (t : List ℕ). base ++ q t) same)
+    ∙ append_assoc base (q (take n rest)) (q after)
     ∙ ap (λ (t : List ℕ). base ++ t)
-    (ap (λ (t : List ℕ). q (take 16 rest) ++ q t) g ∙ sym (flat_map-append quoted_byte (take 16 rest) (drop 16 rest)) ∙ ap q (take-append-drop 16 rest))
+    (ap (λ (t : List ℕ). q (take n rest) ++ q t) g ∙ sym (flat_map-append quoted_byte (take n rest) (drop n rest)) ∙ ap q (take-append-drop n rest))
     ∙ h
+
+-- a run within the bytes that remain
+pub run_within : (n : ℕ) (v rest : List ℕ) → n ≤ 16 → n ≤ length rest → (16 ≤ length rest → v ≡ take 16 rest) → (length rest ≤ 16 → v ≡ rest ++ replicate (16 - length rest) 32) → take n v ≡ take n rest
+run_within n v rest few within full pads =
+    elim (cases_lt (length rest) 16) [
+      | inl l ↦ ap (take n) (pads (omega arith)) ∙ take_append_within n rest _ within
+      | inr g ↦ ap (take n) (full g) ∙ take-take n 16 rest few
+    ]
+  where
+    take_append_within : (k : ℕ) (xs ys : List ℕ) → k ≤ length xs → take k (xs ++ ys) ≡ take k xs
+    take_append_within zero xs ys h = refl
+    take_append_within (suc k) [] ys h = absurd (omega arith)
+    take_append_within (suc k) (x ∷ xs) ys h = ap (λ (t : List ℕ). x ∷ t) (take_append_within k xs ys (omega arith))
+
+-- a run that has all bytes that remain
+pub run_beyond : (n : ℕ) (v rest : List ℕ) → n ≤ 16 → length rest ≤ n → (length rest ≤ 16 → v ≡ rest ++ replicate (16 - length rest) 32) → take n v ≡ rest ++ replicate (n - length rest) 32
+run_beyond n v rest few all pads =
+    ap (take {A = ℕ} n) (pads (omega arith)) ∙ beyond n rest (16 - length rest) all (omega arith)
+  where
+    fewer : (k m : ℕ) → k ≤ m → take {A = ℕ} k (replicate m 32) ≡ replicate k 32
+    fewer zero m h = refl
+    fewer (suc k) zero h = absurd (omega arith)
+    fewer (suc k) (suc m) h = ap (λ (t : List ℕ). 32 ∷ t) (fewer k m (omega arith))
+
+    beyond : (k : ℕ) (xs : List ℕ) (m : ℕ) → length xs ≤ k → k ≤ length xs + m → take k (xs ++ replicate m 32) ≡ xs ++ replicate (k - length xs) 32
+    beyond k [] m h l = let whole : k - 0 ≡ k = omega arith in fewer k m (omega arith) ∙ ap (λ (j : ℕ). replicate {A = ℕ} j 32) (sym whole)
+    beyond zero (x ∷ xs) m h l = absurd (omega arith)
+    beyond (suc k) (x ∷ xs) m h l =
+        let left : k - length xs ≡ suc k - suc (length xs) = omega arith in
+        ap (λ (t : List ℕ). x ∷ t) (beyond k xs m (omega arith) (omega arith) ∙ ap (λ (j : ℕ). xs ++ replicate {A = ℕ} j 32) left)
 
 pub rest_more : (k : ℕ) (bytes rest after : List ℕ) → length rest ≤ length bytes → rest ≡ drop (length bytes - length rest) bytes → after ≡ drop k rest → length after + k ≡ length rest → after ≡ drop (length bytes - length after) bytes
 rest_more k bytes rest after few e g long =

@@ -111,7 +111,7 @@ plain_from_lanes d n room few fits = on_true _ _ (λ e. plain_from_mask d n room
 one_up : (n : ℕ) → 1 + n ≡ suc n
 one_up n = omega arith
 
-first_more : (x : ℕ) (d : List ℕ) → is_plain_byte x ≡ true → length (take_while is_plain_byte (x ∷ d)) ≡ length (take_while is_plain_byte d) + 1
+pub first_more : (x : ℕ) (d : List ℕ) → is_plain_byte x ≡ true → length (take_while is_plain_byte (x ∷ d)) ≡ length (take_while is_plain_byte d) + 1
 first_more x d h = rw (h, one_up (prefix_len is_plain_byte d), add-one) refl
 
 -- n plain bytes at the start add n to the count
@@ -131,7 +131,7 @@ passed_more n all rest after le e room plain is len =
     omega (arith, le, e, more, len)
 
 -- the number of elements before the first that fails the test is that of the longest prefix that passes it
-passed_count : (p : ℕ → Bool) (d : List ℕ) → prefix_len (λ x. not (not (p x))) d ≡ length (take_while p d)
+pub passed_count : (p : ℕ → Bool) (d : List ℕ) → prefix_len (λ x. not (not (p x))) d ≡ length (take_while p d)
 passed_count p [] = refl
 passed_count p (x ∷ d) = split (p x) refl (passed_count p d)
   where
@@ -144,15 +144,15 @@ pub count_where_none : (d : List ℕ) (n m : ℕ) → n ≤ length d → m ≡ m
 count_where_none d n m room e none =
     sym (length-chunk 0 n d (omega (arith, room))) ∙ sym (leading_from_mask_l is_stop (chunk 0 n d) (sym e ∙ none)) ∙ passed_count is_plain_byte (take n d)
 
+pub positive : (k : ℕ) → (k ≡ 0 → ⊥) → 0 < k
+positive zero h = absurd (h refl)
+positive (suc k) h = omega arith
+
 -- the number of lanes before the lowest bit of their mask
 pub count_where_some : (d : List ℕ) (n m : ℕ) → n ≤ length d → n ≤ 64 → m ≡ mask_l (map is_stop (chunk 0 n d)) → (m ≡ 0 → ⊥) → count_trailing_zeros 64 m ≡ length (take_while is_plain_byte (take n d))
 count_where_some d n m room few e some =
     let long = length-chunk 0 n d (omega (arith, room)) in
     ap (count_trailing_zeros 64) e ∙ trailing_mask_l is_stop 64 (chunk 0 n d) (omega arith) (omega (arith, e, positive m some)) ∙ passed_count is_plain_byte (take n d)
-  where
-    positive : (k : ℕ) → (k ≡ 0 → ⊥) → 0 < k
-    positive zero h = absurd (h refl)
-    positive (suc k) h = omega arith
 
 -- a byte that counts as plain is plain
 pub plain_counted : (d : List ℕ) (n k : ℕ) → n ≤ length d → k ≤ length (take_while is_plain_byte (take n d)) → IsPlainPrefix d k

@@ -1,11 +1,11 @@
 //! Quoted bytes, sixteen at a time.
 
-ghost use Rattle.std.specs.Prelude.{◌≡◌, ◌≤◌, ◌<◌, ◌+◌, ◌-◌, ◌++◌, List, ℕ, length, map, take, drop, replicate};
+ghost use Rattle.std.specs.Prelude.{◌≡◌, ◌≤◌, ◌<◌, ◌+◌, ◌-◌, ◌*◌, ◌++◌, List, ℕ, length, map, take, drop, replicate, slice_index};
 ghost use Rattle.std.specs.List.{flat_map};
-ghost use Rattle.feed_writers.specs.Quoting.{quoted_byte};
+ghost use Rattle.feed_writers.specs.Quoting.{quoted_byte, escape};
 ghost use Rattle.feed_writers.specs.Fields.{high_digit, low_digit, field_of, stops_in, AreParts};
 
-use crate::escapes::DIGITS;
+use crate::escapes::{DIGITS, put_escape};
 use std::simd::prelude::*;
 
 /// The offsets in four fields of what is written, by the bits of the bytes that need an escape.
@@ -59,12 +59,15 @@ pub(crate) fn last_bytes(bytes: &[u8], len: usize) -> u8x16
         .select(moved, u8x16::splat(b' '))
 }
 
-/// Writes sixteen bytes as they are written between quotes. It may overwrite up to 52 bytes.
+/// Writes sixteen bytes as they are written between quotes, or, if one or two of them need an escape, those up to the first that
+/// does. Returns the end of the text and how many bytes were written. It may overwrite up to 52 bytes.
 #[inline(always)]
-pub(crate) fn put_sixteen_bytes(text: &mut [u8], at: usize, v: u8x16) -> usize
+pub(crate) fn put_run(text: &mut [u8], at: usize, v: u8x16) -> (usize, usize)
     requires { at + 52 ≤ length text.old }
-    ensures most { result ≤ at + 48 }
-    ensures text { take result text.new ≡ take at text.old ++ flat_map quoted_byte v }
+    ensures some { 0 < result.1 }
+    ensures few { result.1 ≤ 16 }
+    ensures most { result.0 ≤ at + 3 * result.1 }
+    ensures text { take result.0 text.new ≡ take at text.old ++ flat_map quoted_byte (take result.1 v) }
 {
     let is_stop = v.simd_eq(u8x16::splat(b'\''))
         | v.simd_eq(u8x16::splat(b'\\'))
@@ -73,10 +76,27 @@ pub(crate) fn put_sixteen_bytes(text: &mut [u8], at: usize, v: u8x16) -> usize
     let stops = is_stop.to_bitmask();
     if stops == 0 {
         v.copy_to_slice(&mut text[at..]);
-        return at + 16;
+        return (at + 16, 16);
     }
-    let first = is_stop.select(u8x16::splat(b'\\'), v);
-    put_sixteen_fields(text, at, first, high_digits(v), low_digits(v), stops)
+    if stops.count_ones() > 2 {
+        let first = is_stop.select(u8x16::splat(b'\\'), v);
+        let end = put_sixteen_fields(text, at, first, high_digits(v), low_digits(v), stops);
+        return (end, 16);
+    }
+    let plain = stops.trailing_zeros() as usize;
+    (put_up_to_escape(text, at, v, plain), plain + 1)
+}
+
+/// Writes the first `plain` of sixteen bytes unchanged, and the escape of the next one.
+#[inline(always)]
+fn put_up_to_escape(text: &mut [u8], at: usize, v: u8x16, plain: usize) -> usize
+    requires few { plain < 16 }
+    requires room { at + 52 ≤ length text.old }
+    ensures end { result ≡ at + plain + 3 }
+    ensures text { take result text.new ≡ take at text.old ++ (take plain v ++ escape (slice_index v plain)) }
+{
+    v.copy_to_slice(&mut text[at..]);
+    put_escape(text, at + plain, v.to_array()[plain])
 }
 
 /// The first hexadecimal digit of each byte.

@@ -1,10 +1,10 @@
 //! Quoted bytes, sixteen or eight at a time.
 
-ghost use Rattle.std.specs.Prelude.{◌≡◌, ◌≤◌, ◌<◌, ◌+◌, ◌-◌, ◌*◌, ◌++◌, IfNone, IfSome, length, take, take_while, replicate, if◌then◌else◌};
+ghost use Rattle.std.specs.Prelude.{◌≡◌, ◌≤◌, ◌<◌, ◌+◌, ◌-◌, ◌*◌, ◌++◌, IfNone, IfSome, length, take, drop, take_while, replicate, if◌then◌else◌};
 ghost use Rattle.std.specs.List.{flat_map};
 ghost use Rattle.feed_writers.specs.Quoting.{is_plain_byte, quoted, quoted_byte};
 
-use crate::blocks::{last_bytes, put_sixteen_bytes};
+use crate::blocks::{last_bytes, put_run};
 use crate::digits::{put_byte, put_bytes};
 use crate::escapes::{put_escape, put_hex};
 use crate::plain::{are_eight_plain, are_four_plain, is_plain, sixteen_plain_len};
@@ -55,7 +55,7 @@ pub fn put_quoted_content(text: &mut [u8], at: usize, bytes: &[u8]) -> usize
     put_short(text, at, bytes)
 }
 
-/// Writes bytes as they are written between quotes, sixteen at a time. The last ones are padded to sixteen if there is room.
+/// Writes bytes as they are written between quotes, up to sixteen at a time.
 #[inline(never)]
 fn put_long(text: &mut [u8], at: usize, bytes: &[u8]) -> usize
     requires long { 16 ≤ length bytes.now }
@@ -66,27 +66,51 @@ fn put_long(text: &mut [u8], at: usize, bytes: &[u8]) -> usize
     let mut end = at;
     let mut rest = bytes;
     while rest.len() >= 18 {
-        end = put_sixteen_bytes(text, end, u8x16::from_slice(rest));
-        let (_, after) = rest.split_at(16);
+        let (next, len) = put_run(text, end, u8x16::from_slice(rest));
+        let (_, after) = rest.split_at(len);
+        end = next;
         rest = after;
     }
-    if rest.len() <= 16 && text.len() - end >= 52 {
-        return put_padded_bytes(text, end, last_bytes(bytes, rest.len()), rest.len());
+    put_last(text, end, bytes, rest)
+}
+
+/// Writes the last bytes as they are written between quotes, up to sixteen at a time while the text has room for as many.
+#[inline(never)]
+fn put_last(text: &mut [u8], at: usize, bytes: &[u8], last: &[u8]) -> usize
+    requires long { 16 ≤ length bytes.now }
+    requires few { length last.now ≤ length bytes.now }
+    requires last { last.now ≡ drop (length bytes.now - length last.now) bytes.now }
+    requires room { at + 3 * length last.now ≤ length text.old }
+    ensures most { result ≤ at + 3 * length last.now }
+    ensures text { take result text.new ≡ take at text.old ++ flat_map quoted_byte last.now }
+{
+    let mut end = at;
+    let mut rest = last;
+    while text.len() - end >= 52 {
+        let (next, len) = put_run(text, end, next_bytes(bytes, rest));
+        if len >= rest.len() {
+            return next - (len - rest.len());
+        }
+        let (_, after) = rest.split_at(len);
+        end = next;
+        rest = after;
     }
     put_short(text, end, rest)
 }
 
-/// Writes the first `len` of sixteen bytes as they are written between quotes; spaces are after them.
+/// The first sixteen of the bytes that remain; if they are fewer, spaces are after them.
 #[inline(always)]
-fn put_padded_bytes(text: &mut [u8], at: usize, padded: u8x16, len: usize) -> usize
-    requires few { len ≤ 16 }
-    requires room { at + 52 ≤ length text.old }
-    requires padded { padded ≡ take len padded ++ replicate (16 - len) 32 }
-    ensures most { result ≤ at + 3 * len }
-    ensures text { take result text.new ≡ take at text.old ++ flat_map quoted_byte (take len padded) }
+fn next_bytes(bytes: &[u8], rest: &[u8]) -> u8x16
+    requires long { 16 ≤ length bytes.now }
+    requires few { length rest.now ≤ length bytes.now }
+    requires rest { rest.now ≡ drop (length bytes.now - length rest.now) bytes.now }
+    ensures full { 16 ≤ length rest.now → result ≡ take 16 rest.now }
+    ensures padded { length rest.now ≤ 16 → result ≡ rest.now ++ replicate (16 - length rest.now) 32 }
 {
-    let end = put_sixteen_bytes(text, at, padded);
-    end - (16 - len)
+    if rest.len() >= 16 {
+        return u8x16::from_slice(rest);
+    }
+    last_bytes(bytes, rest.len())
 }
 
 /// Writes bytes as they are written between quotes, eight at a time.

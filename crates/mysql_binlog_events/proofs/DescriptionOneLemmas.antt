@@ -2,7 +2,7 @@
 use Rattle.std.proofs.Common.{◌≡◌, ◌∙◌, ℕ, List, [], refl, sym, ap, append-nil}
 use Rattle.wire_buf.specs.Encoding.{Begins}
 use Rattle.wire_buf.proofs.EncodingLemmas.{Reads-is}
-use Rattle.events_frames.specs.Footers.{no_footer}
+use Rattle.events_frames.specs.Footers.{no_settings}
 use Rattle.events_frames.specs.Descriptions.{Description, IsDescription, written_description}
 use Rattle.events_frames.proofs.DescriptionLemmas.{AreFields, fields}
 use Rattle.events_frames.proofs.LawLemmas.{written_whole}
@@ -33,7 +33,7 @@ one_description d x r t = record {
 
 pub description_again : IsDescriptionReadAgain
 description_again d old new version w =
-    one_description (record d { footer = no_footer }) w.bytes []
+    one_description (record d { footer = no_settings }) w.bytes []
     (record { bytes = w.bytes; joined = sym (append-nil w.bytes); is = (version, refl, w.encodes [] refl) })
 
 pub description_same : IsDescriptionSameAgain
@@ -41,6 +41,6 @@ description_same d f body old new read w =
     let represents = whole_body read in
     let whole = written_whole d body [] represents in
     let again = description_again (written_description (record d { footer = f })) old new represents.0 w in
-    let same : record (written_description (record d { footer = f })) { footer = no_footer } ≡ d =
-    ap (λ (e : Description). record e { footer = no_footer }) whole ∙ (λ i. record d { footer = (sym represents.1) i }) in
+    let same : record (written_description (record d { footer = f })) { footer = no_settings } ≡ d =
+    ap (λ (e : Description). record e { footer = no_settings }) whole ∙ (λ i. record d { footer = (sym represents.1) i }) in
     Reads-is same again

@@ -15,7 +15,7 @@ use Rattle.wire_buf.proofs.WritingLemmas.{AreBytes-prefix, AreBytes-suffix}
 use Rattle.wire_forms.specs.Ints.{little_encoded}
 use Rattle.rows_meta.specs.TableMaps.{little_endian}
 use Rattle.events_frames.specs.Headers.{Header, IsEventHeader, header_encoded}
-use Rattle.events_frames.specs.Footers.{Footer}
+use Rattle.events_frames.specs.Footers.{ChecksumSettings}
 use Rattle.events_frames.specs.EventParts.{Parts, IsChecksum, IsChecksumFooter, IsEventContent, IsEvent, describes}
 use Rattle.events_frames.specs.Checksums.{covered}
 use Rattle.events_stream.specs.WrittenEvents.{bytes_before_checksum, EndsWithSum}
@@ -145,7 +145,7 @@ checksum_back : (c : Option ℕ) (x : List ℕ) → AreBytes x → IsChecksum c 
 checksum_back None x are h = h
 checksum_back (Some c) x are h = sym (little_whole 4 c x are h)
 
-content_back : (b : Bool) (f : Footer) (p : Parts) (y : List ℕ) → AreBytes y → IsEventContent b f p y [] → y ≡ (p.body ++ algorithm_bytes b p.footer.algorithm) ++ sum_bytes p.checksum
+content_back : (b : Bool) (f : ChecksumSettings) (p : Parts) (y : List ℕ) → AreBytes y → IsEventContent b f p y [] → y ≡ (p.body ++ algorithm_bytes b p.footer.algorithm) ++ sum_bytes p.checksum
 content_back true f p y are h =
     let s = h.encoding_is in
     let all : AreBytes (s.prefix ++ s.suffix) = subst AreBytes s.joined are in
@@ -167,7 +167,7 @@ record IsJoined (p : Parts) (event : List ℕ) : Type 0 where
   is : header_encoded p.header ≡ Some header
   joined : event ≡ (header ++ (p.body ++ algorithm_bytes (describes p.header) p.footer.algorithm)) ++ sum_bytes p.checksum
 
-event_joined : (f : Footer) (p : Parts) (event : List ℕ) → AreBytes event → IsEvent f p event → IsJoined p event
+event_joined : (f : ChecksumSettings) (p : Parts) (event : List ℕ) → AreBytes event → IsEvent f p event → IsJoined p event
 event_joined f p event are h =
     let s = h.encoding_is in
     let all : AreBytes (s.prefix ++ s.suffix) = subst AreBytes s.joined are in
@@ -229,7 +229,7 @@ own_end_anew (Some a) (Some d) None x h e small = absurd (cc e)
 own_end_anew None (Some d) c x h e small = absurd h
 own_end_anew (Some a) None c x h e small = absurd h
 
-content_anew : (b : Bool) (f : Footer) (p : Parts) (c : Option ℕ) (y : List ℕ) → IsEventContent b f p y [] → is_some c ≡ is_some p.checksum → IsSmall c
+content_anew : (b : Bool) (f : ChecksumSettings) (p : Parts) (c : Option ℕ) (y : List ℕ) → IsEventContent b f p y [] → is_some c ≡ is_some p.checksum → IsSmall c
     → IsEventContent b f (record p { checksum = c }) ((p.body ++ algorithm_bytes b p.footer.algorithm) ++ sum_bytes c) []
 content_anew true f p c y h e small = record {
   encoding_is = record {
@@ -256,7 +256,7 @@ content_anew false f p c y h e small = record {
 }
 
 -- an event with the same parts and another checksum
-event_anew : (f : Footer) (p : Parts) (event : List ℕ) (c : Option ℕ) → AreBytes event → IsEvent f p event → is_some c ≡ is_some p.checksum → IsSmall c
+event_anew : (f : ChecksumSettings) (p : Parts) (event : List ℕ) (c : Option ℕ) → AreBytes event → IsEvent f p event → is_some c ≡ is_some p.checksum → IsSmall c
     → (prefix : List ℕ) → bytes_before_checksum p ≡ Some prefix → IsEvent f (record p { checksum = c }) (prefix ++ sum_bytes c)
 event_anew f p event c are h e small prefix is =
     let s = h.encoding_is in

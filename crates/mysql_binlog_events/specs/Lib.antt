@@ -10,6 +10,7 @@ pub use Rattle.events_bodies.specs.UserVarViews
 pub use Rattle.events_stream.specs.BodyFormats
 pub use Rattle.events_stream.specs.DataReadings
 pub use Rattle.events_stream.specs.DataEncodings
+pub use Rattle.events_stream.specs.EqualBodies
 pub use Rattle.events_frames.specs.EventErrors
 pub use Rattle.events_frames.specs.Bodies as FrameBodies
 pub use Rattle.events_frames.specs.FileHeaders

@@ -5,7 +5,7 @@ use Rattle.wire_buf.specs.Writing.{WritesField}
 use Rattle.rows_events.specs.RowsEvents.{RowsBody, IsRowsEvent, rows_event_encoded, written_body, written_ctx}
 use Rattle.rows_events.specs.declared.rows_event_type.RowsEventType.{RowsEventType}
 use Rattle.events_rows.specs.RowsContexts.{described_ctx}
-use Rattle.events_frames.specs.Footers.{Footer, no_footer}
+use Rattle.events_frames.specs.Footers.{ChecksumSettings, no_settings}
 use Rattle.events_frames.specs.Descriptions.{Description, IsFields, IsDescription, description_encoded, written_description}
 
 -- Bytes that begin with the encoding of a value are read as this value.
@@ -32,11 +32,11 @@ IsSameAgain {A} written encoded encoding allows_rest =
 -- Both for format descriptions: their version is 4, and their footers follow the body, so none is written with it.
 abbrev pub IsDescriptionReadAgain : Type 0
 IsDescriptionReadAgain =
-    (d : Description) (old new : List ℕ) → d.version ≡ 4 → (w : WritesField description_encoded IsFields NothingFollows d old new) → Reads IsDescription (record d { footer = no_footer }) w.bytes []
+    (d : Description) (old new : List ℕ) → d.version ≡ 4 → (w : WritesField description_encoded IsFields NothingFollows d old new) → Reads IsDescription (record d { footer = no_settings }) w.bytes []
 
 abbrev pub IsDescriptionSameAgain : Type 0
 IsDescriptionSameAgain =
-    (d : Description) (footer : Footer) (body old new : List ℕ) → Reads IsDescription d body []
+    (d : Description) (footer : ChecksumSettings) (body old new : List ℕ) → Reads IsDescription d body []
     → (w : WritesField description_encoded IsFields NothingFollows (written_description (record d { footer = footer })) old new) → Reads IsDescription d w.bytes []
 
 -- Both for rows events of any type, if the format description lists no post-header lengths.

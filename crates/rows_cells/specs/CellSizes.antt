@@ -17,7 +17,7 @@ width_bytes width.Three = 3
 width_bytes width.Four = 4
 width_bytes width.Eight = 8
 
--- the content of a cell has exactly this many bytes; or as many as a length field of this many bytes says; or the column's cells can't be read, with this error
+-- the size of a cell's content: n bytes; a length field of n bytes and as many bytes as it states; or an error
 pub data Size : Type 0 where
   exactly : ℕ → Size
   after_length : ℕ → Size

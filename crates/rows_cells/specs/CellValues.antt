@@ -33,7 +33,7 @@ pub data CellValue : Type 0 where
   json : List ℕ → CellValue
   json_diffs : List ℕ → CellValue
 
--- a date with a time, without a sign
+-- year, month, day and time of a packed time; its sign is ignored
 abbrev pub cell_date : ℤ → CellValue
 cell_date packed =
     let t = date_fields MYSQL_TIMESTAMP_DATETIME packed in
@@ -59,7 +59,7 @@ old_time z =
     let n = unsigned_abs z in
     time (int_lt z (pos 0)) (n / 10000 / 24) (n / 10000 % 24) (n / 100 % 100) (n % 100) 0
 
--- a point and the microseconds, if they aren't zero, padded with zeros to a width of six, which includes a sign
+-- nothing for 0; else a point and six digits, or a point, `-` and five digits
 abbrev pub cell_micros_text : ℤ → List ℕ
 cell_micros_text micros =
     if unsigned_abs micros == 0 then []
@@ -74,7 +74,7 @@ abbrev pub decimal_value : Option (List ℕ) → Reading CellValue
 decimal_value None = Err BadDecimal
 decimal_value (Some text) = Ok (bytes text)
 
--- the value, unless there is an error
+-- the value, or the error if there is one
 abbrev pub unless : {A : Type 0} → Option RowsError → A → Reading A
 unless None v = Ok v
 unless (Some e) v = Err e

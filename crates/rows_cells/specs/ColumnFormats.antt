@@ -29,16 +29,16 @@ blob_format m =
 abbrev pub enum_format : ℕ → CellFormat
 enum_format n = if n == 1 then format.Unsigned width.One else if n == 2 then format.Unsigned width.Two else format.NoMetadata
 
--- the maximum length of a STRING column in bytes: bits 4 and 5 of the first metadata byte are the inverted bits 8 and 9 of the length; a first byte of 0 has no such bits
+-- the maximum length of a STRING column: bits 4 and 5 of the first metadata byte, inverted, are bits 8 and 9 above the second byte; 256 times the second byte if the first is 0
 abbrev pub greatest_string : ℕ → ℕ → ℕ
 greatest_string m n = if m == 0 then 256 * n else 256 * (3 - m / 16 % 4) + n
 
--- by the first byte of the metadata
+-- the format for the first metadata byte; `NoMetadata` if it is missing
 abbrev pub by_one : (ℕ → CellFormat) → List ℕ → CellFormat
 by_one format_of [] = format.NoMetadata
 by_one format_of (m ∷ metadata) = format_of m
 
--- by the first two bytes of the metadata
+-- the format for the first two metadata bytes; `NoMetadata` if one is missing
 abbrev pub by_two : (ℕ → ℕ → CellFormat) → List ℕ → CellFormat
 by_two format_of [] = format.NoMetadata
 by_two format_of (m ∷ []) = format.NoMetadata

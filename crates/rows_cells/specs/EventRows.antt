@@ -27,7 +27,7 @@ images_at (s ∷ ss) bytes = do
   more ← images_at ss first.1
   Ok (first.0 ∷ more.0, more.1)
 
--- at least one of n bytes was consumed
+-- `EmptyPair` if none of the n bytes was taken
 abbrev pub takes_some : {A : Type 0} → ℕ → A × List ℕ → Reading (A × List ℕ)
 takes_some n x = if nat_lt (length x.1) n then Ok x else Err EmptyPair
 

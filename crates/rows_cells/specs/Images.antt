@@ -22,7 +22,7 @@ pub record ColumnValue : Type 0 where
   pub column : ℕ
   pub value : CellValue
 
--- the columns in an image; for the after image of a partial update, also the number of JSON columns in the table
+-- the columns in an image; `json_columns` only if the image may have JSON diffs: the number of JSON columns in the table
 pub record ImageShape : Type 0 where
   pub columns : List ImageColumn
   pub json_columns : Option ℕ
@@ -99,7 +99,7 @@ lenenc_at bytes = lenenc_of bytes (split_lenenc bytes)
 abbrev pub bits_at : ℕ → ℕ × List ℕ → Reading (List ℕ × List ℕ)
 bits_at j options = if options.0 % 2 == 1 then at_width ((j + 7) / 8) options.1 else Ok ([], options.1)
 
--- the part before the null bits: in an image with partial updates of j JSON columns, the options and the bits
+-- value options and partial bits before the null bits; nothing if the image can't have JSON diffs
 abbrev pub shared_at : Option ℕ → List ℕ → Reading (List ℕ × List ℕ)
 shared_at None bytes = Ok ([], bytes)
 shared_at (Some j) bytes = lenenc_at bytes >>= bits_at j

@@ -28,7 +28,7 @@ pub enum RowPart<'a> {
 }
 
 /// The position of the next part within a row.
-#[derive(Clone, Copy, Debug, PartialEq, Eq)]
+#[derive(Clone, Copy, PartialEq, Eq)]
 enum Stage {
     /// At the beginning of a row, or after the last row.
     Start,

@@ -1,9 +1,11 @@
 -- The columns of images, by the bits that an event has.
-use Rattle.std.proofs.Common.{◌≡◌, ℕ, Bool, false, List, [], ◌∷◌, map, Option, Some, None, Ok, Err, refl, sym, ap, ◌∙◌, if◌then◌else◌}
-use Rattle.std.specs.Prelude.{filter, nat_lt, IfOk}
+use Rattle.std.proofs.Common.{◌≡◌, ◌⊎◌, inl, inr, ℕ, Bool, false, List, [], ◌∷◌, map, Option, Some, None, Ok, Err, refl, sym, ap, ◌∙◌, if◌then◌else◌}
+use Rattle.std.specs.Prelude.{filter, nat_lt, IfOk, IfErr}
 use Rattle.std.specs.declared.result.Result.{Result}
 use Rattle.rows_values.specs.BitLists.{bit_of, bit_at, len_of, lowest_bit}
 use Rattle.rows_values.specs.declared.bits.Bits.{Bits}
+use Rattle.rows_values.specs.declared.fault.RowsError.{RowsError}
+use Rattle.rows_values.specs.declared.fault.RowsError.TheVariants.{EmptyPair, Memory}
 use Rattle.rows_values.specs.Readings.{Reading, ◌>>=◌}
 use Rattle.rows_cells.specs.Images.{ImageShape}
 use Rattle.rows_cells.specs.declared.image.ImageColumn.{ImageColumn}
@@ -68,6 +70,31 @@ after_image p n part before after bytes s b a h = rw (b, a, h) refl
 pub two_images : (p : TablePlan) (n : ℕ) (part : Bool) (before after : Option (List ℕ)) (x y : List ℕ) (s t : ImageShape) → before ≡ Some x → after ≡ Some y
     → shape_by p n false x ≡ Ok s → shape_by p n part y ≡ Ok t → shapes_by p n part before after ≡ Ok (s ∷ t ∷ [])
 two_images p n part before after x y s t b a h k = rw (b, a, h, k) refl
+
+-- ---- which error
+
+pub first_fails : (p : TablePlan) (n : ℕ) (part : Bool) (before after : Option (List ℕ)) (bytes : List ℕ) (e : RowsError) → before ≡ Some bytes → shape_by p n false bytes ≡ Err e → shapes_by p n part before after ≡ Err e
+first_fails p n part before None bytes e b h = rw (b, h) refl
+first_fails p n part before (Some y) bytes e b h = rw (b, h) refl
+
+pub after_fails : (p : TablePlan) (n : ℕ) (part : Bool) (before after : Option (List ℕ)) (bytes : List ℕ) (e : RowsError) → before ≡ None → after ≡ Some bytes → shape_by p n part bytes ≡ Err e → shapes_by p n part before after ≡ Err e
+after_fails p n part before after bytes e b a h = rw (b, a, h) refl
+
+pub second_fails : (p : TablePlan) (n : ℕ) (part : Bool) (before after : Option (List ℕ)) (x y : List ℕ) (s : ImageShape) (e : RowsError) → before ≡ Some x → after ≡ Some y
+    → shape_by p n false x ≡ Ok s → shape_by p n part y ≡ Err e → shapes_by p n part before after ≡ Err e
+second_fails p n part before after x y s e b a h k = rw (b, a, h, k) refl
+
+pub no_images : (p : TablePlan) (n : ℕ) (part : Bool) (before after : Option (List ℕ)) → before ≡ None → after ≡ None → shapes_by p n part before after ≡ Err EmptyPair
+no_images p n part before after b a = rw (b, a) refl
+
+-- the second of two facts implies another
+pub or_still : {P Q R : Type 0} → (Q → R) → P ⊎ Q → P ⊎ R
+or_still f (inl p) = inl p
+or_still f (inr q) = inr (f q)
+
+pub err_still : {A : Type 0} (r : Result A RowsError) (P Q : RowsError → Type 0) → ((e : RowsError) → P e → Q e) → IfErr r (λ e. e ≡ Memory ⊎ P e) → IfErr r (λ e. e ≡ Memory ⊎ Q e)
+err_still (Ok x) P Q f h = h
+err_still (Err e) P Q f h = or_still (f e) h
 
 -- what follows from a success still holds
 pub ok_still : {A E : Type 0} (r : Result A E) (P Q : Type 0) → (P → Q) → IfOk r (λ x. P) → IfOk r (λ x. Q)

@@ -15,11 +15,11 @@ use Rattle.rows_events.specs.RowsEvents.{RowsBody}
 abbrev pub column_bit : ℕ → List ℕ → ℕ → Option Bool
 column_bit n bits i = if nat_lt i n then Some (lowest_bit bits i) else None
 
--- the image whose columns these bits select
+-- the layout of an image with the columns whose bits are set
 abbrev pub shape_by : TablePlan → ℕ → Bool → List ℕ → Reading ImageShape
 shape_by p n is_partial bits = shape_picked p n is_partial (column_bit n bits)
 
--- the images of a row in order; without images it is `EmptyPair`, since a row would take no bytes
+-- the layouts of a row's images, in order; `EmptyPair` if it has none
 abbrev pub shapes_by : TablePlan → ℕ → Bool → Option (List ℕ) → Option (List ℕ) → Reading (List ImageShape)
 shapes_by p n is_partial None None = Err EmptyPair
 shapes_by p n is_partial (Some before) None = shape_by p n false before >>= λ first. Ok (first ∷ [])

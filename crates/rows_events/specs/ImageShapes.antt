@@ -11,7 +11,7 @@ use Rattle.rows_events.specs.Plans.{PlannedColumn}
 use Rattle.rows_events.specs.PlanViews.{planned, plan_of, json_count}
 use Rattle.rows_events.specs.PickedColumns.{image_column, picked_as}
 
--- the plan of a table for its first columns, given their number; and the number of JSON columns in the table
+-- `first n` are the first n columns of the table, or the error; `json_columns` is the number of its JSON columns
 pub record TablePlan : Type 0 where
   pub first : ℕ → Reading (List PlannedColumn)
   pub json_columns : ℕ
@@ -23,7 +23,7 @@ table_plan p = record { first = planned p.run; json_columns = p.json_columns }
 abbrev pub map_plan : TableMapEvent → TablePlan
 map_plan m = record { first = plan_of m; json_columns = json_count (map_of m).column_types }
 
--- the image with those of n columns whose bits are set; for an image that may have JSON diffs, with the number of JSON columns in the table
+-- the layout of an image with those of the first n columns whose bits are set
 abbrev pub shape_picked : TablePlan → ℕ → Bool → (ℕ → Option Bool) → Reading ImageShape
 shape_picked p n is_partial bit =
     picked_as image_column bit (p.first n) >>= λ columns. Ok (record { columns = columns; json_columns = if is_partial then Some p.json_columns else None })

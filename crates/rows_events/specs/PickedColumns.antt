@@ -7,7 +7,7 @@ use Rattle.rows_values.specs.Readings.{Reading, ◌>>=◌}
 use Rattle.rows_cells.specs.declared.image.ImageColumn.{ImageColumn}
 use Rattle.rows_events.specs.Plans.{PlannedColumn}
 
--- a column past the last bit is in no image
+-- the bit; false if there is none
 abbrev pub bit_is_set : Option Bool → Bool
 bit_is_set None = false
 bit_is_set (Some b) = b
@@ -20,7 +20,7 @@ is_picked bit c = bit_is_set (bit c.image.column)
 abbrev pub picked : (ℕ → Option Bool) → List PlannedColumn → List PlannedColumn
 picked bit columns = filter (is_picked bit) columns
 
--- of these columns, those whose bits are set, as f maps them; or the error
+-- f of each column whose bit is set, or the error
 abbrev pub picked_as : {A : Type 0} → (PlannedColumn → A) → (ℕ → Option Bool) → Reading (List PlannedColumn) → Reading (List A)
 picked_as f bit columns = columns >>= λ cs. Ok (map f (picked bit cs))
 

@@ -26,7 +26,7 @@ pub record PlannedColumn : Type 0 where
   pub name : List ℕ
   pub is_key : Bool
 
--- what a table map has about its columns: the type and metadata of each; signedness, in the order of the numeric columns; character sets, in the order of the columns of their kind; names, in the order of all columns; the indexes of the key's columns
+-- what a table map and its optional metadata have about the columns
 pub record Table : Type 0 where
   pub columns : List ColumnMeta
   pub signs : List Bool
@@ -80,7 +80,7 @@ abbrev pub sign_or_signed : Option Bool → Bool
 sign_or_signed None = false
 sign_or_signed (Some b) = b
 
--- whether column i is unsigned: the bit of the numeric columns before it
+-- whether column i is unsigned: its bit is numbered by the numeric columns before it
 abbrev pub sign_at : Table → ℕ → ColumnType → Bool
 sign_at t i real = if is_numeric real then sign_or_signed (slice_get t.signs (count_before is_numeric t i)) else false
 
@@ -111,7 +111,7 @@ after_column i [] = []
 after_column i (Err e ∷ keys) = Err e ∷ keys
 after_column i (Ok j ∷ keys) = if j == i then keys else Ok j ∷ keys
 
--- the key indexes that remain after the first n columns; one that was skipped stays, and hides those after it
+-- the key indexes that remain after the first n columns: each column removes the first index if it is its own
 unfoldable pub keys_after : List (Reading ℕ) → ℕ → List (Reading ℕ)
 keys_after keys zero = keys
 keys_after keys (suc n) = after_column n (keys_after keys n)

@@ -1,5 +1,5 @@
 -- Every error of the definition is `Jsonb`.
-use Rattle.std.proofs.Common.{◌≡◌, ℤ, nat_lt, if◌then◌else◌, ℕ, zero, suc, ◌+◌, List, [], ◌∷◌, drop, slice_index, length, Bool, true, false, Option, Some, None, refl, subst, arith, inl, inr}
+use Rattle.std.proofs.Common.{◌≡◌, ◌⊎◌, ◌<◌, ℤ, nat_lt, if◌then◌else◌, ℕ, zero, suc, ◌+◌, List, [], ◌∷◌, drop, slice_index, length, Bool, true, false, Option, Some, None, refl, subst, arith, inl, inr}
 use Rattle.std.proofs.lemmas.Bool.Decides.{leb_tells}
 use Rattle.std.specs.declared.result.Result.{Result}
 use Rattle.std.specs.declared.result.Result.TheVariants.{Ok, Err}
@@ -17,8 +17,9 @@ use Rattle.rows_values.specs.Readings.{Reading, ◌>>=◌}
 use Rattle.rows_jsonb.specs.JsonTrees.{Tree, Members, no_members, put}
 use Rattle.rows_jsonb.specs.DocumentTrees.{Counted, items, member_trees, utf8, time_in, decimal_in, opaque_tree, entries, bare_tree, tree_of, within_budget}
 use Rattle.rows_jsonb.specs.JsonDiffs.{IsJsonbFault}
-use Rattle.rows_jsonb.specs.JsonParsing.{Fails, Exceeds, IsNone, Parses}
+use Rattle.rows_jsonb.specs.JsonParsing.{Fails, IsNone, Parses}
 use Rattle.rows_jsonb.specs.JsonTreeViews.{view}
+use Rattle.rows_jsonb.proofs.Building.{CountsAs}
 use Rattle.rows_jsonb.specs.declared.types.LiteralType.{LiteralType}
 use Rattle.rows_jsonb.specs.declared.types.LiteralType.TheVariants.{JSONB_NULL_LITERAL, JSONB_TRUE_LITERAL, JSONB_FALSE_LITERAL}
 use Rattle.rows_jsonb.specs.declared.types.JsonbType.{JsonbType}
@@ -152,22 +153,31 @@ tree_sound (suc d) _ = ok _
 other : (e : RowsError) (found : Reading (Counted Tree)) → IsSound found → found ≡ Err e → IsJsonbFault e
 other e found sound h = (subst (λ o. IsSound {A = Counted Tree} o) h sound).only
 
-none_within : (size : ℕ) (found : Reading (Counted Tree)) → Exceeds (1 + size) found → IsNone (found >>= within_budget size)
-none_within size (Ok x) h = elim (leb_tells x.1 (1 + size)) [
-  | inl t ↦ absurd (omega (arith, t.1, h))
+none_within : (size read : ℕ) (found : Reading (Counted Tree)) → CountsAs read found → (found ≡ Err malformed) ⊎ (1 + size < read) → IsNone (found >>= within_budget size)
+none_within size read (Ok x) counted (inl h) = absurd cc
+none_within size read (Ok x) counted (inr h) = elim (leb_tells x.1 (1 + size)) [
+  | inl t ↦ absurd (omega (arith, t.1, h, counted))
   | inr t ↦ rw t.0 tt
 ]
-none_within size (Err e) h = tt
+none_within size read (Err e) counted h = tt
 
-pub parse_failed : (size : ℕ) (e : RowsError) (found : Reading (Counted Tree)) → IsSound found → Fails (1 + size) e found → Parses view (Err e) (found >>= within_budget size)
-parse_failed size EndOfBody found sound h = other EndOfBody found sound h
-parse_failed size RemainingBytes found sound h = other RemainingBytes found sound h
-parse_failed size UnknownNumber found sound h = other UnknownNumber found sound h
-parse_failed size Metadata found sound h = other Metadata found sound h
-parse_failed size Cell found sound h = other Cell found sound h
-parse_failed size (Jsonb (Some e)) found sound h = rw h refl
-parse_failed size (Jsonb None) found sound h = none_within size found h
-parse_failed size Decimal found sound h = other Decimal found sound h
-parse_failed size EmptyPair found sound h = other EmptyPair found sound h
-parse_failed size Memory found sound h = tt
-parse_failed size Read found sound h = other Read found sound h
+pub parse_failed : (size read : ℕ) (e : RowsError) (found : Reading (Counted Tree)) → IsSound found → CountsAs read found → Fails (1 + size) read e found → Parses view (Err e) (found >>= within_budget size)
+parse_failed size read EndOfBody found sound counted h = other EndOfBody found sound h
+parse_failed size read RemainingBytes found sound counted h = other RemainingBytes found sound h
+parse_failed size read UnknownNumber found sound counted h = other UnknownNumber found sound h
+parse_failed size read Metadata found sound counted h = other Metadata found sound h
+parse_failed size read Cell found sound counted h = other Cell found sound h
+parse_failed size read (Jsonb (Some e)) found sound counted h = rw h refl
+parse_failed size read (Jsonb None) found sound counted h = none_within size read found counted h
+parse_failed size read Decimal found sound counted h = other Decimal found sound h
+parse_failed size read EmptyPair found sound counted h = other EmptyPair found sound h
+parse_failed size read Memory found sound counted h = tt
+parse_failed size read Read found sound counted h = other Read found sound h
+
+-- an error without a name comes from a fault without a name, or from too many values
+pub nameless_fault : (size read : ℕ) (e : RowsError) (found : Reading (Counted Tree)) → Fails (1 + size) read e found → e ≡ Jsonb None → (found >>= within_budget size ≡ Err malformed) ⊎ (1 + size < read)
+nameless_fault size read e found h is = of (rw is at h)
+  where
+    of : (found ≡ Err malformed) ⊎ (1 + size < read) → (found >>= within_budget size ≡ Err malformed) ⊎ (1 + size < read)
+    of (inl same) = inl (rw same refl)
+    of (inr over) = inr over

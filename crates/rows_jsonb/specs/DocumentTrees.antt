@@ -64,12 +64,12 @@ member_trees below name at pos (suc k) found = do
   more ← member_trees below name at (pos + 1) k (put n t.0 found)
   Ok (more.0, t.1 + more.1)
 
--- a container counts as one value more than its entries
+-- the tree of a container, and its number of values: those of its entries and one more
 abbrev pub entries : (JsonbValue → Reading (Counted Tree)) → Bool → ContainerFormat → ℕ → List ℕ → Reading (Counted Tree)
 entries below true f n bytes = items below (elem f n bytes) 0 n >>= (λ t. Ok (array t.0, t.1 + 1))
 entries below false f n bytes = member_trees below (key f n bytes) (elem f n bytes) 0 n no_members >>= (λ t. Ok (object t.0, t.1 + 1))
 
--- the tree of a value, given how a container is read
+-- the tree of a scalar, or what `inside` returns for a container
 abbrev pub tree_step : (ContainerFormat → ℕ → List ℕ → Reading (Counted Tree)) → JsonbValue → Reading (Counted Tree)
 tree_step inside null = leaf tree.null
 tree_step inside (boolean b) = leaf (tree.boolean b)
@@ -92,6 +92,36 @@ bare_tree s = tree_step (λ f n bytes. Err malformed) s
 unfoldable pub tree_of : ℕ → JsonbValue → Reading (Counted Tree)
 tree_of zero s = bare_tree s
 tree_of (suc d) s = tree_step (λ f n bytes. entries (tree_of d) f.is_array f n bytes) s
+
+-- The number of values that are read up to the first fault: a value that has a tree counts as its tree does.
+
+-- what `count` says of the value that was read; 0 at a fault
+abbrev pub read_on : {A : Type 0} → Reading A → (A → ℕ) → ℕ
+read_on (Ok x) count = count x
+read_on (Err e) count = 0
+
+-- those of k entries of an array, from index pos on
+abbrev pub items_read : (JsonbValue → Reading (Counted Tree)) → (JsonbValue → ℕ) → (ℕ → Reading JsonbValue) → ℕ → ℕ → ℕ
+items_read below count at pos zero = 0
+items_read below count at pos (suc k) = read_on (at pos) (λ s. count s + read_on (below s) (λ t. items_read below count at (pos + 1) k))
+
+-- those of k members of an object, from index pos on
+abbrev pub members_read : (JsonbValue → Reading (Counted Tree)) → (JsonbValue → ℕ) → (ℕ → Reading (List ℕ)) → (ℕ → Reading JsonbValue) → ℕ → ℕ → ℕ
+members_read below count name at pos zero = 0
+members_read below count name at pos (suc k) =
+    read_on (name pos) (λ bytes. read_on (at pos) (λ s. read_on (utf8 bytes) (λ n.
+    count s + read_on (below s) (λ t. members_read below count name at (pos + 1) k))))
+
+-- those of a container's entries
+abbrev pub entries_read : (JsonbValue → Reading (Counted Tree)) → (JsonbValue → ℕ) → Bool → ContainerFormat → ℕ → List ℕ → ℕ
+entries_read below count true f n bytes = items_read below count (elem f n bytes) 0 n
+entries_read below count false f n bytes = members_read below count (key f n bytes) (elem f n bytes) 0 n
+
+-- those of a value with at most d levels of nested containers: itself, and those of its entries
+unfoldable pub values_read : ℕ → JsonbValue → ℕ
+values_read zero s = 1
+values_read (suc d) (container f n bytes) = entries_read (tree_of d) (values_read d) f.is_array f n bytes + 1
+values_read (suc d) _ = 1
 
 -- the size of a container in bytes; 0 for other values
 abbrev pub container_len : JsonbValue → ℕ

@@ -33,7 +33,7 @@ pub record Finds {A : Type 0} (encodes : A → List ℕ → List ℕ → Type 0)
 abbrev pub prepend_item : {A : Type 0} → A → Walked A → Walked A
 prepend_item v w = record { items = v ∷ w.items; fault = w.fault }
 
--- the result of a walk whose next item reads as given
+-- no item and the error, or the item and those that `more` finds after it
 abbrev pub found_by : {A : Type 0} → Reading (A × List ℕ) → (List ℕ → Walked A) → Walked A
 found_by (Err e) more = record { items = []; fault = Some e }
 found_by (Ok x) more = prepend_item x.0 (more x.1)

@@ -34,7 +34,7 @@ mutual
     no_members : Members
     member : List ℕ → Tree → Members → Members
 
--- the members after t is set as the value of key k
+-- the members with t as the value of key k, in ascending order of keys; an equal key is replaced
 abbrev pub put : List ℕ → Tree → Members → Members
 put k t no_members = member k t no_members
 put k t (member l u ms) = match_ordering (slice_cmp nat_cmp k l) (member k t (member l u ms)) (member l t ms) (member l u (put k t ms))

@@ -33,7 +33,7 @@ pub data JsonbValue : Type 0 where
   opaque : ℕ → List ℕ → JsonbValue
   container : ContainerFormat → ℕ → List ℕ → JsonbValue
 
--- a document can't be read, for a reason other than its pointers or sizes
+-- the error of a document that can't be read, unless an offset or a size is wrong
 abbrev pub malformed : RowsError
 malformed = Jsonb None
 
@@ -52,7 +52,7 @@ literal (Some JSONB_FALSE_LITERAL) = Ok (boolean false)
 abbrev pub literal_at : List ℕ → Reading JsonbValue
 literal_at bytes = sized 1 bytes (slice_index bytes 0) >>= (λ n. literal (literal_of n))
 
--- the string after its length, which is a VarLen
+-- the string after its length, below 2^32 and no longer than the bytes
 abbrev pub counted_string : Option (ℕ × List ℕ) → Reading (List ℕ)
 counted_string None = Err malformed
 counted_string (Some p) = if nat_lt p.0 (2 ^ 32) && nat_le p.0 (length p.1) then Ok (take p.0 p.1) else Err malformed
@@ -76,7 +76,7 @@ opaque_at bytes = if nat_lt (length bytes) 1 then Err malformed
     else if is_column_type (slice_index bytes 0) then counted_at (drop 1 bytes) >>= (λ s. Ok (opaque (slice_index bytes 0) s))
     else Err malformed
 
--- the count and the size of a container, then its entries and its remaining bytes; the size counts all of these
+-- the container of n elements with its first `size` bytes; an error if fewer remain or the entries need more
 abbrev pub container_in : ContainerFormat → ℕ → ℕ → List ℕ → Reading JsonbValue
 container_in f n size bytes = if nat_lt (length bytes) size || nat_lt size (header_size f n) then Err (Jsonb (Some SizeOverflow)) else Ok (container f n (take size bytes))
 
@@ -139,7 +139,7 @@ value_size JSONB_TYPE_STRING bytes = counted_size bytes
 value_size JSONB_TYPE_OPAQUE bytes = 1 + counted_size (drop 1 bytes)
 value_size t bytes = number_size t
 
--- a document: its type byte and its value; an empty document is JSON null
+-- the value after its type byte; an error if no type has that number
 abbrev pub of_type : Option JsonbType → List ℕ → Reading JsonbValue
 of_type None bytes = Err malformed
 of_type (Some t) bytes = json_value_at t bytes
@@ -158,7 +158,7 @@ abbrev pub document_size : List ℕ → ℕ
 document_size [] = 0
 document_size (b ∷ bytes) = typed_size (jsonb_type_of b) bytes
 
--- the value that an offset in an entry points to: at or after the entry's end, and at most at the container's end
+-- the value at an offset that is at least `least`, the entry's end, and at most the container's size
 abbrev pub pointed : JsonbType → ℕ → ℕ → List ℕ → Reading JsonbValue
 pointed t offset least bytes = if nat_lt (length bytes) offset || nat_lt offset least then Err (Jsonb (Some InvalidValueOffsetPointer)) else json_value_at t (drop offset bytes)
 
@@ -177,7 +177,7 @@ entry_at large at bytes = entry_of large (jsonb_type_of (slice_index bytes at)) 
 abbrev pub elem : ContainerFormat → ℕ → List ℕ → ℕ → Reading JsonbValue
 elem f n bytes pos = entry_at f.is_large (value_entry_offset f n pos) bytes
 
--- key number pos of an object of n members: its bytes are between the header's end and the container's end
+-- the key at an offset that is at least `least`, the entries' end; it ends within the container
 abbrev pub key_in : ℕ → ℕ → ℕ → List ℕ → Reading (List ℕ)
 key_in offset len least bytes = if nat_lt offset least || nat_lt (length bytes) (offset + len) then Err (Jsonb (Some InvalidKeyOffsetPointer)) else Ok (take len (drop offset bytes))
 

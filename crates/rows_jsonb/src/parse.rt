@@ -1,13 +1,14 @@
 //! Builds the tree of a value in a document.
 
-ghost use Rattle.std.specs.Prelude.{◌<◌, ◌^◌, ◌≡◌, true, string_bytes};
+ghost use Rattle.std.specs.Prelude.{◌<◌, ◌^◌, ◌≡◌, true, None, IfErr, string_bytes};
 ghost use Rattle.wire_consts.specs.ColumnTypes.{column_type_number};
 ghost use Rattle.rows_jsonb.specs.JsonTrees.{scalar, no_members};
 ghost use Rattle.rows_jsonb.specs.JsonbValues.{elem_in, object_key, count_in, is_object_in};
-ghost use Rattle.rows_jsonb.specs.DocumentTrees.{items, member_trees, tree_of, tree_in, container_len, bare_tree, opaque_tree, utf8};
+ghost use Rattle.rows_jsonb.specs.DocumentTrees.{items, member_trees, items_read, members_read, values_read, tree_of, tree_in, container_len, bare_tree, opaque_tree, utf8};
 ghost use Rattle.rows_jsonb.specs.JsonbViews.{jsonb_value};
 ghost use Rattle.rows_jsonb.specs.JsonTreeViews.{view, scalar_view, items_view, members_view};
-ghost use Rattle.rows_jsonb.specs.JsonParsing.{ReturnsFound, Meets, Parses};
+ghost use Rattle.rows_jsonb.specs.JsonParsing.{ReturnsFound, Meets, Parses, HasNamelessFault};
+ghost use Rattle.rows_values.specs.declared.fault.RowsError.TheVariants.{Jsonb};
 
 use crate::dom::{JsonContainer, JsonDom, JsonNumber, JsonOpaque, JsonScalar};
 use crate::value::Value;
@@ -100,7 +101,8 @@ fn parse_in(
     depth: usize,
     budget: &mut usize,
 ) -> Result<JsonDom, RowsError>
-    ensures { Meets view budget.old budget.new result (tree_of depth (jsonb_value value.now)) }
+    ensures { Meets view budget.old budget.new result
+        (values_read depth (jsonb_value value.now)) (tree_of depth (jsonb_value value.now)) }
 {
     take_value(budget)?;
     if depth == 0 {
@@ -128,6 +130,7 @@ fn parse_items(
     budget: &mut usize,
 ) -> Result<Vec<JsonDom>, RowsError>
     ensures { Meets (λ v. items_view v.items) budget.old budget.new result
+        (items_read (tree_of depth) (values_read depth) (elem_in (jsonb_value array.now)) 0 (count_in (jsonb_value array.now)))
         (items (tree_of depth) (elem_in (jsonb_value array.now)) 0 (count_in (jsonb_value array.now))) }
 {
     let mut found = Vec::new(alloc);
@@ -149,6 +152,8 @@ fn parse_members(
 ) -> Result<BTreeMap<String, JsonDom>, RowsError>
     requires { is_object_in (jsonb_value object.now) ≡ true }
     ensures { Meets (λ m. members_view m.entries) budget.old budget.new result
+        (members_read (tree_of depth) (values_read depth) (object_key (jsonb_value object.now)) (elem_in (jsonb_value object.now))
+        0 (count_in (jsonb_value object.now)))
         (member_trees (tree_of depth) (object_key (jsonb_value object.now)) (elem_in (jsonb_value object.now))
         0 (count_in (jsonb_value object.now)) no_members) }
 {
@@ -182,16 +187,19 @@ impl Value<'_> {
     }
 
     /// Returns the tree of this value: at most 100 levels of containers, and at most one value more than the outermost container
-    /// has bytes. For 100 nested objects the call takes less than 300 KB of stack.
+    /// has bytes. For 100 nested objects the call takes less than 300 KB of stack. Of several faults the first is the error;
+    /// one value too many before it is `Jsonb(None)`.
     pub fn parse(self, alloc: Global) -> Result<JsonDom, RowsError>
-        ensures { Parses view result (tree_in (jsonb_value self.entry)) }
+        ensures tree { Parses view result (tree_in (jsonb_value self.entry)) }
+        ensures nameless { IfErr result (λ e. e ≡ Jsonb None → HasNamelessFault (jsonb_value self.entry)) }
     {
         self.tree(alloc)
     }
 
     /// Returns the same as [`parse`](Value::parse), and keeps the value.
     pub fn tree(&self, alloc: Global) -> Result<JsonDom, RowsError>
-        ensures { Parses view result (tree_in (jsonb_value self.now)) }
+        ensures tree { Parses view result (tree_in (jsonb_value self.now)) }
+        ensures nameless { IfErr result (λ e. e ≡ Jsonb None → HasNamelessFault (jsonb_value self.now)) }
     {
         let mut budget = 1 + self.size();
         let tree = parse_in(alloc, self, MAX_DEPTH, &mut budget)?;

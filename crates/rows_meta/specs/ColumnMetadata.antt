@@ -11,13 +11,13 @@ use Rattle.rows_meta.specs.ColumnTypes.{metadata_size}
 unfoldable pub column_type : ℕ → Option ColumnType
 column_type n = find (λ t. column_type_number t == n) column_types
 
--- the size of an array element's type and metadata, where a VARCHAR has three bytes of metadata; None for an array of arrays
+-- one byte for an element's type, and its metadata, which for VARCHAR has three bytes; None for an array
 abbrev pub plain_size : ColumnType → Option ℕ
 plain_size column.MYSQL_TYPE_TYPED_ARRAY = None
 plain_size column.MYSQL_TYPE_VARCHAR = Some 4
 plain_size t = Some (1 + metadata_size t)
 
--- the size of an element's metadata with its type: that of a plain type, or else one byte more than that of what it contains
+-- the size of a plain element; for an array one byte more than its own metadata
 abbrev pub size_or : Option ℕ → Option ℕ → Option ℕ
 size_or None inner = option_map (λ n. 1 + n) inner
 size_or (Some n) inner = Some n
@@ -63,7 +63,7 @@ abbrev pub after_metadata : Option (List ℕ × List ℕ) → Option (List ℕ)
 after_metadata None = None
 after_metadata (Some x) = Some x.1
 
--- The columns with these types, whose metadata begins these bytes. A column's metadata is all of the bytes that its type has, or empty if its size is unknown or bytes are missing; then all later columns have none either.
+-- the type and metadata of each column; [] from the first column on whose metadata has an unknown size or missing bytes
 unfoldable pub columns_with_metadata : List ℕ → Option (List ℕ) → List ColumnMeta
 columns_with_metadata [] bytes = []
 columns_with_metadata (n ∷ types) bytes = record { number = n; metadata = own_metadata (split_metadata n bytes) } ∷ columns_with_metadata types (after_metadata (split_metadata n bytes))

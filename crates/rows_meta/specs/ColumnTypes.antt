@@ -8,7 +8,7 @@ use Rattle.wire_consts.specs.declared.column_type.ColumnType.TheVariants as colu
 use Rattle.rows_meta.specs.declared.bad_column_type.BadColumnType.{BadColumnType}
 use Rattle.rows_meta.specs.declared.bad_column_type.BadColumnType.TheVariants.{Unexpected}
 
--- the size of a type's metadata; a TYPED_ARRAY's metadata, its element's type and metadata, isn't covered here
+-- the number of metadata bytes of a type; for TYPED_ARRAY see `array_size`
 abbrev pub metadata_size : ColumnType → ℕ
 metadata_size column.MYSQL_TYPE_FLOAT = 1
 metadata_size column.MYSQL_TYPE_DOUBLE = 1
@@ -31,7 +31,7 @@ metadata_size column.MYSQL_TYPE_VARCHAR = 2
 metadata_size column.MYSQL_TYPE_NEWDECIMAL = 2
 metadata_size other = 0
 
--- the type of a STRING column, by this number
+-- the real type of a STRING column: ENUM (247), SET (248), STRING (254), or an error
 abbrev pub string_type : ℕ → Result ColumnType BadColumnType
 string_type n =
     if n == 247 then Ok column.MYSQL_TYPE_ENUM

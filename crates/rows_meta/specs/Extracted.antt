@@ -14,7 +14,7 @@ abbrev pub or_else : {A : Type 0} → Option A → Option A → Option A
 or_else (Some x) other = Some x
 or_else None other = other
 
--- the last of the fields that `pick` picks
+-- the last field for which `pick` has a value
 abbrev pub last_of : {A : Type 0} → (Field → Option A) → List Field → Option A
 last_of pick [] = None
 last_of pick (f ∷ fs) = or_else (last_of pick fs) (pick f)
@@ -70,7 +70,7 @@ pub record Extracted : Type 0 where
   pub enum_charset : Option (ℕ × List ℕ)
   pub enum_charsets : Option (List ℕ)
 
--- the last field of each kind
+-- the last field of each type
 abbrev pub lasts : List Field → Extracted
 lasts fs = record {
   signs = last_of signs_in fs;

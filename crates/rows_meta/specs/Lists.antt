@@ -26,7 +26,7 @@ items_in read zero bytes = []
 items_in read (suc n) [] = []
 items_in read (suc n) (b ∷ bytes) = prepend_read (items_in read n) (read (b ∷ bytes))
 
--- all items: there are at most as many as bytes, since an entry takes at least one
+-- all entries, in order; after the first that can't be read, its error and no more
 unfoldable pub items_of : {A : Type 0} → (List ℕ → Reading (A × List ℕ)) → List ℕ → List (Reading A)
 items_of read bytes = items_in read (length bytes) bytes
 
@@ -34,7 +34,7 @@ items_of read bytes = items_in read (length bytes) bytes
 abbrev pub TakesBytes : {A : Type 0} → (List ℕ → Reading (A × List ℕ)) → Type 0
 TakesBytes {A} read = (bytes : List ℕ) (x : A × List ℕ) → read bytes ≡ Ok x → length x.1 < length bytes
 
--- the integers, the strings, the pairs of integers in a list
+-- the length-encoded integers up to the end of the bytes
 abbrev pub numbers : List ℕ → List (Reading ℕ)
 numbers = items_of lenenc_at
 

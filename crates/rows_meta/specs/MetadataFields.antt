@@ -19,7 +19,7 @@ unfoldable pub bits_from : (ℕ → Bool) → ℕ → ℕ → List Bool
 bits_from bit k zero = []
 bits_from bit k (suc n) = bit k ∷ bits_from bit (k + 1) n
 
--- n bits in exactly the bytes needed, from the highest bit of each byte: `EndOfBody` if there are fewer bytes, `RemainingBytes` if there are more
+-- n bits, from the highest of the first byte, in exactly (n + 7)/8 bytes
 abbrev pub bits_in : ℕ → List ℕ → Reading (List Bool)
 bits_in n value =
     if nat_lt (length value) ((n + 7) / 8) then Err EndOfBody
@@ -93,10 +93,10 @@ tagged_at bytes = do
 abbrev pub tagged : List ℕ → List (Reading (ℕ × List ℕ))
 tagged = items_of tagged_at
 
--- the fields of the optional metadata, in order
+-- the field with this type number and value
 abbrev pub read_field : List ℕ → Reading (ℕ × List ℕ) → Reading Field
 read_field columns field = field >>= λ f. field_in columns f.0 f.1
 
--- the fields of the optional metadata of a table with these column types, in order
+-- each field of the optional metadata, or its error, for columns with these type bytes
 abbrev pub fields : List ℕ → List ℕ → List (Reading Field)
 fields columns bytes = map (read_field columns) (tagged bytes)

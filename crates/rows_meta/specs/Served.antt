@@ -60,11 +60,11 @@ default_of with_default = option_map (λ (d : ℕ × List ℕ). d.0 % 65536) wit
 abbrev pub default_item : Option ℕ → Option (Reading ℕ)
 default_item default = option_map (λ (n : ℕ). Ok n) default
 
--- the index of the next column, in 64 bits
+-- the next index, as the code counts it, in 64 bits
 abbrev pub next_index : ℕ → ℕ
 next_index i = (i + 1) % 2 ^ 64
 
--- The charset of the column k columns after that of index i, when these entries remain before column i. An entry for index i, or one without an index, is consumed; otherwise the default applies. An error is returned once, and then nothing.
+-- the character set of column i + k, if these entries remain at column i; an error is returned once, and then None
 unfoldable pub charset_after : Option ℕ → List (Reading CharsetEntry) → ℕ → ℕ → Option (Reading ℕ)
 charset_after default [] i k = default_item default
 charset_after default (Err e ∷ entries) i zero = Some (Err e)

@@ -3,7 +3,7 @@ use Rattle.std.specs.Prelude.{ℕ, suc, ◌+◌, ◌-◌, ◌*◌, ◌/◌, ◌%
 use Rattle.std.specs.Int.{w64, int_wrap}
 use Rattle.byteorder.specs.Endian.{big_number, twos_complement}
 
--- i above the 24 bits of a fraction of f microseconds; a value of more than 64 bits wraps
+-- i * 2^24 + f, as a signed number of 64 bits
 abbrev pub packed_time : ℤ → ℤ → ℤ
 packed_time i f = int_wrap w64 ((i *ℤ pos 16777216) +ℤ f)
 
@@ -29,20 +29,20 @@ fraction_len decimals = if nat_le decimals 6 then (decimals + 1) / 2 else 0
 abbrev pub fraction : ℕ → List ℕ → ℤ
 fraction n bytes = twos_complement n (big_number n bytes) *ℤ pos (100 ^ (3 - n))
 
--- a time of n parts of a second, with `unit` parts in a second and `unit_micros` microseconds in a part
+-- n parts of a second as a packed time, with `unit` parts in a second and `unit_micros` microseconds in a part
 abbrev pub packed_parts : ℕ → ℕ → ℕ → ℕ
 packed_parts unit unit_micros n = n / unit * 16777216 + n % unit * unit_micros
 
--- the same with a sign: a negative time is the opposite of its magnitude
+-- the same for a signed n: the magnitude is packed, then the sign applied
 abbrev pub packed_signed : ℕ → ℕ → ℤ → ℤ
 packed_signed unit unit_micros (pos n) = pos (packed_parts unit unit_micros n)
 packed_signed unit unit_micros (negsuc n) = neg_ℤ (pos (packed_parts unit unit_micros (suc n)))
 
--- A TIME2 with n bytes of fraction: one number of 3 + n bytes that counts parts of a second from the middle of its range.
+-- a TIME2 with n fraction bytes: a number of 3 + n bytes, less half its range; its lowest n bytes count parts of a second
 abbrev pub time2 : ℕ → List ℕ → ℤ
 time2 n bytes = packed_signed (256 ^ n) (100 ^ (3 - n)) (pos (big_number (3 + n) bytes) -ℤ pos (2 ^ (8 * (3 + n) - 1)))
 
--- A DATETIME2 with n bytes of fraction: five bytes, less 2 ^ 39, before it.
+-- a DATETIME2 with n fraction bytes: five bytes less 2^39, then the fraction
 abbrev pub datetime2 : ℕ → List ℕ → ℤ
 datetime2 n bytes = packed_time (pos (big_number 5 bytes) -ℤ pos (2 ^ 39)) (fraction n (drop 5 bytes))
 

@@ -82,12 +82,13 @@ fn are_put(alloc: Global, wanted: &[u8]) -> bool {
         && out.put_quoted(b"a'") == Ok(())
         && out.put_number(u64::MAX) == Ok(())
         && out.put_hexadecimal(b"\x0f\xa0") == Ok(())
+        && out.put_two_quoted(b"", b"b\\") == Ok(())
         && out.as_slice() == wanted
 }
 
-// Unchanged bytes, one byte, quoted bytes, a number and hexadecimal digits.
+// Unchanged bytes, one byte, quoted bytes, a number, hexadecimal digits and two quoted texts.
 fn texts_in_a_buffer(alloc: Global) -> bool {
-    are_put(alloc, br"ab='a\27'184467440737095516150fa0")
+    are_put(alloc, br"ab='a\27'184467440737095516150fa0'' 'b\5c'")
 }
 
 /// Why a cell has no value, or None if it has one.

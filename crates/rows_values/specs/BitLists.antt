@@ -3,11 +3,11 @@ use Rattle.std.specs.Prelude.{◌≡◌, ℕ, zero, suc, ◌+◌, ◌-◌, ◌/�
 use Rattle.rows_values.specs.declared.bits.Bits.{Bits}
 use Rattle.rows_values.specs.declared.bits.BitsIter.{BitsIter}
 
--- bit i, if each byte begins with its lowest bit
+-- bit i, counted from the lowest bit of the first byte
 abbrev pub lowest_bit : List ℕ → ℕ → Bool
 lowest_bit bytes i = slice_index bytes (i / 8) / 2 ^ (i % 8) % 2 == 1
 
--- bit i, if each byte begins with its highest bit
+-- bit i, counted from the highest bit of the first byte
 abbrev pub highest_bit : List ℕ → ℕ → Bool
 highest_bit bytes i = slice_index bytes (i / 8) / 2 ^ (7 - i % 8) % 2 == 1
 

@@ -55,7 +55,7 @@ packed_size before after = side_size before + side_size after
 abbrev pub only_zeros : List ℕ → Bool
 only_zeros ds = list_all (λ d. d == 0) ds
 
--- of n groups of nine digits, the leading groups of zeros are dropped
+-- the digits without the leading ones of n groups of nine that are only zeros
 unfoldable pub without_zero_nines : ℕ → List ℕ → List ℕ
 without_zero_nines zero ds = ds
 without_zero_nines (suc n) ds = if only_zeros (take 9 ds) then without_zero_nines n (drop 9 ds) else ds
@@ -76,11 +76,11 @@ pub record DropsZeroGroups (ds rest : List ℕ) : Type 0 where
   pub at_group : (dropped ≡ []) ⊎ (length rest % 9 ≡ 0)
   pub others_first : 0 < length rest → only_zeros (take (first_group (length rest)) rest) ≡ false
 
--- a decimal without digits on either side is zero
+-- the decimal; without any digit, a zero without a sign
 abbrev pub some_digit : DecimalParts → DecimalParts
 some_digit v = if (length v.before + length v.after) == 0 then zero_value else v
 
--- the decimal that digits unpack to: with all digits, or without the leading zero groups
+-- the decimal as MySQL unpacks it: without leading groups of zeros, unless `keep`
 abbrev pub normalized : Bool → DecimalParts → DecimalParts
 normalized keep v = some_digit (record { negative = v.negative; before = if keep then v.before else without_zero_groups v.before; after = v.after })
 

@@ -4,7 +4,7 @@ use Rattle.wire_buf.specs.declared.fault.WireFault.TheVariants.{Eof, BadNumber, 
 use Rattle.rows_values.specs.declared.fault.RowsError.{RowsError}
 use Rattle.rows_values.specs.declared.fault.RowsError.TheVariants as rows
 
--- the bytes end, they encode nothing known, memory ran out, or the device failed
+-- the error of a row for an error of its bytes
 abbrev pub rows_error : WireFault → RowsError
 rows_error Eof = rows.EndOfBody
 rows_error BadNumber = rows.UnknownNumber

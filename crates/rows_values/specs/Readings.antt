@@ -7,7 +7,7 @@ use Rattle.rows_values.specs.declared.fault.RowsError.{RowsError}
 abbrev pub Reading : Type 0 → Type 0
 Reading A = Result A RowsError
 
--- the next step on the value of the first; the first error ends it
+-- the step f applied to the value; an error stays
 infixl 10 ◌>>=◌
 abbrev pub ◌>>=◌ : {A B : Type 0} → Reading A → (A → Reading B) → Reading B
 (Ok x) >>= f = f x

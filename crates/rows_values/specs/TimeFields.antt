@@ -4,11 +4,11 @@ use Rattle.rows_values.specs.declared.times.mysql_time.MysqlTime.{MysqlTime}
 use Rattle.rows_values.specs.declared.times.mysql_time.MysqlTimestampType.{MysqlTimestampType}
 use Rattle.rows_values.specs.declared.times.mysql_time.MysqlTimestampType.TheVariants.{MYSQL_TIMESTAMP_TIME}
 
--- the microseconds and the whole part of the magnitude
+-- the microseconds: the lowest 24 bits of the magnitude
 abbrev pub packed_micros : ℤ → ℕ
 packed_micros packed = unsigned_abs packed % 16777216
 
--- the packed time without its fraction: the magnitude above the lowest 24 bits
+-- the magnitude above its lowest 24 bits
 abbrev pub packed_whole : ℤ → ℕ
 packed_whole packed = unsigned_abs packed / 16777216
 
@@ -16,7 +16,7 @@ packed_whole packed = unsigned_abs packed / 16777216
 abbrev pub is_below_zero : ℤ → Bool
 is_below_zero packed = int_lt packed (pos 0)
 
--- seconds and minutes have 6 bits each, the hours of a time span 10
+-- hours, minutes and seconds of a span: 10, 6 and 6 bits
 abbrev pub span_fields : ℤ → MysqlTime
 span_fields packed = record {
   year = 0;
@@ -31,7 +31,7 @@ span_fields packed = record {
   time_zone_displacement = pos 0;
 }
 
--- the time of day has 17 bits, the day 5; above them is the month, with 13 months to the year
+-- year * 13 + month, then day (5 bits), hours (5), minutes (6) and seconds (6)
 abbrev pub date_fields : MysqlTimestampType → ℤ → MysqlTime
 date_fields kind packed = record {
   year = packed_whole packed / 131072 / 32 / 13;

@@ -5,7 +5,7 @@ use Rattle.rows_values.specs.declared.times.mysql_time.MysqlTime.{MysqlTime}
 use Rattle.rows_values.specs.declared.times.mysql_time.MysqlTimestampType.{MysqlTimestampType}
 use Rattle.rows_values.specs.declared.times.mysql_time.MysqlTimestampType.TheVariants.{MYSQL_TIMESTAMP_NONE, MYSQL_TIMESTAMP_ERROR, MYSQL_TIMESTAMP_DATE, MYSQL_TIMESTAMP_DATETIME, MYSQL_TIMESTAMP_TIME, MYSQL_TIMESTAMP_DATETIME_TZ}
 
--- a number in decimal, with zeros before it up to a least width
+-- a number in decimal, with leading zeros up to `width` digits
 unfoldable pub padded_decimal : ℕ → ℕ → List ℕ
 padded_decimal width n = replicate (width - length (decimal n)) 48 ++ decimal n
 

@@ -13,7 +13,7 @@ concat_digits None more = None
 concat_digits (Some ds) None = None
 concat_digits (Some ds) (Some es) = Some (ds ++ es)
 
--- the last k digits of a number, if it has no more
+-- the k digits of a number below 10^k; None for a greater one
 abbrev pub exact_digits : ℕ → ℕ → Option (List ℕ)
 exact_digits k n = if nat_lt n (10 ^ k) then Some (digits_in k n) else None
 
@@ -40,7 +40,7 @@ valued negative None after = None
 valued negative (Some before) None = None
 valued negative (Some before) (Some after) = Some (record { negative = negative; before = before; after = after })
 
--- the bytes of the groups: the inversion of all bits, if the decimal is negative, and that of the top bit are undone
+-- the bytes of the groups: both inversions undone
 abbrev pub plain_bytes : List ℕ → List ℕ
 plain_bytes bytes = top_flipped (signed (has_minus_bit bytes) bytes)
 

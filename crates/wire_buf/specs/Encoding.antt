@@ -30,7 +30,7 @@ pub record Reads {A : Type 0} (encodes : A → List ℕ → List ℕ → Type 0)
 abbrev pub Alone : {A : Type 0} → (A → List ℕ → Type 0) → Encoding A
 Alone encodes v bytes rest = encodes v bytes
 
--- n bytes whose value is v
+-- n bytes that have the value v
 pub record IsFixed {A : Type 0} (value : List ℕ → A) (n : ℕ) (v : A) (bytes : List ℕ) : Type 0 where
   pub size : length bytes ≡ n
   pub value_is : v ≡ value bytes

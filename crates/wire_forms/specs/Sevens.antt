@@ -19,7 +19,7 @@ sevens_encoded (suc k) v = if nat_lt v 128 then v ∷ [] else (v % 128 + 128) �
 abbrev pub varlen_encoded : ℕ → List ℕ
 varlen_encoded v = sevens_encoded 5 v
 
--- the number at the start in at most k bytes, and the bytes after it, as a function that computes; the private reader is proved against it
+-- the number in at most k bytes at the start, and the bytes after it
 unfoldable pub sevens_split : ℕ → List ℕ → Option (ℕ × List ℕ)
 sevens_split zero x = None
 sevens_split (suc k) [] = None

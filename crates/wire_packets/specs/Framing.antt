@@ -18,7 +18,7 @@ slice_of width p i = take width (drop (i * width) p)
 unfoldable pub chunks : ℕ → ℕ → ℕ → List ℕ → List ℕ
 chunks width k m p = flat_map (λ i. chunk (k + i) (slice_of width p i)) (range_with_len 0 m)
 
--- the framing of a payload from sequence id k on: the last slice is shorter than a full one, and may be empty
+-- the packets of a payload from sequence id k on: full chunks, then one that is shorter, and may be empty
 abbrev pub framing : ℕ → List ℕ → List ℕ
 framing k p = chunks max_chunk_len k (length p / max_chunk_len + 1) p
 
@@ -31,7 +31,7 @@ unfoldable pub framings : ℕ → List (List ℕ) → List ℕ
 framings k [] = []
 framings k (p ∷ ps) = framing k p ++ framings (next_sequence_id k p) ps
 
--- the sequence id after them
+-- the sequence id after these framings
 unfoldable pub sequence_id_after : ℕ → List (List ℕ) → ℕ
 sequence_id_after k [] = k
 sequence_id_after k (p ∷ ps) = sequence_id_after (next_sequence_id k p) ps

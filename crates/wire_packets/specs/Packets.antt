@@ -4,7 +4,7 @@ use Rattle.wire_packets.specs.Framing.{max_chunk_len, framing, framings, next_se
 use Rattle.wire_packets.specs.Reading.{payload_len_at, has_chunk_of, chunk_fault, chunk_payload, after_chunk}
 use Rattle.wire_packets.specs.declared.error.PacketCodecError.{PacketCodecError}
 
--- the payload with which s begins, framed from sequence id k on, within the limit, with `before` bytes of the packet before s; of at most n chunks
+-- the payload whose chunks s begins with, numbered from k, if it is complete and within the limit; `before` bytes of it came before s; at most n chunks
 unfoldable pub payload_in : ℕ → ℕ → ℕ → ℕ → List ℕ → Option (List ℕ)
 payload_in zero limit k before s = None
 payload_in (suc n) limit k before s =
@@ -20,11 +20,11 @@ packets_in zero limit k s = []
 packets_in (suc n) limit k s =
     elim (payload_in (suc (limit / max_chunk_len)) limit k 0 s) [ None ↦ [] | Some p ↦ p ∷ packets_in n limit (next_sequence_id k p) (drop (length (framing k p)) s) ]
 
--- the longest list of payloads, each within the limit, with whose framings s begins, with sequence ids from k on (a framing has at least four bytes, so the length of s bounds their number)
+-- the payloads whose packets s begins with, numbered from k, each within the limit
 abbrev pub packets : ℕ → ℕ → List ℕ → List (List ℕ)
 packets limit k s = packets_in (length s) limit k s
 
--- the longest run of full chunks at the start of s, with sequence ids from k on, within the limit: the number of its payload bytes and of those before it, and the bytes after it
+-- the full chunks at the start of s: the number of payload bytes so far, and the bytes after these chunks
 unfoldable pub full_run : ℕ → ℕ → ℕ → ℕ → List ℕ → ℕ × List ℕ
 full_run zero limit k before s = (before, s)
 full_run (suc n) limit k before s =

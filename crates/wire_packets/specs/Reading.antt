@@ -4,15 +4,15 @@ use Rattle.byteorder.specs.Endian.{little_number}
 use Rattle.wire_packets.specs.declared.error.PacketCodecError.{PacketCodecError}
 use Rattle.wire_packets.specs.declared.error.PacketCodecError.TheVariants.{PacketTooLarge, PacketsOutOfSync}
 
--- the length that the first three bytes give
+-- the length in the first three bytes
 abbrev pub payload_len_at : List ℕ → ℕ
 payload_len_at s = little_number 3 s
 
--- the whole chunk is there
+-- the header and as many bytes as it states are there
 abbrev pub has_chunk : List ℕ → Bool
 has_chunk s = nat_le (4 + payload_len_at s) (length s)
 
--- the header is there, and its chunk exceeds the limit if `gathered` bytes of the packet precede it
+-- the header is there, and its chunk, with the `gathered` bytes of the packet before it, exceeds the limit
 abbrev pub is_too_large : ℕ → ℕ → List ℕ → Bool
 is_too_large limit gathered s = nat_le 4 (length s) && nat_le (limit + 1) (gathered + payload_len_at s)
 
@@ -20,7 +20,7 @@ is_too_large limit gathered s = nat_le 4 (length s) && nat_le (limit + 1) (gathe
 abbrev pub has_chunk_of : ℕ → ℕ → ℕ → List ℕ → Bool
 has_chunk_of k limit gathered s = has_chunk s && (slice_index s 3 == k % 256) && nat_le (gathered + payload_len_at s) limit
 
--- the fault at a start that isn't taken: too large as soon as the header is there, out of sync once the chunk is whole, else none
+-- why no chunk is taken: `PacketTooLarge` once the header is there, `PacketsOutOfSync` once the chunk is, else None
 abbrev pub chunk_fault : ℕ → ℕ → List ℕ → Option PacketCodecError
 chunk_fault limit gathered s =
     if is_too_large limit gathered s then Some PacketTooLarge

@@ -7,11 +7,11 @@ use Rattle.std.specs.List.{list_all}
 abbrev pub leading_digits : List ℕ → List ℕ
 leading_digits x = take_while is_ascii_digit x
 
--- the decimal number of digits
+-- the number that these digits write in decimal
 abbrev pub version_digits_number : List ℕ → ℕ
 version_digits_number ds = fold (λ n d. 10 * n + (d - 48)) 0 ds
 
--- a number below 256 of at least one digit at the start, and the text after its last digit
+-- the number at the start, and the text after it; None without a digit or from 256 on
 unfoldable pub number_at : List ℕ → Option (ℕ × List ℕ)
 number_at x =
     let ds = leading_digits x in
@@ -22,7 +22,7 @@ unfoldable pub after_point : List ℕ → Option (List ℕ)
 after_point [] = None
 after_point (c ∷ r) = if c == 46 then Some r else None
 
--- the three numbers at the start
+-- the three numbers at the start; None if one or a point is missing
 unfoldable pub numbers_at : List ℕ → Option (ℕ × ℕ × ℕ)
 numbers_at x =
     option_and_then (λ a. option_and_then (λ r. option_and_then (λ b. option_and_then (λ s. option_and_then (λ c.

@@ -14,7 +14,7 @@ use Rattle.rows_cells.specs.EventRows.{images_at, row_at}
 use Rattle.rows_events.specs.Plans.{keys_after, column_at, first_columns}
 use Rattle.hex.specs.Hex.{encode_with}
 use Rattle.feed_writers.specs.Quoting.{quoted}
-use Rattle.feed_text.specs.CellText.{text_of}
+use Rattle.feed_text.specs.CellText.{cell_value_text}
 use Rattle.feed_text.specs.ImageText.{cells_text}
 use Rattle.feed_kinds.specs.Bodies.{query_in, rotate_in, xid_in, table_map_in, rows_event_in, gtid_in}
 use Rattle.feed_kinds.specs.Events.{parts, description_of, in_force}
@@ -30,33 +30,33 @@ use Rattle.feed_reports.specs.Reports.{file_transactions, file_verdict}
 use Rattle.binlog_feed.proofs.worked_reports.worked_reports.Goals as goal
 
 pub returns-clause-magic_alone : goal.returns-clause-magic_alone
-unfolding digits split_number split_lenenc number_at after_point numbers_at column_type columns_with_metadata walk items_in items_of strings_in bits_from is_numeric_number charset_after cell_at cells_at lenenc_at image_at images_at row_at keys_after column_at first_columns encode_with quoted text_of cells_text query_in rotate_in xid_in table_map_in rows_event_in gtid_in parts description_of in_force image_texts row_texts texts_of_rows rows_result kind_by kinds is_inside waiting since_begin newest_map frame_fault algorithm_fault checksum_fault size_fault fault_of lines_of shown_by up_to_fault fault_after shown_after gtid_text line_text transaction_text events_in file_transactions file_verdict
+unfolding digits split_number split_lenenc number_at after_point numbers_at column_type columns_with_metadata walk items_in items_of strings_in bits_from is_numeric_number charset_after cell_at cells_at lenenc_at image_at images_at row_at keys_after column_at first_columns encode_with quoted cell_value_text cells_text query_in rotate_in xid_in table_map_in rows_event_in gtid_in parts description_of in_force image_texts row_texts texts_of_rows rows_result kind_by kinds is_inside waiting since_begin newest_map frame_fault algorithm_fault checksum_fault size_fault fault_of lines_of shown_by up_to_fault fault_after shown_after gtid_text line_text transaction_text events_in file_transactions file_verdict
 returns-clause-magic_alone c = refl
 
 pub returns-clause-no_bytes : goal.returns-clause-no_bytes
-unfolding digits split_number split_lenenc number_at after_point numbers_at column_type columns_with_metadata walk items_in items_of strings_in bits_from is_numeric_number charset_after cell_at cells_at lenenc_at image_at images_at row_at keys_after column_at first_columns encode_with quoted text_of cells_text query_in rotate_in xid_in table_map_in rows_event_in gtid_in parts description_of in_force image_texts row_texts texts_of_rows rows_result kind_by kinds is_inside waiting since_begin newest_map frame_fault algorithm_fault checksum_fault size_fault fault_of lines_of shown_by up_to_fault fault_after shown_after gtid_text line_text transaction_text events_in file_transactions file_verdict
+unfolding digits split_number split_lenenc number_at after_point numbers_at column_type columns_with_metadata walk items_in items_of strings_in bits_from is_numeric_number charset_after cell_at cells_at lenenc_at image_at images_at row_at keys_after column_at first_columns encode_with quoted cell_value_text cells_text query_in rotate_in xid_in table_map_in rows_event_in gtid_in parts description_of in_force image_texts row_texts texts_of_rows rows_result kind_by kinds is_inside waiting since_begin newest_map frame_fault algorithm_fault checksum_fault size_fault fault_of lines_of shown_by up_to_fault fault_after shown_after gtid_text line_text transaction_text events_in file_transactions file_verdict
 returns-clause-no_bytes c = refl
 
 pub returns-clause-unfinished_transaction : goal.returns-clause-unfinished_transaction
-unfolding digits split_number split_lenenc number_at after_point numbers_at column_type columns_with_metadata walk items_in items_of strings_in bits_from is_numeric_number charset_after cell_at cells_at lenenc_at image_at images_at row_at keys_after column_at first_columns encode_with quoted text_of cells_text query_in rotate_in xid_in table_map_in rows_event_in gtid_in parts description_of in_force image_texts row_texts texts_of_rows rows_result kind_by kinds is_inside waiting since_begin newest_map frame_fault algorithm_fault checksum_fault size_fault fault_of lines_of shown_by up_to_fault fault_after shown_after gtid_text line_text transaction_text events_in file_transactions file_verdict
+unfolding digits split_number split_lenenc number_at after_point numbers_at column_type columns_with_metadata walk items_in items_of strings_in bits_from is_numeric_number charset_after cell_at cells_at lenenc_at image_at images_at row_at keys_after column_at first_columns encode_with quoted cell_value_text cells_text query_in rotate_in xid_in table_map_in rows_event_in gtid_in parts description_of in_force image_texts row_texts texts_of_rows rows_result kind_by kinds is_inside waiting since_begin newest_map frame_fault algorithm_fault checksum_fault size_fault fault_of lines_of shown_by up_to_fault fault_after shown_after gtid_text line_text transaction_text events_in file_transactions file_verdict
 returns-clause-unfinished_transaction c = refl
 
 pub returns-clause-unfinished_transaction_within_an_event : goal.returns-clause-unfinished_transaction_within_an_event
-unfolding digits split_number split_lenenc number_at after_point numbers_at column_type columns_with_metadata walk items_in items_of strings_in bits_from is_numeric_number charset_after cell_at cells_at lenenc_at image_at images_at row_at keys_after column_at first_columns encode_with quoted text_of cells_text query_in rotate_in xid_in table_map_in rows_event_in gtid_in parts description_of in_force image_texts row_texts texts_of_rows rows_result kind_by kinds is_inside waiting since_begin newest_map frame_fault algorithm_fault checksum_fault size_fault fault_of lines_of shown_by up_to_fault fault_after shown_after gtid_text line_text transaction_text events_in file_transactions file_verdict
+unfolding digits split_number split_lenenc number_at after_point numbers_at column_type columns_with_metadata walk items_in items_of strings_in bits_from is_numeric_number charset_after cell_at cells_at lenenc_at image_at images_at row_at keys_after column_at first_columns encode_with quoted cell_value_text cells_text query_in rotate_in xid_in table_map_in rows_event_in gtid_in parts description_of in_force image_texts row_texts texts_of_rows rows_result kind_by kinds is_inside waiting since_begin newest_map frame_fault algorithm_fault checksum_fault size_fault fault_of lines_of shown_by up_to_fault fault_after shown_after gtid_text line_text transaction_text events_in file_transactions file_verdict
 returns-clause-unfinished_transaction_within_an_event c = refl
 
 pub returns-clause-one_insert : goal.returns-clause-one_insert
-unfolding digits split_number split_lenenc number_at after_point numbers_at column_type columns_with_metadata walk items_in items_of strings_in bits_from is_numeric_number charset_after cell_at cells_at lenenc_at image_at images_at row_at keys_after column_at first_columns encode_with quoted text_of cells_text query_in rotate_in xid_in table_map_in rows_event_in gtid_in parts description_of in_force image_texts row_texts texts_of_rows rows_result kind_by kinds is_inside waiting since_begin newest_map frame_fault algorithm_fault checksum_fault size_fault fault_of lines_of shown_by up_to_fault fault_after shown_after gtid_text line_text transaction_text events_in file_transactions file_verdict
+unfolding digits split_number split_lenenc number_at after_point numbers_at column_type columns_with_metadata walk items_in items_of strings_in bits_from is_numeric_number charset_after cell_at cells_at lenenc_at image_at images_at row_at keys_after column_at first_columns encode_with quoted cell_value_text cells_text query_in rotate_in xid_in table_map_in rows_event_in gtid_in parts description_of in_force image_texts row_texts texts_of_rows rows_result kind_by kinds is_inside waiting since_begin newest_map frame_fault algorithm_fault checksum_fault size_fault fault_of lines_of shown_by up_to_fault fault_after shown_after gtid_text line_text transaction_text events_in file_transactions file_verdict
 returns-clause-one_insert c = refl
 
 pub returns-clause-checksummed : goal.returns-clause-checksummed
-unfolding digits split_number split_lenenc number_at after_point numbers_at column_type columns_with_metadata walk items_in items_of strings_in bits_from is_numeric_number charset_after cell_at cells_at lenenc_at image_at images_at row_at keys_after column_at first_columns encode_with quoted text_of cells_text query_in rotate_in xid_in table_map_in rows_event_in gtid_in parts description_of in_force image_texts row_texts texts_of_rows rows_result kind_by kinds is_inside waiting since_begin newest_map frame_fault algorithm_fault checksum_fault size_fault fault_of lines_of shown_by up_to_fault fault_after shown_after gtid_text line_text transaction_text events_in file_transactions file_verdict
+unfolding digits split_number split_lenenc number_at after_point numbers_at column_type columns_with_metadata walk items_in items_of strings_in bits_from is_numeric_number charset_after cell_at cells_at lenenc_at image_at images_at row_at keys_after column_at first_columns encode_with quoted cell_value_text cells_text query_in rotate_in xid_in table_map_in rows_event_in gtid_in parts description_of in_force image_texts row_texts texts_of_rows rows_result kind_by kinds is_inside waiting since_begin newest_map frame_fault algorithm_fault checksum_fault size_fault fault_of lines_of shown_by up_to_fault fault_after shown_after gtid_text line_text transaction_text events_in file_transactions file_verdict
 returns-clause-checksummed c = refl
 
 pub returns-clause-broken_header_at_the_end : goal.returns-clause-broken_header_at_the_end
-unfolding digits split_number split_lenenc number_at after_point numbers_at column_type columns_with_metadata walk items_in items_of strings_in bits_from is_numeric_number charset_after cell_at cells_at lenenc_at image_at images_at row_at keys_after column_at first_columns encode_with quoted text_of cells_text query_in rotate_in xid_in table_map_in rows_event_in gtid_in parts description_of in_force image_texts row_texts texts_of_rows rows_result kind_by kinds is_inside waiting since_begin newest_map frame_fault algorithm_fault checksum_fault size_fault fault_of lines_of shown_by up_to_fault fault_after shown_after gtid_text line_text transaction_text events_in file_transactions file_verdict
+unfolding digits split_number split_lenenc number_at after_point numbers_at column_type columns_with_metadata walk items_in items_of strings_in bits_from is_numeric_number charset_after cell_at cells_at lenenc_at image_at images_at row_at keys_after column_at first_columns encode_with quoted cell_value_text cells_text query_in rotate_in xid_in table_map_in rows_event_in gtid_in parts description_of in_force image_texts row_texts texts_of_rows rows_result kind_by kinds is_inside waiting since_begin newest_map frame_fault algorithm_fault checksum_fault size_fault fault_of lines_of shown_by up_to_fault fault_after shown_after gtid_text line_text transaction_text events_in file_transactions file_verdict
 returns-clause-broken_header_at_the_end c = refl
 
 pub returns-clause-rows_after_the_commit : goal.returns-clause-rows_after_the_commit
-unfolding digits split_number split_lenenc number_at after_point numbers_at column_type columns_with_metadata walk items_in items_of strings_in bits_from is_numeric_number charset_after cell_at cells_at lenenc_at image_at images_at row_at keys_after column_at first_columns encode_with quoted text_of cells_text query_in rotate_in xid_in table_map_in rows_event_in gtid_in parts description_of in_force image_texts row_texts texts_of_rows rows_result kind_by kinds is_inside waiting since_begin newest_map frame_fault algorithm_fault checksum_fault size_fault fault_of lines_of shown_by up_to_fault fault_after shown_after gtid_text line_text transaction_text events_in file_transactions file_verdict
+unfolding digits split_number split_lenenc number_at after_point numbers_at column_type columns_with_metadata walk items_in items_of strings_in bits_from is_numeric_number charset_after cell_at cells_at lenenc_at image_at images_at row_at keys_after column_at first_columns encode_with quoted cell_value_text cells_text query_in rotate_in xid_in table_map_in rows_event_in gtid_in parts description_of in_force image_texts row_texts texts_of_rows rows_result kind_by kinds is_inside waiting since_begin newest_map frame_fault algorithm_fault checksum_fault size_fault fault_of lines_of shown_by up_to_fault fault_after shown_after gtid_text line_text transaction_text events_in file_transactions file_verdict
 returns-clause-rows_after_the_commit c = refl

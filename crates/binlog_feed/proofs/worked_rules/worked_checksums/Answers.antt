@@ -14,7 +14,7 @@ use Rattle.rows_cells.specs.EventRows.{images_at, row_at}
 use Rattle.rows_events.specs.Plans.{keys_after, column_at, first_columns}
 use Rattle.hex.specs.Hex.{encode_with}
 use Rattle.feed_writers.specs.Quoting.{quoted}
-use Rattle.feed_text.specs.CellText.{text_of}
+use Rattle.feed_text.specs.CellText.{cell_value_text}
 use Rattle.feed_text.specs.ImageText.{cells_text}
 use Rattle.feed_kinds.specs.Bodies.{query_in, rotate_in, xid_in, table_map_in, rows_event_in, gtid_in}
 use Rattle.feed_kinds.specs.Events.{parts, description_of, in_force}
@@ -28,21 +28,21 @@ use Rattle.feed_rules.specs.Texts.{gtid_text, line_text, transaction_text}
 use Rattle.binlog_feed.proofs.worked_rules.worked_checksums.Goals as goal
 
 pub returns-clause-checksummed : goal.returns-clause-checksummed
-unfolding digits split_number split_lenenc number_at after_point numbers_at column_type columns_with_metadata walk items_in items_of strings_in bits_from is_numeric_number charset_after cell_at cells_at lenenc_at image_at images_at row_at keys_after column_at first_columns encode_with quoted text_of cells_text query_in rotate_in xid_in table_map_in rows_event_in gtid_in parts description_of in_force image_texts row_texts texts_of_rows rows_result kind_by kinds is_inside waiting since_begin newest_map frame_fault algorithm_fault checksum_fault size_fault fault_of lines_of shown_by up_to_fault fault_after shown_after gtid_text line_text transaction_text
+unfolding digits split_number split_lenenc number_at after_point numbers_at column_type columns_with_metadata walk items_in items_of strings_in bits_from is_numeric_number charset_after cell_at cells_at lenenc_at image_at images_at row_at keys_after column_at first_columns encode_with quoted cell_value_text cells_text query_in rotate_in xid_in table_map_in rows_event_in gtid_in parts description_of in_force image_texts row_texts texts_of_rows rows_result kind_by kinds is_inside waiting since_begin newest_map frame_fault algorithm_fault checksum_fault size_fault fault_of lines_of shown_by up_to_fault fault_after shown_after gtid_text line_text transaction_text
 returns-clause-checksummed c = refl
 
 pub returns-clause-checksum_before_body : goal.returns-clause-checksum_before_body
-unfolding digits split_number split_lenenc number_at after_point numbers_at column_type columns_with_metadata walk items_in items_of strings_in bits_from is_numeric_number charset_after cell_at cells_at lenenc_at image_at images_at row_at keys_after column_at first_columns encode_with quoted text_of cells_text query_in rotate_in xid_in table_map_in rows_event_in gtid_in parts description_of in_force image_texts row_texts texts_of_rows rows_result kind_by kinds is_inside waiting since_begin newest_map frame_fault algorithm_fault checksum_fault size_fault fault_of lines_of shown_by up_to_fault fault_after shown_after gtid_text line_text transaction_text
+unfolding digits split_number split_lenenc number_at after_point numbers_at column_type columns_with_metadata walk items_in items_of strings_in bits_from is_numeric_number charset_after cell_at cells_at lenenc_at image_at images_at row_at keys_after column_at first_columns encode_with quoted cell_value_text cells_text query_in rotate_in xid_in table_map_in rows_event_in gtid_in parts description_of in_force image_texts row_texts texts_of_rows rows_result kind_by kinds is_inside waiting since_begin newest_map frame_fault algorithm_fault checksum_fault size_fault fault_of lines_of shown_by up_to_fault fault_after shown_after gtid_text line_text transaction_text
 returns-clause-checksum_before_body c = refl
 
 pub returns-clause-body_after_checksum : goal.returns-clause-body_after_checksum
-unfolding digits split_number split_lenenc number_at after_point numbers_at column_type columns_with_metadata walk items_in items_of strings_in bits_from is_numeric_number charset_after cell_at cells_at lenenc_at image_at images_at row_at keys_after column_at first_columns encode_with quoted text_of cells_text query_in rotate_in xid_in table_map_in rows_event_in gtid_in parts description_of in_force image_texts row_texts texts_of_rows rows_result kind_by kinds is_inside waiting since_begin newest_map frame_fault algorithm_fault checksum_fault size_fault fault_of lines_of shown_by up_to_fault fault_after shown_after gtid_text line_text transaction_text
+unfolding digits split_number split_lenenc number_at after_point numbers_at column_type columns_with_metadata walk items_in items_of strings_in bits_from is_numeric_number charset_after cell_at cells_at lenenc_at image_at images_at row_at keys_after column_at first_columns encode_with quoted cell_value_text cells_text query_in rotate_in xid_in table_map_in rows_event_in gtid_in parts description_of in_force image_texts row_texts texts_of_rows rows_result kind_by kinds is_inside waiting since_begin newest_map frame_fault algorithm_fault checksum_fault size_fault fault_of lines_of shown_by up_to_fault fault_after shown_after gtid_text line_text transaction_text
 returns-clause-body_after_checksum c = refl
 
 pub returns-clause-short_checksummed_event : goal.returns-clause-short_checksummed_event
-unfolding digits split_number split_lenenc number_at after_point numbers_at column_type columns_with_metadata walk items_in items_of strings_in bits_from is_numeric_number charset_after cell_at cells_at lenenc_at image_at images_at row_at keys_after column_at first_columns encode_with quoted text_of cells_text query_in rotate_in xid_in table_map_in rows_event_in gtid_in parts description_of in_force image_texts row_texts texts_of_rows rows_result kind_by kinds is_inside waiting since_begin newest_map frame_fault algorithm_fault checksum_fault size_fault fault_of lines_of shown_by up_to_fault fault_after shown_after gtid_text line_text transaction_text
+unfolding digits split_number split_lenenc number_at after_point numbers_at column_type columns_with_metadata walk items_in items_of strings_in bits_from is_numeric_number charset_after cell_at cells_at lenenc_at image_at images_at row_at keys_after column_at first_columns encode_with quoted cell_value_text cells_text query_in rotate_in xid_in table_map_in rows_event_in gtid_in parts description_of in_force image_texts row_texts texts_of_rows rows_result kind_by kinds is_inside waiting since_begin newest_map frame_fault algorithm_fault checksum_fault size_fault fault_of lines_of shown_by up_to_fault fault_after shown_after gtid_text line_text transaction_text
 returns-clause-short_checksummed_event c = refl
 
 pub returns-clause-unknown_algorithm : goal.returns-clause-unknown_algorithm
-unfolding digits split_number split_lenenc number_at after_point numbers_at column_type columns_with_metadata walk items_in items_of strings_in bits_from is_numeric_number charset_after cell_at cells_at lenenc_at image_at images_at row_at keys_after column_at first_columns encode_with quoted text_of cells_text query_in rotate_in xid_in table_map_in rows_event_in gtid_in parts description_of in_force image_texts row_texts texts_of_rows rows_result kind_by kinds is_inside waiting since_begin newest_map frame_fault algorithm_fault checksum_fault size_fault fault_of lines_of shown_by up_to_fault fault_after shown_after gtid_text line_text transaction_text
+unfolding digits split_number split_lenenc number_at after_point numbers_at column_type columns_with_metadata walk items_in items_of strings_in bits_from is_numeric_number charset_after cell_at cells_at lenenc_at image_at images_at row_at keys_after column_at first_columns encode_with quoted cell_value_text cells_text query_in rotate_in xid_in table_map_in rows_event_in gtid_in parts description_of in_force image_texts row_texts texts_of_rows rows_result kind_by kinds is_inside waiting since_begin newest_map frame_fault algorithm_fault checksum_fault size_fault fault_of lines_of shown_by up_to_fault fault_after shown_after gtid_text line_text transaction_text
 returns-clause-unknown_algorithm c = refl

@@ -14,7 +14,7 @@ use Rattle.rows_cells.specs.EventRows.{images_at, row_at}
 use Rattle.rows_events.specs.Plans.{keys_after, column_at, first_columns}
 use Rattle.hex.specs.Hex.{encode_with}
 use Rattle.feed_writers.specs.Quoting.{quoted}
-use Rattle.feed_text.specs.CellText.{text_of}
+use Rattle.feed_text.specs.CellText.{cell_value_text}
 use Rattle.feed_text.specs.ImageText.{cells_text}
 use Rattle.feed_kinds.specs.Bodies.{query_in, rotate_in, xid_in, table_map_in, rows_event_in, gtid_in}
 use Rattle.feed_kinds.specs.Events.{parts, description_of, in_force}
@@ -28,57 +28,57 @@ use Rattle.feed_rules.specs.Texts.{gtid_text, line_text, transaction_text}
 use Rattle.binlog_feed.proofs.worked_rules.worked_kinds.Goals as goal
 
 pub returns-clause-lone_statement : goal.returns-clause-lone_statement
-unfolding digits split_number split_lenenc number_at after_point numbers_at column_type columns_with_metadata walk items_in items_of strings_in bits_from is_numeric_number charset_after cell_at cells_at lenenc_at image_at images_at row_at keys_after column_at first_columns encode_with quoted text_of cells_text query_in rotate_in xid_in table_map_in rows_event_in gtid_in parts description_of in_force image_texts row_texts texts_of_rows rows_result kind_by kinds is_inside waiting since_begin newest_map frame_fault algorithm_fault checksum_fault size_fault fault_of lines_of shown_by up_to_fault fault_after shown_after gtid_text line_text transaction_text
+unfolding digits split_number split_lenenc number_at after_point numbers_at column_type columns_with_metadata walk items_in items_of strings_in bits_from is_numeric_number charset_after cell_at cells_at lenenc_at image_at images_at row_at keys_after column_at first_columns encode_with quoted cell_value_text cells_text query_in rotate_in xid_in table_map_in rows_event_in gtid_in parts description_of in_force image_texts row_texts texts_of_rows rows_result kind_by kinds is_inside waiting since_begin newest_map frame_fault algorithm_fault checksum_fault size_fault fault_of lines_of shown_by up_to_fault fault_after shown_after gtid_text line_text transaction_text
 returns-clause-lone_statement c = refl
 
 pub returns-clause-transaction_with_gtid : goal.returns-clause-transaction_with_gtid
-unfolding digits split_number split_lenenc number_at after_point numbers_at column_type columns_with_metadata walk items_in items_of strings_in bits_from is_numeric_number charset_after cell_at cells_at lenenc_at image_at images_at row_at keys_after column_at first_columns encode_with quoted text_of cells_text query_in rotate_in xid_in table_map_in rows_event_in gtid_in parts description_of in_force image_texts row_texts texts_of_rows rows_result kind_by kinds is_inside waiting since_begin newest_map frame_fault algorithm_fault checksum_fault size_fault fault_of lines_of shown_by up_to_fault fault_after shown_after gtid_text line_text transaction_text
+unfolding digits split_number split_lenenc number_at after_point numbers_at column_type columns_with_metadata walk items_in items_of strings_in bits_from is_numeric_number charset_after cell_at cells_at lenenc_at image_at images_at row_at keys_after column_at first_columns encode_with quoted cell_value_text cells_text query_in rotate_in xid_in table_map_in rows_event_in gtid_in parts description_of in_force image_texts row_texts texts_of_rows rows_result kind_by kinds is_inside waiting since_begin newest_map frame_fault algorithm_fault checksum_fault size_fault fault_of lines_of shown_by up_to_fault fault_after shown_after gtid_text line_text transaction_text
 returns-clause-transaction_with_gtid c = refl
 
 pub returns-clause-description_drops_the_open_transaction : goal.returns-clause-description_drops_the_open_transaction
-unfolding digits split_number split_lenenc number_at after_point numbers_at column_type columns_with_metadata walk items_in items_of strings_in bits_from is_numeric_number charset_after cell_at cells_at lenenc_at image_at images_at row_at keys_after column_at first_columns encode_with quoted text_of cells_text query_in rotate_in xid_in table_map_in rows_event_in gtid_in parts description_of in_force image_texts row_texts texts_of_rows rows_result kind_by kinds is_inside waiting since_begin newest_map frame_fault algorithm_fault checksum_fault size_fault fault_of lines_of shown_by up_to_fault fault_after shown_after gtid_text line_text transaction_text
+unfolding digits split_number split_lenenc number_at after_point numbers_at column_type columns_with_metadata walk items_in items_of strings_in bits_from is_numeric_number charset_after cell_at cells_at lenenc_at image_at images_at row_at keys_after column_at first_columns encode_with quoted cell_value_text cells_text query_in rotate_in xid_in table_map_in rows_event_in gtid_in parts description_of in_force image_texts row_texts texts_of_rows rows_result kind_by kinds is_inside waiting since_begin newest_map frame_fault algorithm_fault checksum_fault size_fault fault_of lines_of shown_by up_to_fault fault_after shown_after gtid_text line_text transaction_text
 returns-clause-description_drops_the_open_transaction c = refl
 
 pub returns-clause-two_gtids : goal.returns-clause-two_gtids
-unfolding digits split_number split_lenenc number_at after_point numbers_at column_type columns_with_metadata walk items_in items_of strings_in bits_from is_numeric_number charset_after cell_at cells_at lenenc_at image_at images_at row_at keys_after column_at first_columns encode_with quoted text_of cells_text query_in rotate_in xid_in table_map_in rows_event_in gtid_in parts description_of in_force image_texts row_texts texts_of_rows rows_result kind_by kinds is_inside waiting since_begin newest_map frame_fault algorithm_fault checksum_fault size_fault fault_of lines_of shown_by up_to_fault fault_after shown_after gtid_text line_text transaction_text
+unfolding digits split_number split_lenenc number_at after_point numbers_at column_type columns_with_metadata walk items_in items_of strings_in bits_from is_numeric_number charset_after cell_at cells_at lenenc_at image_at images_at row_at keys_after column_at first_columns encode_with quoted cell_value_text cells_text query_in rotate_in xid_in table_map_in rows_event_in gtid_in parts description_of in_force image_texts row_texts texts_of_rows rows_result kind_by kinds is_inside waiting since_begin newest_map frame_fault algorithm_fault checksum_fault size_fault fault_of lines_of shown_by up_to_fault fault_after shown_after gtid_text line_text transaction_text
 returns-clause-two_gtids c = refl
 
 pub returns-clause-begin_within_a_transaction : goal.returns-clause-begin_within_a_transaction
-unfolding digits split_number split_lenenc number_at after_point numbers_at column_type columns_with_metadata walk items_in items_of strings_in bits_from is_numeric_number charset_after cell_at cells_at lenenc_at image_at images_at row_at keys_after column_at first_columns encode_with quoted text_of cells_text query_in rotate_in xid_in table_map_in rows_event_in gtid_in parts description_of in_force image_texts row_texts texts_of_rows rows_result kind_by kinds is_inside waiting since_begin newest_map frame_fault algorithm_fault checksum_fault size_fault fault_of lines_of shown_by up_to_fault fault_after shown_after gtid_text line_text transaction_text
+unfolding digits split_number split_lenenc number_at after_point numbers_at column_type columns_with_metadata walk items_in items_of strings_in bits_from is_numeric_number charset_after cell_at cells_at lenenc_at image_at images_at row_at keys_after column_at first_columns encode_with quoted cell_value_text cells_text query_in rotate_in xid_in table_map_in rows_event_in gtid_in parts description_of in_force image_texts row_texts texts_of_rows rows_result kind_by kinds is_inside waiting since_begin newest_map frame_fault algorithm_fault checksum_fault size_fault fault_of lines_of shown_by up_to_fault fault_after shown_after gtid_text line_text transaction_text
 returns-clause-begin_within_a_transaction c = refl
 
 pub returns-clause-xa_query : goal.returns-clause-xa_query
-unfolding digits split_number split_lenenc number_at after_point numbers_at column_type columns_with_metadata walk items_in items_of strings_in bits_from is_numeric_number charset_after cell_at cells_at lenenc_at image_at images_at row_at keys_after column_at first_columns encode_with quoted text_of cells_text query_in rotate_in xid_in table_map_in rows_event_in gtid_in parts description_of in_force image_texts row_texts texts_of_rows rows_result kind_by kinds is_inside waiting since_begin newest_map frame_fault algorithm_fault checksum_fault size_fault fault_of lines_of shown_by up_to_fault fault_after shown_after gtid_text line_text transaction_text
+unfolding digits split_number split_lenenc number_at after_point numbers_at column_type columns_with_metadata walk items_in items_of strings_in bits_from is_numeric_number charset_after cell_at cells_at lenenc_at image_at images_at row_at keys_after column_at first_columns encode_with quoted cell_value_text cells_text query_in rotate_in xid_in table_map_in rows_event_in gtid_in parts description_of in_force image_texts row_texts texts_of_rows rows_result kind_by kinds is_inside waiting since_begin newest_map frame_fault algorithm_fault checksum_fault size_fault fault_of lines_of shown_by up_to_fault fault_after shown_after gtid_text line_text transaction_text
 returns-clause-xa_query c = refl
 
 pub returns-clause-unshown_event : goal.returns-clause-unshown_event
-unfolding digits split_number split_lenenc number_at after_point numbers_at column_type columns_with_metadata walk items_in items_of strings_in bits_from is_numeric_number charset_after cell_at cells_at lenenc_at image_at images_at row_at keys_after column_at first_columns encode_with quoted text_of cells_text query_in rotate_in xid_in table_map_in rows_event_in gtid_in parts description_of in_force image_texts row_texts texts_of_rows rows_result kind_by kinds is_inside waiting since_begin newest_map frame_fault algorithm_fault checksum_fault size_fault fault_of lines_of shown_by up_to_fault fault_after shown_after gtid_text line_text transaction_text
+unfolding digits split_number split_lenenc number_at after_point numbers_at column_type columns_with_metadata walk items_in items_of strings_in bits_from is_numeric_number charset_after cell_at cells_at lenenc_at image_at images_at row_at keys_after column_at first_columns encode_with quoted cell_value_text cells_text query_in rotate_in xid_in table_map_in rows_event_in gtid_in parts description_of in_force image_texts row_texts texts_of_rows rows_result kind_by kinds is_inside waiting since_begin newest_map frame_fault algorithm_fault checksum_fault size_fault fault_of lines_of shown_by up_to_fault fault_after shown_after gtid_text line_text transaction_text
 returns-clause-unshown_event c = refl
 
 pub returns-clause-ignorable_unknown_event : goal.returns-clause-ignorable_unknown_event
-unfolding digits split_number split_lenenc number_at after_point numbers_at column_type columns_with_metadata walk items_in items_of strings_in bits_from is_numeric_number charset_after cell_at cells_at lenenc_at image_at images_at row_at keys_after column_at first_columns encode_with quoted text_of cells_text query_in rotate_in xid_in table_map_in rows_event_in gtid_in parts description_of in_force image_texts row_texts texts_of_rows rows_result kind_by kinds is_inside waiting since_begin newest_map frame_fault algorithm_fault checksum_fault size_fault fault_of lines_of shown_by up_to_fault fault_after shown_after gtid_text line_text transaction_text
+unfolding digits split_number split_lenenc number_at after_point numbers_at column_type columns_with_metadata walk items_in items_of strings_in bits_from is_numeric_number charset_after cell_at cells_at lenenc_at image_at images_at row_at keys_after column_at first_columns encode_with quoted cell_value_text cells_text query_in rotate_in xid_in table_map_in rows_event_in gtid_in parts description_of in_force image_texts row_texts texts_of_rows rows_result kind_by kinds is_inside waiting since_begin newest_map frame_fault algorithm_fault checksum_fault size_fault fault_of lines_of shown_by up_to_fault fault_after shown_after gtid_text line_text transaction_text
 returns-clause-ignorable_unknown_event c = refl
 
 pub returns-clause-unknown_event : goal.returns-clause-unknown_event
-unfolding digits split_number split_lenenc number_at after_point numbers_at column_type columns_with_metadata walk items_in items_of strings_in bits_from is_numeric_number charset_after cell_at cells_at lenenc_at image_at images_at row_at keys_after column_at first_columns encode_with quoted text_of cells_text query_in rotate_in xid_in table_map_in rows_event_in gtid_in parts description_of in_force image_texts row_texts texts_of_rows rows_result kind_by kinds is_inside waiting since_begin newest_map frame_fault algorithm_fault checksum_fault size_fault fault_of lines_of shown_by up_to_fault fault_after shown_after gtid_text line_text transaction_text
+unfolding digits split_number split_lenenc number_at after_point numbers_at column_type columns_with_metadata walk items_in items_of strings_in bits_from is_numeric_number charset_after cell_at cells_at lenenc_at image_at images_at row_at keys_after column_at first_columns encode_with quoted cell_value_text cells_text query_in rotate_in xid_in table_map_in rows_event_in gtid_in parts description_of in_force image_texts row_texts texts_of_rows rows_result kind_by kinds is_inside waiting since_begin newest_map frame_fault algorithm_fault checksum_fault size_fault fault_of lines_of shown_by up_to_fault fault_after shown_after gtid_text line_text transaction_text
 returns-clause-unknown_event c = refl
 
 pub returns-clause-tagged_gtid : goal.returns-clause-tagged_gtid
-unfolding digits split_number split_lenenc number_at after_point numbers_at column_type columns_with_metadata walk items_in items_of strings_in bits_from is_numeric_number charset_after cell_at cells_at lenenc_at image_at images_at row_at keys_after column_at first_columns encode_with quoted text_of cells_text query_in rotate_in xid_in table_map_in rows_event_in gtid_in parts description_of in_force image_texts row_texts texts_of_rows rows_result kind_by kinds is_inside waiting since_begin newest_map frame_fault algorithm_fault checksum_fault size_fault fault_of lines_of shown_by up_to_fault fault_after shown_after gtid_text line_text transaction_text
+unfolding digits split_number split_lenenc number_at after_point numbers_at column_type columns_with_metadata walk items_in items_of strings_in bits_from is_numeric_number charset_after cell_at cells_at lenenc_at image_at images_at row_at keys_after column_at first_columns encode_with quoted cell_value_text cells_text query_in rotate_in xid_in table_map_in rows_event_in gtid_in parts description_of in_force image_texts row_texts texts_of_rows rows_result kind_by kinds is_inside waiting since_begin newest_map frame_fault algorithm_fault checksum_fault size_fault fault_of lines_of shown_by up_to_fault fault_after shown_after gtid_text line_text transaction_text
 returns-clause-tagged_gtid c = refl
 
 pub returns-clause-commit_query : goal.returns-clause-commit_query
-unfolding digits split_number split_lenenc number_at after_point numbers_at column_type columns_with_metadata walk items_in items_of strings_in bits_from is_numeric_number charset_after cell_at cells_at lenenc_at image_at images_at row_at keys_after column_at first_columns encode_with quoted text_of cells_text query_in rotate_in xid_in table_map_in rows_event_in gtid_in parts description_of in_force image_texts row_texts texts_of_rows rows_result kind_by kinds is_inside waiting since_begin newest_map frame_fault algorithm_fault checksum_fault size_fault fault_of lines_of shown_by up_to_fault fault_after shown_after gtid_text line_text transaction_text
+unfolding digits split_number split_lenenc number_at after_point numbers_at column_type columns_with_metadata walk items_in items_of strings_in bits_from is_numeric_number charset_after cell_at cells_at lenenc_at image_at images_at row_at keys_after column_at first_columns encode_with quoted cell_value_text cells_text query_in rotate_in xid_in table_map_in rows_event_in gtid_in parts description_of in_force image_texts row_texts texts_of_rows rows_result kind_by kinds is_inside waiting since_begin newest_map frame_fault algorithm_fault checksum_fault size_fault fault_of lines_of shown_by up_to_fault fault_after shown_after gtid_text line_text transaction_text
 returns-clause-commit_query c = refl
 
 pub returns-clause-rollback_query : goal.returns-clause-rollback_query
-unfolding digits split_number split_lenenc number_at after_point numbers_at column_type columns_with_metadata walk items_in items_of strings_in bits_from is_numeric_number charset_after cell_at cells_at lenenc_at image_at images_at row_at keys_after column_at first_columns encode_with quoted text_of cells_text query_in rotate_in xid_in table_map_in rows_event_in gtid_in parts description_of in_force image_texts row_texts texts_of_rows rows_result kind_by kinds is_inside waiting since_begin newest_map frame_fault algorithm_fault checksum_fault size_fault fault_of lines_of shown_by up_to_fault fault_after shown_after gtid_text line_text transaction_text
+unfolding digits split_number split_lenenc number_at after_point numbers_at column_type columns_with_metadata walk items_in items_of strings_in bits_from is_numeric_number charset_after cell_at cells_at lenenc_at image_at images_at row_at keys_after column_at first_columns encode_with quoted cell_value_text cells_text query_in rotate_in xid_in table_map_in rows_event_in gtid_in parts description_of in_force image_texts row_texts texts_of_rows rows_result kind_by kinds is_inside waiting since_begin newest_map frame_fault algorithm_fault checksum_fault size_fault fault_of lines_of shown_by up_to_fault fault_after shown_after gtid_text line_text transaction_text
 returns-clause-rollback_query c = refl
 
 pub returns-clause-short_rotate : goal.returns-clause-short_rotate
-unfolding digits split_number split_lenenc number_at after_point numbers_at column_type columns_with_metadata walk items_in items_of strings_in bits_from is_numeric_number charset_after cell_at cells_at lenenc_at image_at images_at row_at keys_after column_at first_columns encode_with quoted text_of cells_text query_in rotate_in xid_in table_map_in rows_event_in gtid_in parts description_of in_force image_texts row_texts texts_of_rows rows_result kind_by kinds is_inside waiting since_begin newest_map frame_fault algorithm_fault checksum_fault size_fault fault_of lines_of shown_by up_to_fault fault_after shown_after gtid_text line_text transaction_text
+unfolding digits split_number split_lenenc number_at after_point numbers_at column_type columns_with_metadata walk items_in items_of strings_in bits_from is_numeric_number charset_after cell_at cells_at lenenc_at image_at images_at row_at keys_after column_at first_columns encode_with quoted cell_value_text cells_text query_in rotate_in xid_in table_map_in rows_event_in gtid_in parts description_of in_force image_texts row_texts texts_of_rows rows_result kind_by kinds is_inside waiting since_begin newest_map frame_fault algorithm_fault checksum_fault size_fault fault_of lines_of shown_by up_to_fault fault_after shown_after gtid_text line_text transaction_text
 returns-clause-short_rotate c = refl
 
 pub returns-clause-real_rotate_within_a_transaction : goal.returns-clause-real_rotate_within_a_transaction
-unfolding digits split_number split_lenenc number_at after_point numbers_at column_type columns_with_metadata walk items_in items_of strings_in bits_from is_numeric_number charset_after cell_at cells_at lenenc_at image_at images_at row_at keys_after column_at first_columns encode_with quoted text_of cells_text query_in rotate_in xid_in table_map_in rows_event_in gtid_in parts description_of in_force image_texts row_texts texts_of_rows rows_result kind_by kinds is_inside waiting since_begin newest_map frame_fault algorithm_fault checksum_fault size_fault fault_of lines_of shown_by up_to_fault fault_after shown_after gtid_text line_text transaction_text
+unfolding digits split_number split_lenenc number_at after_point numbers_at column_type columns_with_metadata walk items_in items_of strings_in bits_from is_numeric_number charset_after cell_at cells_at lenenc_at image_at images_at row_at keys_after column_at first_columns encode_with quoted cell_value_text cells_text query_in rotate_in xid_in table_map_in rows_event_in gtid_in parts description_of in_force image_texts row_texts texts_of_rows rows_result kind_by kinds is_inside waiting since_begin newest_map frame_fault algorithm_fault checksum_fault size_fault fault_of lines_of shown_by up_to_fault fault_after shown_after gtid_text line_text transaction_text
 returns-clause-real_rotate_within_a_transaction c = refl

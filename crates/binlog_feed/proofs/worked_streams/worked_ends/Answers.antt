@@ -16,7 +16,7 @@ use Rattle.rows_cells.specs.EventRows.{images_at, row_at}
 use Rattle.rows_events.specs.Plans.{keys_after, column_at, first_columns}
 use Rattle.hex.specs.Hex.{encode_with}
 use Rattle.feed_writers.specs.Quoting.{quoted}
-use Rattle.feed_text.specs.CellText.{text_of}
+use Rattle.feed_text.specs.CellText.{cell_value_text}
 use Rattle.feed_text.specs.ImageText.{cells_text}
 use Rattle.feed_kinds.specs.Bodies.{query_in, rotate_in, xid_in, table_map_in, rows_event_in, gtid_in}
 use Rattle.feed_kinds.specs.Events.{parts, description_of, in_force}
@@ -31,37 +31,37 @@ use Rattle.feed_payloads.specs.Streams.{holds_event, event_payloads, verdict_of_
 use Rattle.binlog_feed.proofs.worked_streams.worked_ends.Goals as goal
 
 pub returns-clause-out_of_number : goal.returns-clause-out_of_number
-unfolding digits split_number split_lenenc number_at after_point numbers_at column_type columns_with_metadata walk items_in items_of strings_in bits_from is_numeric_number charset_after cell_at cells_at lenenc_at image_at images_at row_at keys_after column_at first_columns encode_with quoted text_of cells_text query_in rotate_in xid_in table_map_in rows_event_in gtid_in parts description_of in_force image_texts row_texts texts_of_rows rows_result kind_by kinds is_inside waiting since_begin newest_map frame_fault algorithm_fault checksum_fault size_fault fault_of lines_of shown_by up_to_fault fault_after shown_after gtid_text line_text transaction_text slice_of chunks framings sequence_id_after payload_in packets_in full_run holds_event event_payloads verdict_of_other stream_transactions stream_verdict
+unfolding digits split_number split_lenenc number_at after_point numbers_at column_type columns_with_metadata walk items_in items_of strings_in bits_from is_numeric_number charset_after cell_at cells_at lenenc_at image_at images_at row_at keys_after column_at first_columns encode_with quoted cell_value_text cells_text query_in rotate_in xid_in table_map_in rows_event_in gtid_in parts description_of in_force image_texts row_texts texts_of_rows rows_result kind_by kinds is_inside waiting since_begin newest_map frame_fault algorithm_fault checksum_fault size_fault fault_of lines_of shown_by up_to_fault fault_after shown_after gtid_text line_text transaction_text slice_of chunks framings sequence_id_after payload_in packets_in full_run holds_event event_payloads verdict_of_other stream_transactions stream_verdict
 returns-clause-out_of_number c = refl
 
 pub returns-clause-cut_short : goal.returns-clause-cut_short
-unfolding digits split_number split_lenenc number_at after_point numbers_at column_type columns_with_metadata walk items_in items_of strings_in bits_from is_numeric_number charset_after cell_at cells_at lenenc_at image_at images_at row_at keys_after column_at first_columns encode_with quoted text_of cells_text query_in rotate_in xid_in table_map_in rows_event_in gtid_in parts description_of in_force image_texts row_texts texts_of_rows rows_result kind_by kinds is_inside waiting since_begin newest_map frame_fault algorithm_fault checksum_fault size_fault fault_of lines_of shown_by up_to_fault fault_after shown_after gtid_text line_text transaction_text slice_of chunks framings sequence_id_after payload_in packets_in full_run holds_event event_payloads verdict_of_other stream_transactions stream_verdict
+unfolding digits split_number split_lenenc number_at after_point numbers_at column_type columns_with_metadata walk items_in items_of strings_in bits_from is_numeric_number charset_after cell_at cells_at lenenc_at image_at images_at row_at keys_after column_at first_columns encode_with quoted cell_value_text cells_text query_in rotate_in xid_in table_map_in rows_event_in gtid_in parts description_of in_force image_texts row_texts texts_of_rows rows_result kind_by kinds is_inside waiting since_begin newest_map frame_fault algorithm_fault checksum_fault size_fault fault_of lines_of shown_by up_to_fault fault_after shown_after gtid_text line_text transaction_text slice_of chunks framings sequence_id_after payload_in packets_in full_run holds_event event_payloads verdict_of_other stream_transactions stream_verdict
 returns-clause-cut_short c = refl
 
 pub returns-clause-too_large : goal.returns-clause-too_large
-unfolding digits split_number split_lenenc number_at after_point numbers_at column_type columns_with_metadata walk items_in items_of strings_in bits_from is_numeric_number charset_after cell_at cells_at lenenc_at image_at images_at row_at keys_after column_at first_columns encode_with quoted text_of cells_text query_in rotate_in xid_in table_map_in rows_event_in gtid_in parts description_of in_force image_texts row_texts texts_of_rows rows_result kind_by kinds is_inside waiting since_begin newest_map frame_fault algorithm_fault checksum_fault size_fault fault_of lines_of shown_by up_to_fault fault_after shown_after gtid_text line_text transaction_text slice_of chunks framings sequence_id_after payload_in packets_in full_run holds_event event_payloads verdict_of_other stream_transactions stream_verdict
+unfolding digits split_number split_lenenc number_at after_point numbers_at column_type columns_with_metadata walk items_in items_of strings_in bits_from is_numeric_number charset_after cell_at cells_at lenenc_at image_at images_at row_at keys_after column_at first_columns encode_with quoted cell_value_text cells_text query_in rotate_in xid_in table_map_in rows_event_in gtid_in parts description_of in_force image_texts row_texts texts_of_rows rows_result kind_by kinds is_inside waiting since_begin newest_map frame_fault algorithm_fault checksum_fault size_fault fault_of lines_of shown_by up_to_fault fault_after shown_after gtid_text line_text transaction_text slice_of chunks framings sequence_id_after payload_in packets_in full_run holds_event event_payloads verdict_of_other stream_transactions stream_verdict
 returns-clause-too_large c = refl
 
 pub returns-clause-too_large_first : goal.returns-clause-too_large_first
-unfolding digits split_number split_lenenc number_at after_point numbers_at column_type columns_with_metadata walk items_in items_of strings_in bits_from is_numeric_number charset_after cell_at cells_at lenenc_at image_at images_at row_at keys_after column_at first_columns encode_with quoted text_of cells_text query_in rotate_in xid_in table_map_in rows_event_in gtid_in parts description_of in_force image_texts row_texts texts_of_rows rows_result kind_by kinds is_inside waiting since_begin newest_map frame_fault algorithm_fault checksum_fault size_fault fault_of lines_of shown_by up_to_fault fault_after shown_after gtid_text line_text transaction_text slice_of chunks framings sequence_id_after payload_in packets_in full_run holds_event event_payloads verdict_of_other stream_transactions stream_verdict
+unfolding digits split_number split_lenenc number_at after_point numbers_at column_type columns_with_metadata walk items_in items_of strings_in bits_from is_numeric_number charset_after cell_at cells_at lenenc_at image_at images_at row_at keys_after column_at first_columns encode_with quoted cell_value_text cells_text query_in rotate_in xid_in table_map_in rows_event_in gtid_in parts description_of in_force image_texts row_texts texts_of_rows rows_result kind_by kinds is_inside waiting since_begin newest_map frame_fault algorithm_fault checksum_fault size_fault fault_of lines_of shown_by up_to_fault fault_after shown_after gtid_text line_text transaction_text slice_of chunks framings sequence_id_after payload_in packets_in full_run holds_event event_payloads verdict_of_other stream_transactions stream_verdict
 returns-clause-too_large_first c = refl
 
 pub returns-clause-empty_payload : goal.returns-clause-empty_payload
-unfolding digits split_number split_lenenc number_at after_point numbers_at column_type columns_with_metadata walk items_in items_of strings_in bits_from is_numeric_number charset_after cell_at cells_at lenenc_at image_at images_at row_at keys_after column_at first_columns encode_with quoted text_of cells_text query_in rotate_in xid_in table_map_in rows_event_in gtid_in parts description_of in_force image_texts row_texts texts_of_rows rows_result kind_by kinds is_inside waiting since_begin newest_map frame_fault algorithm_fault checksum_fault size_fault fault_of lines_of shown_by up_to_fault fault_after shown_after gtid_text line_text transaction_text slice_of chunks framings sequence_id_after payload_in packets_in full_run holds_event event_payloads verdict_of_other stream_transactions stream_verdict
+unfolding digits split_number split_lenenc number_at after_point numbers_at column_type columns_with_metadata walk items_in items_of strings_in bits_from is_numeric_number charset_after cell_at cells_at lenenc_at image_at images_at row_at keys_after column_at first_columns encode_with quoted cell_value_text cells_text query_in rotate_in xid_in table_map_in rows_event_in gtid_in parts description_of in_force image_texts row_texts texts_of_rows rows_result kind_by kinds is_inside waiting since_begin newest_map frame_fault algorithm_fault checksum_fault size_fault fault_of lines_of shown_by up_to_fault fault_after shown_after gtid_text line_text transaction_text slice_of chunks framings sequence_id_after payload_in packets_in full_run holds_event event_payloads verdict_of_other stream_transactions stream_verdict
 returns-clause-empty_payload c = refl
 
 pub returns-clause-long_closing_payload : goal.returns-clause-long_closing_payload
-unfolding digits split_number split_lenenc number_at after_point numbers_at column_type columns_with_metadata walk items_in items_of strings_in bits_from is_numeric_number charset_after cell_at cells_at lenenc_at image_at images_at row_at keys_after column_at first_columns encode_with quoted text_of cells_text query_in rotate_in xid_in table_map_in rows_event_in gtid_in parts description_of in_force image_texts row_texts texts_of_rows rows_result kind_by kinds is_inside waiting since_begin newest_map frame_fault algorithm_fault checksum_fault size_fault fault_of lines_of shown_by up_to_fault fault_after shown_after gtid_text line_text transaction_text slice_of chunks framings sequence_id_after payload_in packets_in full_run holds_event event_payloads verdict_of_other stream_transactions stream_verdict
+unfolding digits split_number split_lenenc number_at after_point numbers_at column_type columns_with_metadata walk items_in items_of strings_in bits_from is_numeric_number charset_after cell_at cells_at lenenc_at image_at images_at row_at keys_after column_at first_columns encode_with quoted cell_value_text cells_text query_in rotate_in xid_in table_map_in rows_event_in gtid_in parts description_of in_force image_texts row_texts texts_of_rows rows_result kind_by kinds is_inside waiting since_begin newest_map frame_fault algorithm_fault checksum_fault size_fault fault_of lines_of shown_by up_to_fault fault_after shown_after gtid_text line_text transaction_text slice_of chunks framings sequence_id_after payload_in packets_in full_run holds_event event_payloads verdict_of_other stream_transactions stream_verdict
 returns-clause-long_closing_payload c = refl
 
 pub returns-clause-short_event_payload : goal.returns-clause-short_event_payload
-unfolding digits split_number split_lenenc number_at after_point numbers_at column_type columns_with_metadata walk items_in items_of strings_in bits_from is_numeric_number charset_after cell_at cells_at lenenc_at image_at images_at row_at keys_after column_at first_columns encode_with quoted text_of cells_text query_in rotate_in xid_in table_map_in rows_event_in gtid_in parts description_of in_force image_texts row_texts texts_of_rows rows_result kind_by kinds is_inside waiting since_begin newest_map frame_fault algorithm_fault checksum_fault size_fault fault_of lines_of shown_by up_to_fault fault_after shown_after gtid_text line_text transaction_text slice_of chunks framings sequence_id_after payload_in packets_in full_run holds_event event_payloads verdict_of_other stream_transactions stream_verdict
+unfolding digits split_number split_lenenc number_at after_point numbers_at column_type columns_with_metadata walk items_in items_of strings_in bits_from is_numeric_number charset_after cell_at cells_at lenenc_at image_at images_at row_at keys_after column_at first_columns encode_with quoted cell_value_text cells_text query_in rotate_in xid_in table_map_in rows_event_in gtid_in parts description_of in_force image_texts row_texts texts_of_rows rows_result kind_by kinds is_inside waiting since_begin newest_map frame_fault algorithm_fault checksum_fault size_fault fault_of lines_of shown_by up_to_fault fault_after shown_after gtid_text line_text transaction_text slice_of chunks framings sequence_id_after payload_in packets_in full_run holds_event event_payloads verdict_of_other stream_transactions stream_verdict
 returns-clause-short_event_payload c = refl
 
 pub returns-clause-error_packet : goal.returns-clause-error_packet
-unfolding digits split_number split_lenenc number_at after_point numbers_at column_type columns_with_metadata walk items_in items_of strings_in bits_from is_numeric_number charset_after cell_at cells_at lenenc_at image_at images_at row_at keys_after column_at first_columns encode_with quoted text_of cells_text query_in rotate_in xid_in table_map_in rows_event_in gtid_in parts description_of in_force image_texts row_texts texts_of_rows rows_result kind_by kinds is_inside waiting since_begin newest_map frame_fault algorithm_fault checksum_fault size_fault fault_of lines_of shown_by up_to_fault fault_after shown_after gtid_text line_text transaction_text slice_of chunks framings sequence_id_after payload_in packets_in full_run holds_event event_payloads verdict_of_other stream_transactions stream_verdict
+unfolding digits split_number split_lenenc number_at after_point numbers_at column_type columns_with_metadata walk items_in items_of strings_in bits_from is_numeric_number charset_after cell_at cells_at lenenc_at image_at images_at row_at keys_after column_at first_columns encode_with quoted cell_value_text cells_text query_in rotate_in xid_in table_map_in rows_event_in gtid_in parts description_of in_force image_texts row_texts texts_of_rows rows_result kind_by kinds is_inside waiting since_begin newest_map frame_fault algorithm_fault checksum_fault size_fault fault_of lines_of shown_by up_to_fault fault_after shown_after gtid_text line_text transaction_text slice_of chunks framings sequence_id_after payload_in packets_in full_run holds_event event_payloads verdict_of_other stream_transactions stream_verdict
 returns-clause-error_packet c = refl
 
 pub returns-clause-bytes_after_the_closing_packet : goal.returns-clause-bytes_after_the_closing_packet
-unfolding digits split_number split_lenenc number_at after_point numbers_at column_type columns_with_metadata walk items_in items_of strings_in bits_from is_numeric_number charset_after cell_at cells_at lenenc_at image_at images_at row_at keys_after column_at first_columns encode_with quoted text_of cells_text query_in rotate_in xid_in table_map_in rows_event_in gtid_in parts description_of in_force image_texts row_texts texts_of_rows rows_result kind_by kinds is_inside waiting since_begin newest_map frame_fault algorithm_fault checksum_fault size_fault fault_of lines_of shown_by up_to_fault fault_after shown_after gtid_text line_text transaction_text slice_of chunks framings sequence_id_after payload_in packets_in full_run holds_event event_payloads verdict_of_other stream_transactions stream_verdict
+unfolding digits split_number split_lenenc number_at after_point numbers_at column_type columns_with_metadata walk items_in items_of strings_in bits_from is_numeric_number charset_after cell_at cells_at lenenc_at image_at images_at row_at keys_after column_at first_columns encode_with quoted cell_value_text cells_text query_in rotate_in xid_in table_map_in rows_event_in gtid_in parts description_of in_force image_texts row_texts texts_of_rows rows_result kind_by kinds is_inside waiting since_begin newest_map frame_fault algorithm_fault checksum_fault size_fault fault_of lines_of shown_by up_to_fault fault_after shown_after gtid_text line_text transaction_text slice_of chunks framings sequence_id_after payload_in packets_in full_run holds_event event_payloads verdict_of_other stream_transactions stream_verdict
 returns-clause-bytes_after_the_closing_packet c = refl

@@ -19,4 +19,4 @@ loop-at-preserved c = record {
 }
 
 pub returns : goal.returns
-returns c = c.register_after_words.ensures ∙ ap (after_bytes c.loop-at.register) (take_rest c.args.bytes.now c.loop-at.at) ∙ c.loop-at.invariant.same
+returns c = c.register_after_few.ensures ∙ ap (after_bytes c.loop-at.register) (take_rest c.args.bytes.now c.loop-at.at) ∙ c.loop-at.invariant.same

@@ -2,7 +2,7 @@ use Rattle.std.proofs.Common.{◌≡◌, Bool, true, [], None, Ok, refl, sym, ap
 use Rattle.std.specs.Prelude.{Result}
 use Rattle.wire_packets.specs.CodecState.{Decodes, codec_limit}
 use Rattle.wire_packets.specs.declared.error.PacketCodecError.{PacketCodecError}
-use Rattle.feed_serving.specs.Requests.{payload_of_packet}
+use Rattle.feed_serving.specs.RequestedPackets.{payload_of_packet}
 use Rattle.feed_serving.proofs.RequestLemmas.{decoded, packet_whole, packet_more, packet_waits, packet_stops, left_none, left_some}
 use Rattle.feed_serving.proofs.requests.payload_of.Goals.{else-is_whole-via-then-is_whole+else-is_empty, else-is_whole-via-else-is_whole}
 use Rattle.feed_serving.proofs.requests.payload_of.Goals as goal

@@ -1,6 +1,6 @@
 use Rattle.std.proofs.Common.{◌≡◌, ◌≤◌, Some, sym, ap, ◌∙◌, length, arith}
 use Rattle.std.specs.Prelude.{option_map}
-use Rattle.feed_serving.specs.Requests.{payload_of_packet}
+use Rattle.feed_serving.specs.RequestedPackets.{payload_of_packet}
 use Rattle.feed_serving.proofs.FileLemmas.{flags_failed, first_is, flags_read}
 use Rattle.feed_serving.proofs.requests.requested_position.Goals as goal
 

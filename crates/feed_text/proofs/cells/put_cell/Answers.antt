@@ -10,10 +10,10 @@ returns-in-Value-clause-ok g c =
 
 pub returns-in-Ok-clause-ok : goal.returns-in-Ok-clause-ok
 returns-in-Ok-clause-ok g c =
-    on_ok_weaker c.put_tree_cell.result (λ e. appends c.args.column (kept_text c.args.value.now) _ _ _ (kept_tree _ _ _ c.in-Jsonb.is c.in-Ok.ensures) e) c.put_tree_cell.ensures.ok
+    on_ok_weaker c.put_tree_cell.result (λ e. appends c.args.column (kept_text c.args.value.now) _ _ _ (kept_tree _ _ _ c.in-Jsonb.is c.in-Ok.ensures.tree) e) c.put_tree_cell.ensures.ok
 
 pub returns-in-Err-clause-err : goal.returns-in-Err-clause-err
-returns-in-Err-clause-err g c = (kept_failed c.args.column _ _ _ c.in-Jsonb.is c.in-Err.ensures, refl)
+returns-in-Err-clause-err g c = (kept_failed c.args.column _ _ _ c.in-Jsonb.is c.in-Err.ensures.tree, refl)
 
 pub returns-in-JsonDiff-clause-ok : goal.returns-in-JsonDiff-clause-ok
 returns-in-JsonDiff-clause-ok g c = on_ok_weaker c.put_diffs_cell.result (λ e. rw (kept_diffs _ _ c.in-JsonDiff.is, ← c.deref.ensures.value) e) c.put_diffs_cell.ensures.ok

@@ -3,13 +3,13 @@ use Rattle.std.proofs.Common.{inr, refl, ap, sym, ◌∙◌, map}
 use Rattle.rows_jsonb.specs.Items.{all_found}
 use Rattle.rows_jsonb.specs.JsonDiffViews.{diff_view}
 use Rattle.rows_cells.specs.CellViews.{cell_value}
-use Rattle.feed_text.specs.CellText.{text_of}
+use Rattle.feed_text.specs.CellText.{cell_value_text}
 use Rattle.feed_text.proofs.CellLemmas.{appends, bytes_text, tree_written, decimal_appended, document_failed, diffs_appended, diffs_unwritten, diffs_failed}
 use Rattle.feed_text.proofs.cells.put_cell_ref.Goals as goal
 
 pub returns-in-Bytes-clause-ok : goal.returns-in-Bytes-clause-ok
 returns-in-Bytes-clause-ok g c =
-    on_ok_weaker c.put_bytes_cell.result (λ e. appends c.args.column (text_of (cell_value c.args.cell)) _ _ _ (bytes_text _ _ c.in-Bytes.ensures) e) c.put_bytes_cell.ensures.ok
+    on_ok_weaker c.put_bytes_cell.result (λ e. appends c.args.column (cell_value_text (cell_value c.args.cell)) _ _ _ (bytes_text _ _ c.in-Bytes.ensures) e) c.put_bytes_cell.ensures.ok
 
 pub returns-in-Decimal-clause-ok : goal.returns-in-Decimal-clause-ok
 returns-in-Decimal-clause-ok g c =
@@ -17,7 +17,7 @@ returns-in-Decimal-clause-ok g c =
 
 pub returns-in-Ok-clause-ok : goal.returns-in-Ok-clause-ok
 returns-in-Ok-clause-ok g c =
-    on_ok_weaker c.put_tree_cell.result (λ e. appends c.args.column (text_of (cell_value c.args.cell)) _ _ _ (tree_written _ _ _ c.in-Json.ensures c.in-Ok.ensures) e) c.put_tree_cell.ensures.ok
+    on_ok_weaker c.put_tree_cell.result (λ e. appends c.args.column (cell_value_text (cell_value c.args.cell)) _ _ _ (tree_written _ _ _ c.in-Json.ensures c.in-Ok.ensures) e) c.put_tree_cell.ensures.ok
 
 pub returns-in-Err-clause-err : goal.returns-in-Err-clause-err
 returns-in-Err-clause-err g c = (inr (document_failed c.args.column _ _ _ c.in-Json.ensures c.in-Err.ensures), refl)

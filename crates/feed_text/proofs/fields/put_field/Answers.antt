@@ -1,10 +1,10 @@
 use Rattle.std.proofs.Common.{codes, refl, arith}
 use Rattle.rows_cells.specs.CellValues.{null}
-use Rattle.feed_text.specs.CellText.{text_of}
+use Rattle.feed_text.specs.CellText.{cell_value_text}
 use Rattle.feed_text.proofs.fields.put_field.Goals as goal
 
 pub returns-then-field : goal.returns-then-field
-unfolding text_of
+unfolding cell_value_text
 returns-then-field c = record {
   value = null;
   text = codes "NULL";

@@ -1,4 +1,4 @@
-use Rattle.std.proofs.Common.{◌≡◌, ◌+◌, ◌*◌, ◌++◌, ℕ, take, drop, List, refl, ap, ◌∙◌, sym, arith, append_assoc}
+use Rattle.std.proofs.Common.{◌≡◌, ◌+◌, ◌*◌, ◌/◌, ◌%◌, ◌++◌, ℕ, length, take, drop, List, refl, ap, ◌∙◌, sym, arith, append_assoc}
 use Rattle.std.proofs.lemmas.List.{append-nil}
 use Rattle.wire_packets.specs.Framing.{max_chunk_len, chunk, chunks, slice_of}
 use Rattle.wire_packets.proofs.FramingLemmas.{chunks_none, chunks_more, next_slice, after_slice, same_chunk}
@@ -29,3 +29,13 @@ loop-i-preserved c =
           ∙ ap (λ (t : List ℕ). c.args.dst.now.items ++ t) (sym (chunks_more max_chunk_len c.args.id c.loop-i.i c.args.src.now));
       room = omega (arith, c.put_chunk.ensures.spare, c.split_at.ensures.front_len, c.split_at.ensures.back_len, c.loop-i.invariant.room, c.min.ensures);
     }
+
+pub returns-clause-framing : goal.returns-clause-framing
+returns-clause-framing c =
+    let all : c.loop-i.i ≡ length c.args.src.now / max_chunk_len + 1 = omega arith in
+    c.loop-i.invariant.written ∙ ap (λ (n : ℕ). c.args.dst.now.items ++ chunks max_chunk_len c.args.id n c.args.src.now) all
+
+pub returns-clause-next : goal.returns-clause-next
+returns-clause-next c =
+    let all : c.args.id + c.loop-i.i ≡ c.args.id + length c.args.src.now / max_chunk_len + 1 = omega arith in
+    c.loop-i.invariant.number ∙ ap (λ (n : ℕ). n % 256) all
