@@ -1,5 +1,6 @@
 """The crates of the repository, as crates.txt lists them."""
 import os
+import subprocess
 import sys
 from pathlib import Path
 
@@ -28,3 +29,16 @@ def at_once(memory):
     """Returns how many processes of this memory to run side by side: one for each processor, as far as memory allows."""
     found = os.sysconf("SC_PAGE_SIZE") * os.sysconf("SC_PHYS_PAGES")
     return max(1, min(len(os.sched_getaffinity(0)), found // memory))
+
+
+def with_program(room, name, libraries, sources):
+    """Copies the crates to a folder, with one more program, and returns the program's folder there."""
+    copy = f"mkdir '{room}/.git' && tar --exclude=out -cf - crates crates.txt HANDLES | tar -xf - -C '{room}'"
+    subprocess.run(copy, shell=True, check=True, cwd=ROOT)
+    folder = Path(room) / "crates" / name
+    (folder / "src").mkdir(parents=True)
+    for file, text in sources.items():
+        (folder / "src" / file).write_text(text)
+    with (Path(room) / "crates.txt").open("a") as lines:
+        lines.write(f"{name}: {libraries}\n")
+    return folder

@@ -3,9 +3,9 @@ use Rattle.std.proofs.Common.{◌≡◌, ◌⊎◌, inl, inr, ℕ, suc, ◌<◌,
 use Rattle.std.specs.Prelude.{◌==◌, Result}
 use Rattle.std.proofs.lemmas.List.{length-map}
 use Rattle.wire_buf.specs.Encoding.{Alone}
-use Rattle.rows_cells.specs.Images.{ColumnValue, ImageShape}
-use Rattle.rows_cells.specs.EventRows.{IsEventRow, row_at}
-use Rattle.rows_cells.proofs.RowLemmas.{row-is, row-here, row-shrinks}
+use Rattle.rows_images.specs.Images.{ColumnValue, ImageShape}
+use Rattle.rows_images.specs.EventRows.{IsEventRow, row_at}
+use Rattle.rows_images.proofs.RowLemmas.{row-is, row-here, row-shrinks}
 use Rattle.rows_jsonb.specs.Items.{Walked, Finds, items_at}
 use Rattle.rows_values.specs.Readings.{Reading, ◌>>=◌}
 use Rattle.rows_jsonb.proofs.ItemLemmas.{walk_done, walk_on, items-found}

@@ -2,8 +2,8 @@
 use Rattle.std.specs.Prelude.{◌≡◌, List}
 use Rattle.std.specs.declared.result.Result.TheVariants.{Ok}
 use Rattle.wire_buf.specs.Encoding.{Alone}
-use Rattle.rows_cells.specs.EventRows.{IsEventRow, row_at}
-use Rattle.rows_cells.specs.Images.{ImageShape}
+use Rattle.rows_images.specs.EventRows.{IsEventRow, row_at}
+use Rattle.rows_images.specs.Images.{ImageShape}
 use Rattle.rows_events.specs.EventShapes.{event_rows, event_shapes}
 use Rattle.rows_events.specs.RowsEvents.{RowsBody}
 use Rattle.rows_jsonb.specs.Items.{Finds}

@@ -23,6 +23,15 @@ pub use Rattle.feed_reports.specs.MagicNumbers
 pub use Rattle.feed_reports.specs.Reports
 pub use Rattle.feed_reports.specs.ReportSteps
 pub mod WorkedReports
+pub use Rattle.feed_rules.specs.Changes as TransactionChanges
+pub use Rattle.feed_rules.specs.Recorders
+pub use Rattle.feed_changes.specs.KeptTables
+pub use Rattle.feed_changes.specs.KeptChanges
+pub use Rattle.feed_changes.specs.ChangeViews
+pub use Rattle.feed_changes.specs.CheckedRows
+pub use Rattle.feed_changes.specs.CommittedLists
+pub use Rattle.feed_changes.specs.ChangeLogs
+pub use Rattle.feed_changes.specs.Laws as ChangeLaws
 pub use Rattle.feed_payloads.specs.Words as StreamWords
 pub use Rattle.feed_payloads.specs.Streams
 pub use Rattle.feed_streams.specs.Acknowledgements

@@ -38,6 +38,12 @@ ghost use Rattle.binlog_feed.specs.LookingBack.{HasNewest, IsAnyGtid, IsMap, end
 ghost use Rattle.binlog_feed.specs.Repair.{TruncatedTextIsRepaired};
 ghost use Rattle.binlog_feed.specs.Rests.{IsUndamagedUpTo, HasRest};
 
+pub use crate::check_laws::{descriptions_are_read, parts_are_those_of_events};
+pub use crate::kind_laws::bodies_are_read;
+pub use crate::report_laws::events_are_longest;
+pub use crate::run_laws::{broken_runs_are_whole, packets_of_a_prefix};
+pub use crate::serving_laws::{lengths_of_packets, requests_are_computed, requests_are_packets};
+pub use crate::stream_laws::payloads_are_of_their_events;
 pub use crate::worked_reports::worked_reports;
 pub use crate::worked_rules::{worked_checksums, worked_kinds, worked_rows};
 pub use crate::worked_runs::{worked_acknowledged_runs, worked_followable, worked_runs};
@@ -45,18 +51,12 @@ pub use crate::worked_serving::{worked_damage, worked_dumps, worked_positions};
 pub use crate::worked_streams::{
     worked_acknowledgements, worked_answers, worked_ends, worked_requests,
 };
-pub use feed_checks::laws::{descriptions_are_read, parts_are_those_of_events};
 pub use feed_kept::laws::commit_lines_are_read;
 pub use feed_kept::worked::worked_kept;
-pub use feed_kinds::laws::bodies_are_read;
-pub use feed_reports::laws::events_are_longest;
 pub use feed_rows::laws::plans_are_those_of_maps;
 pub use feed_rules::laws::{
     first_events_show_the_first_transactions, what_came_before_does_not_matter,
 };
-pub use feed_runs::laws::{broken_runs_are_whole, packets_of_a_prefix};
-pub use feed_serving::laws::{lengths_of_packets, requests_are_computed, requests_are_packets};
-pub use feed_streams::laws::payloads_are_of_their_events;
 pub use feed_text::laws::{
     equal_quotes_are_of_equal_bytes, values_have_the_texts_of_cells,
     values_of_cells_have_their_texts, worked_quote, worked_times,

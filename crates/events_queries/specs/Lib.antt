@@ -1,5 +1,4 @@
 pub mod Queries
-pub mod LoadQueries
 pub mod QueryViews
 pub mod StatusVars
 pub mod StatusVarsComputed

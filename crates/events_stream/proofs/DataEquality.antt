@@ -1,22 +1,30 @@
 -- What `==` means for bodies of any type.
-use Rattle.std.proofs.Common.{true≢false, sym, rules}
+use Rattle.std.proofs.Common.{Option, Some, None, true≢false, sym, ap, rules}
 use Rattle.std.specs.Bool.{Decides}
 use Rattle.std.proofs.lemmas.Bool.Decides.{Decides-and}
 use denote.Enum.Bare.{same_true, true_same}
 use Rattle.std.proofs.lemmas.Slice.Eq.{bytes_eq-Decides}
-use Rattle.wire_forms.specs.RawTexts.{raw_string}
 use Rattle.rows_consts.specs.contracts.event_type.EventType.{the_type as event_type}
 use Rattle.rows_meta.proofs.MapLawLemmas.{maps_decide}
 use Rattle.events_frames.proofs.LawLemmas.{descriptions_decide}
 use Rattle.events_bodies.proofs.UserVarEquality.{variables_decide}
 use Rattle.events_queries.proofs.QueryLemmas.{queries_decide}
-use Rattle.events_queries.proofs.LoadQueryLemmas.{load_queries_decide}
+use Rattle.events_bodies.proofs.LoadQueryLemmas.{load_queries_decide}
 use Rattle.events_gtids.proofs.GtidEquality.{gtids_decide}
 use Rattle.events_rows.proofs.EqualLemmas.{data_decide}
-use Rattle.events_stream.specs.DataEncodings.{HaveSameContents}
-use Rattle.events_stream.specs.EqualBodies.{same_data}
+use Rattle.events_stream.specs.DataEncodings.{HaveSameContents, IsSameRaw}
+use Rattle.events_stream.specs.EqualBodies.{same_data, same_raw}
+use Rattle.events_stream.specs.RawBodies.{RawBody, raw_of}
 use Rattle.events_stream.specs.declared.event_data.EventData.{EventData}
 use Rattle.events_stream.specs.declared.event_data.EventData.TheVariants as read
+
+raws_decide : (r s : Option RawBody) → Decides (same_raw r s) (IsSameRaw r s)
+raws_decide (Some r) (Some s) =
+    let both = Decides-and _ _ (same_true event_type (search rules) r.event_type s.event_type, true_same event_type r.event_type s.event_type) (bytes_eq-Decides r.bytes s.bytes) in
+    (λ e. let parts = both.0 e in search (rules, parts), λ h. both.1 (ap (λ x. x.event_type) h, ap (λ x. x.bytes) h))
+raws_decide (Some r) None = (λ e. absurd (true≢false (sym e)), λ h. absurd h)
+raws_decide None (Some s) = (λ e. absurd (true≢false (sym e)), λ h. absurd h)
+raws_decide None None = (λ e. absurd (true≢false (sym e)), λ h. absurd h)
 
 -- bodies in two formats are different
 pub bodies_decide : (a b : EventData) → Decides (same_data a b) (HaveSameContents a b)
@@ -36,7 +44,4 @@ bodies_decide (read.RowsQueryEvent a) (read.RowsQueryEvent b) = search rules
 bodies_decide (read.GtidEvent a) (read.GtidEvent b) = gtids_decide a b
 bodies_decide (read.AnonymousGtidEvent a) (read.AnonymousGtidEvent b) = gtids_decide a.0 b.0
 bodies_decide (read.RowsEvent a) (read.RowsEvent b) = data_decide a b
-bodies_decide (read.Raw t a) (read.Raw u b) =
-    Decides-and _ _ (same_true event_type (search rules) t u, true_same event_type t u)
-    (bytes_eq-Decides (raw_string a) (raw_string b))
-bodies_decide a b = (λ e. absurd (true≢false (sym e)), λ h. absurd h)
+bodies_decide a b = raws_decide (raw_of a) (raw_of b)

@@ -1,4 +1,5 @@
 pub mod DataLemmas
+pub mod RawLemmas
 pub mod DataEquality
 pub mod FileLemmas
 pub mod EventLemmas

@@ -1,4 +1,5 @@
 pub mod BodyFormats
+pub mod RawBodies
 pub mod DataReadings
 pub mod DataEncodings
 pub mod OwnedEvents

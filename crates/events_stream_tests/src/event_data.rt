@@ -275,25 +275,43 @@ fn is_raw(alloc: Global, event_type: EventType, start: &str) -> bool {
     is_kept(alloc, event_type, start, b"\xffany bytes") && is_kept(alloc, event_type, start, b"")
 }
 
-fn events_without_a_encoding(alloc: Global) -> bool {
-    is_raw(alloc, EventType::UNKNOWN_EVENT, "Raw(UNKNOWN_EVENT,")
-        && is_raw(alloc, EventType::STOP_EVENT, "Raw(STOP_EVENT,")
-        && is_raw(alloc, EventType::HEARTBEAT_EVENT, "Raw(HEARTBEAT_EVENT,")
-        && is_raw(
-            alloc,
-            EventType::PREVIOUS_GTIDS_EVENT,
-            "Raw(PREVIOUS_GTIDS_EVENT,",
-        )
-        && is_raw(
-            alloc,
-            EventType::TRANSACTION_PAYLOAD_EVENT,
-            "Raw(TRANSACTION_PAYLOAD_EVENT,",
-        )
-        && is_raw(
-            alloc,
-            EventType::PRE_GA_WRITE_ROWS_EVENT,
-            "Raw(PRE_GA_WRITE_ROWS_EVENT,",
-        )
+/// The types that have no format, with the names of their variants.
+const RAW_TYPES: [(EventType, &str); 21] = [
+    (EventType::UNKNOWN_EVENT, "UnknownEvent("),
+    (EventType::START_EVENT_V3, "StartEventV3("),
+    (EventType::STOP_EVENT, "StopEvent("),
+    (EventType::LOAD_EVENT, "LoadEvent("),
+    (EventType::SLAVE_EVENT, "SlaveEvent("),
+    (EventType::CREATE_FILE_EVENT, "CreateFileEvent("),
+    (EventType::APPEND_BLOCK_EVENT, "AppendBlockEvent("),
+    (EventType::EXEC_LOAD_EVENT, "ExecLoadEvent("),
+    (EventType::DELETE_FILE_EVENT, "DeleteFileEvent("),
+    (EventType::NEW_LOAD_EVENT, "NewLoadEvent("),
+    (EventType::PRE_GA_WRITE_ROWS_EVENT, "PreGaWriteRowsEvent("),
+    (EventType::PRE_GA_UPDATE_ROWS_EVENT, "PreGaUpdateRowsEvent("),
+    (EventType::PRE_GA_DELETE_ROWS_EVENT, "PreGaDeleteRowsEvent("),
+    (EventType::HEARTBEAT_EVENT, "HeartbeatEvent("),
+    (EventType::IGNORABLE_EVENT, "IgnorableEvent("),
+    (EventType::PREVIOUS_GTIDS_EVENT, "PreviousGtidsEvent("),
+    (
+        EventType::TRANSACTION_CONTEXT_EVENT,
+        "TransactionContextEvent(",
+    ),
+    (EventType::VIEW_CHANGE_EVENT, "ViewChangeEvent("),
+    (EventType::XA_PREPARE_LOG_EVENT, "XaPrepareLogEvent("),
+    (
+        EventType::TRANSACTION_PAYLOAD_EVENT,
+        "TransactionPayloadEvent(",
+    ),
+    (EventType::GTID_TAGGED_LOG_EVENT, "GtidTaggedEvent("),
+];
+
+fn events_without_a_format(alloc: Global) -> bool {
+    let mut are_raw = true;
+    for (event_type, variant) in &RAW_TYPES {
+        are_raw = are_raw && is_raw(alloc, *event_type, *variant);
+    }
+    are_raw
 }
 
 /// Why the body of an event of the type can't be read, or None if it can.
@@ -319,6 +337,6 @@ fn event_data(rt: HostRuntime) {
     assert!(rt; events_of_other_types(alloc));
     assert!(rt; longer_events(alloc));
     assert!(rt; events_of_rows_types(alloc));
-    assert!(rt; events_without_a_encoding(alloc));
+    assert!(rt; events_without_a_format(alloc));
     assert!(rt; events_failed_by_their_type(alloc));
 }

@@ -1,8 +1,7 @@
 //! Owned events.
 
 use crate::files::{added, file_with};
-use events_bodies::XidEvent;
-use events_frames::{EventError, EventParts, FormatDescriptionEvent};
+use events_frames::{EventError, EventParts, FormatDescriptionEvent, XidEvent};
 use events_reader::EventStreamReader;
 use events_stream::{BinlogFile, Event, EventData, ReadEvents};
 use events_tests::worked::{BEGIN, COMMIT, DESCRIPTION, INSERT, TABLE_MAP, changed};

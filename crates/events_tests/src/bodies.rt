@@ -2,12 +2,11 @@
 
 use crate::samples::{BEGIN_LOAD, INCIDENT, INTVAR, RAND, ROTATE, XID};
 use crate::written::{is_read, is_short, is_text, is_written, read_error};
-use events_bodies::{
-    BeginLoadQueryEvent, IncidentEvent, IntvarEvent, RandEvent, RotateEvent, RowsQueryEvent,
-    XidEvent,
+use events_bodies::{BeginLoadQueryEvent, IncidentEvent, IntvarEvent, RandEvent, RowsQueryEvent};
+use events_frames::{EventError, RotateEvent, XidEvent, read_body};
+use rows_more_consts::{
+    IncidentType, IntvarEventType, UnknownIncidentType, UnknownIntvarEventType,
 };
-use events_frames::{EventError, read_body};
-use rows_consts::{IncidentType, IntvarEventType, UnknownIncidentType, UnknownIntvarEventType};
 use std::alloc::Global;
 use std::borrow::CowSlice;
 

@@ -2,10 +2,9 @@
 //! `events_stream_tests`.
 
 use events_bodies::{
-    BeginLoadQueryEvent, IncidentEvent, IntvarEvent, RandEvent, RotateEvent, RowsQueryEvent,
-    UserVarEvent, XidEvent,
+    BeginLoadQueryEvent, IncidentEvent, IntvarEvent, RandEvent, RowsQueryEvent, UserVarEvent,
 };
-use events_frames::BinlogEvent;
+use events_frames::{BinlogEvent, RotateEvent, XidEvent};
 use rows_consts::EventType;
 
 /// The type of the events with such a body.

@@ -4,7 +4,7 @@ use crate::samples::FULL;
 use crate::written::{is_read, is_short, is_written};
 use events_frames::read_body;
 use events_gtids::{AnonymousGtidEvent, GtidEvent};
-use rows_consts::GtidFlags;
+use rows_more_consts::GtidFlags;
 use std::alloc::Global;
 use wire_buf::{MySerialize, WireFault};
 

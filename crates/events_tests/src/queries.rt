@@ -2,9 +2,11 @@
 
 use crate::samples::{LOAD, QUERY};
 use crate::written::{is_read, is_short, is_text, is_written};
+use events_bodies::ExecuteLoadQueryEvent;
 use events_frames::read_body;
-use events_queries::{ExecuteLoadQueryEvent, QueryEvent};
-use rows_consts::{LoadDuplicateHandling, StatusVarKey, UnknownDuplicateHandling};
+use events_queries::QueryEvent;
+use rows_consts::StatusVarKey;
+use rows_more_consts::{LoadDuplicateHandling, UnknownDuplicateHandling};
 use std::alloc::Global;
 use std::borrow::CowSlice;
 use wire_buf::MySerialize;

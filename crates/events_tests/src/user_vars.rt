@@ -5,7 +5,7 @@ use crate::written::{is_read, is_short, is_text, read_error};
 use bitflags::Flags;
 use events_bodies::UserVarEvent;
 use events_frames::{EventError, read_body};
-use rows_consts::UserVarFlags;
+use rows_more_consts::UserVarFlags;
 use std::alloc::Global;
 use wire_consts::{ItemResult, UnknownItemResultType};
 

@@ -5,7 +5,6 @@ mod checked_maps;
 mod description_in_force;
 mod event_checker;
 mod header_fields;
-pub mod laws;
 mod outer_checks;
 
 pub use description_in_force::{DescriptionInForce, TABLE_MAP_POST_HEADER_LEN};

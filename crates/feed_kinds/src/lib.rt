@@ -2,7 +2,6 @@
 #![tactic(auto)]
 
 mod event_kind;
-pub mod laws;
 mod query_texts;
 mod verdict;
 

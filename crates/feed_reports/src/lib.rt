@@ -1,7 +1,6 @@
 //! The report of a binary log: the text of its committed transactions, and a verdict.
 #![tactic(auto)]
 
-pub mod laws;
 mod reporting;
 mod waiting;
 mod writing;

@@ -20,7 +20,7 @@ use Rattle.std.proofs.Math.ListN.{length-drop}
 use Rattle.std.proofs.Math.Seq.{take-append_seam, drop-append_seam}
 use Rattle.byteorder.specs.Endian.{little_number}
 use Rattle.byteorder.specs.Numbers.{little_from-append}
-use Rattle.rows_cells.specs.Images.{ImageShape}
+use Rattle.rows_images.specs.Images.{ImageShape}
 use Rattle.rows_events.specs.ImageShapes.{TablePlan}
 use Rattle.rows_meta.specs.TableMaps.{plain_bytes, id_width}
 use Rattle.rows_events.specs.EventShapes.{event_shapes}

@@ -6,10 +6,10 @@ use Rattle.std.proofs.lemmas.Bool.Decides.{nat_tests}
 use Rattle.std.specs.List.{flat_map}
 use Rattle.std.proofs.lemmas.Bool.{lt-ltb}
 use Rattle.std.proofs.lemmas.List.{append-nil}
-use Rattle.rows_cells.specs.Images.{ColumnValue, ImageShape, image_at}
-use Rattle.rows_cells.specs.EventRows.{images_at, takes_some, row_at}
-use Rattle.rows_cells.specs.ImageViews.{remaining_cells}
-use Rattle.rows_cells.specs.declared.image.ImageCells.{ImageCells}
+use Rattle.rows_images.specs.Images.{ColumnValue, ImageShape, image_at}
+use Rattle.rows_images.specs.EventRows.{images_at, takes_some, row_at}
+use Rattle.rows_images.specs.ImageViews.{remaining_cells}
+use Rattle.rows_images.specs.declared.image.ImageCells.{ImageCells}
 use Rattle.rows_jsonb.specs.Items.{Walked, prepend_item, walk, items_at}
 use Rattle.rows_jsonb.specs.JsonParsing.{IsNone, Parses}
 use Rattle.rows_values.specs.Readings.{Reading, ◌>>=◌}

@@ -1,7 +1,7 @@
 -- Rows events with the same column count and column bits, whose images have the same columns (MySQL Internals: Rows_event).
 use Rattle.std.specs.Prelude.{◌≡◌, ℕ, List, ◌++◌, length, Option, Some, Ok, option_map}
 use Rattle.byteorder.specs.Endian.{little_number}
-use Rattle.rows_cells.specs.Images.{ImageShape}
+use Rattle.rows_images.specs.Images.{ImageShape}
 use Rattle.rows_events.specs.ImageShapes.{TablePlan}
 use Rattle.rows_events.specs.EventShapes.{event_shapes}
 use Rattle.rows_events.specs.RowsEvents.{RowsBody, written_ctx}

@@ -1,8 +1,8 @@
 -- How the code prints rows: image after image, row after row.
 use Rattle.std.specs.Prelude.{◌≡◌, ◌⊎◌, ◌<◌, ◌≤◌, ℕ, List, ◌++◌, length, option_map, Option, Some, None, Ok}
 use Rattle.std.specs.List.{flat_map}
-use Rattle.rows_cells.specs.Images.{ColumnValue, ImageShape, image_at}
-use Rattle.rows_cells.specs.EventRows.{images_at, row_at}
+use Rattle.rows_images.specs.Images.{ColumnValue, ImageShape, image_at}
+use Rattle.rows_images.specs.EventRows.{images_at, row_at}
 use Rattle.rows_jsonb.specs.Items.{walk, items_at}
 use Rattle.rows_jsonb.specs.JsonParsing.{IsNone}
 use Rattle.rows_values.specs.Readings.{Reading, ◌>>=◌}

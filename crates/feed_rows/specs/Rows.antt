@@ -1,6 +1,6 @@
 -- The rows of MySQL's rows events under a table map: their texts, or the first fault.
 use Rattle.std.specs.Prelude.{ℕ, true, false, List, [], ◌∷◌, length, map, Option, Some, None, Result, Ok, Err, ◌==◌}
-use Rattle.rows_cells.specs.Images.{ColumnValue}
+use Rattle.rows_images.specs.Images.{ColumnValue}
 use Rattle.rows_jsonb.specs.Items.{Walked}
 use Rattle.rows_values.specs.Readings.{Reading, ◌>>=◌}
 use Rattle.rows_meta.specs.ColumnMetadata.{columns_with_metadata}
@@ -22,7 +22,8 @@ use Rattle.feed_kinds.specs.declared.verdict.Verdict.TheVariants as verdicts
 -- how the rows of a table are read, by its table map
 abbrev pub plan_by : TableMap → TablePlan
 plan_by t = record {
-  first = λ n. extracted (fields t.column_types t.optional_metadata) >>= λ e. first_columns (table_columns_of (columns_with_metadata t.column_types (Some t.metadata)) e) n;
+  first =
+      λ n. extracted (fields t.column_types t.optional_metadata) >>= λ e. first_columns (table_columns_of (columns_with_metadata t.column_types (Some t.metadata)) e) n;
   json_columns = json_count t.column_types;
 }
 

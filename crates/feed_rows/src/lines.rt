@@ -1,8 +1,8 @@
 //! Prints the lines of a rows event.
 
 ghost use Rattle.std.specs.Prelude.{◌≡◌, ◌≤◌, ◌++◌, ℕ, List, length, IfOk, IfErr, OnOk};
-ghost use Rattle.rows_cells.specs.ImageViews.{image_shape};
-ghost use Rattle.rows_cells.specs.RowViews.{row_shape};
+ghost use Rattle.rows_images.specs.ImageViews.{image_shape};
+ghost use Rattle.rows_images.specs.RowViews.{row_shape};
 ghost use Rattle.feed_text.specs.Buffers.{text_in};
 ghost use Rattle.feed_rows.specs.RowLines.{row_verdict, IsRowError, image_text_at, images_texts_at, row_texts_at, rows_texts_at, PutsImage, PutsImages, PutsRow, PutsLines, PutsRows, IsRowsError, IsAppendedSoFar};
 ghost use Rattle.feed_rows.specs.Rows.{event_texts};
@@ -11,8 +11,8 @@ ghost use Rattle.rows_events.specs.Views.{body_of};
 
 use feed_kinds::Verdict;
 use feed_text::TextBuffer;
-use rows_cells::{ImageCells, ImagePlan, RowPlan};
 use rows_events::{ColumnPlan, EventColumns, RowsEvent};
+use rows_images::{ImageCells, ImagePlan, RowPlan};
 use rows_values::RowsError;
 use std::alloc::{Allocator, Global};
 

@@ -1,7 +1,6 @@
 //! A server of a binary log: it takes a request, and sends the file's events from a position on.
 #![tactic(auto)]
 
-pub mod laws;
 mod packets;
 mod passing;
 mod requests;

@@ -4,6 +4,5 @@
 mod acknowledgements;
 mod follower;
 mod incoming;
-pub mod laws;
 
 pub use follower::Follower;

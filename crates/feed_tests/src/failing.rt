@@ -1,8 +1,9 @@
 //! Readers and writers that fail, and the order in which they are called.
 
 use crate::again::answered;
+use crate::answers::Pieces;
 use crate::following::LIMIT;
-use crate::samples::{BEGIN, MAP, Pieces, ROWS, TEXT, XID, file_of, one_insert};
+use crate::samples::{BEGIN, Full, MAP, ROWS, TEXT, XID, file_of, one_insert};
 use crate::serving::NAME;
 use crc32::crc32;
 use feed_kept::kept;
@@ -13,29 +14,6 @@ use std::alloc::{AllocError, Global};
 use std::cell::Cell;
 use std::io::{self, ErrorKind, Read, Write};
 use wire_buf::Watched;
-
-/// A writer that takes a number of bytes, and then fails.
-#[derive(Drop)]
-pub struct Full {
-    pub taken: Vec<u8>,
-    pub room: usize,
-}
-
-impl Write for Full {
-    fn write(&mut self, buf: &[u8]) -> io::Result<usize> {
-        if self.room == 0 {
-            return Err(io::Error::from(ErrorKind::Other));
-        }
-        let len = self.room.min(buf.len());
-        self.taken.write_all(&buf[..len])?;
-        self.room -= len;
-        Ok(len)
-    }
-
-    fn flush(&mut self) -> io::Result<()> {
-        Ok(())
-    }
-}
 
 /// A reader that gives one byte at a time, and records how many were requested from it in all.
 #[derive(Drop)]

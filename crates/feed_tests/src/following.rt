@@ -1,6 +1,7 @@
 //! Streams of packets that arrive in pieces of any length, limits of a payload, and what a follower returns after each piece.
 
-use crate::samples::{BEGIN, MAP, ROWS, TEXT, XID, answer_of};
+use crate::answers::answer_of;
+use crate::samples::{BEGIN, MAP, ROWS, TEXT, XID};
 use crc32::crc32;
 use feed_kinds::Verdict;
 use feed_payloads::RequestError;

@@ -6,6 +6,10 @@
 #[cfg(test)]
 mod again;
 #[cfg(test)]
+mod answers;
+#[cfg(test)]
+mod changes;
+#[cfg(test)]
 mod checksums;
 #[cfg(test)]
 mod failing;
@@ -16,11 +20,8 @@ mod keeping;
 #[cfg(test)]
 mod memory;
 #[cfg(test)]
-mod rehearsing;
-#[cfg(test)]
 mod reporting;
-#[cfg(test)]
-mod samples;
+pub mod samples;
 #[cfg(test)]
 mod semi;
 #[cfg(test)]

@@ -1,13 +1,13 @@
 //! Each call with enough memory.
 
+use crate::answers::answer_of;
 use crate::following::LIMIT;
 use crate::reporting::is_reported;
-use crate::samples::{BEGIN, MAP, ROWS, TEXT, XID, answer_of, one_insert};
+use crate::samples::{BEGIN, MAP, ROWS, TEXT, XID, one_insert};
 use crate::serving::NAME;
 use crc32::crc32;
 use feed_kinds::Verdict;
 use feed_payloads::request;
-use feed_runs::{Step, rehearse, rehearse_growing};
 use feed_serving::{Served, serve};
 use feed_streams::Follower;
 use std::alloc::Global;
@@ -42,26 +42,6 @@ fn follows(alloc: Global, asked: &[u8], answer: &[u8], rest: &[u8]) -> bool {
         && is_given(follower.again(), rest)
 }
 
-/// Whether a run over the log shows its transaction.
-fn is_rehearsed(alloc: Global, log: &[u8]) -> bool {
-    let mut once = Watched::new(Vec::new(alloc));
-    let mut twice = Watched::new(Vec::new(alloc));
-    let steps = [
-        Step {
-            size: 100,
-            count: 120,
-        },
-        Step {
-            size: 142,
-            count: 167,
-        },
-    ];
-    rehearse(alloc, log, &[100, 167], &crc32, &mut once) == Verdict::End
-        && rehearse_growing(alloc, log, &steps, &crc32, &mut twice) == Verdict::End
-        && once.into_inner().as_slice() == TEXT.as_bytes()
-        && twice.into_inner().as_slice() == TEXT.as_bytes()
-}
-
 /// The packet of a request for the log from this position on.
 fn request_from(position: u8) -> [u8; 32] {
     [
@@ -83,7 +63,6 @@ fn ample_memory(rt: HostRuntime) -> Result<(), Fail> {
             && is_given(request(alloc, 4, 1, NAME), &asked)
             && is_served(alloc, &asked, &log, &answer)
             && follows(alloc, &asked, &answer, &request_from(142))
-            && is_rehearsed(alloc, &log)
     );
     Ok(())
 }

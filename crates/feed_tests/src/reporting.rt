@@ -1,6 +1,6 @@
 //! Reports of logs whose reader gives few bytes at once.
 
-use crate::samples::Pieces;
+use crate::answers::Pieces;
 use crc32::crc32;
 use feed_kinds::Verdict;
 use feed_reports::report;

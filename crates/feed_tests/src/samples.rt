@@ -1,7 +1,7 @@
-//! A small binary log and its report, the packets of its events, and a reader that gives a log in pieces.
+//! A small binary log and its report, the acknowledgements of its events, and a writer with limited room.
 
 use std::alloc::{AllocError, Global};
-use std::io::{self, ErrorKind, Read};
+use std::io::{self, ErrorKind, Write};
 
 /// The magic number, `fe 62 69 6e`.
 pub const MAGIC_NUMBER: [u8; 4] = [0xfe, 0x62, 0x69, 0x6e];
@@ -36,6 +36,22 @@ pub const XID: [u8; 27] = [
 /// The report of the magic number and these events.
 pub const TEXT: &str = "begin -\ninsert 'd' 't' 0=5\ncommit 142\n";
 
+/// The acknowledgements of the small binary log's first and last event.
+pub const FIRST_ACK: [u8; 14] = [
+    0x0a, 0x00, 0x00, 0x00, 0xef, 0x2a, 0x00, 0x00, 0x00, 0x00, 0x00, 0x00, 0x00, 0x6d,
+];
+
+pub const LAST_ACK: [u8; 14] = [
+    0x0a, 0x00, 0x00, 0x00, 0xef, 0x8e, 0x00, 0x00, 0x00, 0x00, 0x00, 0x00, 0x00, 0x6d,
+];
+
+/// The length of the small binary log's answer, and of its prefixes up to the end of the first and of the last event.
+pub const WHOLE: usize = 175;
+
+pub const FIRST_END: usize = 45;
+
+pub const LAST_END: usize = 166;
+
 /// The magic number and events.
 pub fn file_of(alloc: Global, events: &[&[u8]]) -> Result<Vec<u8>, AllocError> {
     let mut file = Vec::from_slice(alloc, &MAGIC_NUMBER)?;
@@ -62,44 +78,39 @@ pub fn two_inserts(alloc: Global) -> Result<Vec<u8>, AllocError> {
     )
 }
 
-/// Appends the packet of an event, with this sequence number.
-fn put_packet(stream: &mut Vec<u8>, number: u8, event: &[u8]) -> Result<(), AllocError> {
-    let len = event.len().saturating_add(1).to_le_bytes();
-    stream.extend_from_slice(&len[..3])?;
-    stream.extend_from_slice(&[number, 0])?;
-    stream.extend_from_slice(event)
-}
-
-/// The packets of events, with sequence numbers from 1 on, and the closing packet if the answer is complete.
-pub fn answer_of(alloc: Global, events: &[&[u8]], is_whole: bool) -> Result<Vec<u8>, AllocError> {
-    let mut answer = Vec::new(alloc);
-    let mut number = 1u8;
-    for event in events {
-        put_packet(&mut answer, number, event)?;
-        number = number.wrapping_add(1);
-    }
-    if is_whole {
-        answer.extend_from_slice(&[5, 0, 0, number, 0xfe, 0, 0, 2, 0])?;
-    }
-    Ok(answer)
-}
-
-/// A reader that gives some bytes, at most a number of them at once, and then ends or fails.
+/// A writer that takes a number of bytes, and then fails.
 #[derive(Drop)]
-pub struct Pieces<'a> {
-    pub bytes: &'a [u8],
-    pub at_once: usize,
-    pub fails: bool,
+pub struct Full {
+    pub taken: Vec<u8>,
+    pub room: usize,
 }
 
-impl Read for Pieces<'_> {
-    fn read(&mut self, buf: &mut [u8]) -> io::Result<usize> {
-        if self.bytes.is_empty() && self.fails {
+impl Write for Full {
+    fn write(&mut self, buf: &[u8]) -> io::Result<usize> {
+        if self.room == 0 {
             return Err(io::Error::from(ErrorKind::Other));
         }
-        let len = self.at_once.min(buf.len());
-        self.bytes.read(&mut buf[..len])
+        let len = self.room.min(buf.len());
+        self.taken.write_all(&buf[..len])?;
+        self.room -= len;
+        Ok(len)
     }
+
+    fn flush(&mut self) -> io::Result<()> {
+        Ok(())
+    }
+}
+
+/// Whether bytes are these packets in sequence.
+pub fn are_joined(bytes: &[u8], packets: &[&[u8]]) -> bool {
+    let mut rest = bytes;
+    for packet in packets {
+        match rest.strip_prefix(*packet) {
+            Some(after) => rest = after,
+            None => return false,
+        }
+    }
+    rest.is_empty()
 }
 
 /// An event with one byte set to another value.

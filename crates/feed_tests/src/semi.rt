@@ -1,39 +1,21 @@
 //! Semi-synchronous answers: what is sent, what is shown of it, and what is acknowledged.
 
-use crate::failing::Full;
+use crate::answers::answer_of;
 use crate::following::LIMIT;
-use crate::samples::{BEGIN, MAP, ROWS, TEXT, XID, answer_of, one_insert};
+use crate::samples::{
+    BEGIN, FIRST_ACK, FIRST_END, Full, LAST_ACK, MAP, ROWS, TEXT, WHOLE, XID, are_joined,
+    one_insert,
+};
 use crc32::crc32;
 use feed_kinds::Verdict;
 use feed_payloads::{RequestError, request};
-use feed_runs::{Step, rehearse_semi};
 use feed_serving::{Served, serve_semi};
 use feed_streams::Follower;
-use linked_list_allocator::LocalHeap;
 use std::alloc::{AllocError, Global};
 use wire_buf::Watched;
 
 /// The name of the binary log.
 const NAME: &[u8] = b"m";
-
-/// The acknowledgements of the small binary log's first and last event.
-const FIRST_ACK: [u8; 14] = [
-    0x0a, 0x00, 0x00, 0x00, 0xef, 0x2a, 0x00, 0x00, 0x00, 0x00, 0x00, 0x00, 0x00, 0x6d,
-];
-
-const LAST_ACK: [u8; 14] = [
-    0x0a, 0x00, 0x00, 0x00, 0xef, 0x8e, 0x00, 0x00, 0x00, 0x00, 0x00, 0x00, 0x00, 0x6d,
-];
-
-/// More bytes than any answer of these tests has.
-const ALL: usize = 1_000_000;
-
-/// The length of the small binary log's answer, and of its prefixes up to the end of the first and of the last event.
-const WHOLE: usize = 175;
-
-const FIRST_END: usize = 45;
-
-const LAST_END: usize = 166;
 
 /// The answer for the small binary log with these flag bytes, and this sequence number for the last event's packet.
 fn answer_with(alloc: Global, flags: [u8; 2], number: u8) -> Result<Vec<u8>, AllocError> {
@@ -64,18 +46,6 @@ impl Outcome {
             && self.verdict == verdict
             && are_joined(self.acks.as_slice(), acks)
     }
-}
-
-/// Whether bytes are these packets in sequence.
-fn are_joined(bytes: &[u8], packets: &[&[u8]]) -> bool {
-    let mut rest = bytes;
-    for packet in packets {
-        match rest.strip_prefix(*packet) {
-            Some(after) => rest = after,
-            None => return false,
-        }
-    }
-    rest.is_empty()
 }
 
 /// Feeds a semi-synchronous stream byte by byte, and finishes.
@@ -240,84 +210,6 @@ fn semi_follow_with_a_failing_writer(alloc: Global) -> bool {
     true
 }
 
-/// Whether a run over the small binary log in these steps prints this text and ends with this verdict, and appends the
-/// acknowledgements of these packets.
-fn runs(
-    alloc: Global,
-    steps: &[Step],
-    text: &str,
-    verdict: Verdict,
-    acks: &[&[u8]],
-) -> Result<bool, AllocError> {
-    let log = one_insert(alloc)?;
-    let mut writer = Watched::new(Vec::new(alloc));
-    let mut kept = Vec::from_slice(alloc, b"ab")?;
-    let found = rehearse_semi(alloc, &log, NAME, steps, &crc32, &mut writer, &mut kept);
-    let is_after = match kept.as_slice().strip_prefix(b"ab".as_slice()) {
-        Some(rest) => are_joined(rest, acks),
-        None => false,
-    };
-    Ok(found == verdict && is_after && writer.into_inner().as_slice() == text.as_bytes())
-}
-
-/// A step in which the log has this size, and this number of bytes of the answer arrives.
-fn step(size: usize, count: usize) -> Step {
-    Step { size, count }
-}
-
-fn semi_rehearse(alloc: Global) -> bool {
-    let steps = [step(142, 100), step(142, ALL)];
-    let acks: [&[u8]; 3] = [&FIRST_ACK, &FIRST_ACK, &LAST_ACK];
-    runs(alloc, &steps, TEXT, Verdict::End, &acks) == Ok(true)
-}
-
-// An event that comes again after a dropped connection is acknowledged again.
-fn semi_rehearse_every_break(alloc: Global) -> bool {
-    for count in 0..WHOLE + 1 {
-        let steps = [step(142, count), step(142, ALL)];
-        let again: [&[u8]; 3] = [&FIRST_ACK, &FIRST_ACK, &LAST_ACK];
-        let acks = if count < FIRST_END || count >= LAST_END {
-            &again[1..]
-        } else {
-            &again[..]
-        };
-        if runs(alloc, &steps, TEXT, Verdict::End, acks) != Ok(true) {
-            return false;
-        }
-    }
-    true
-}
-
-fn semi_rehearse_a_growing_log(alloc: Global) -> bool {
-    let steps = [step(3, ALL), step(100, ALL), step(142, LAST_END)];
-    let acks: [&[u8]; 3] = [&FIRST_ACK, &FIRST_ACK, &LAST_ACK];
-    runs(alloc, &[], "", Verdict::Closed, &[]) == Ok(true)
-        && runs(alloc, &steps, TEXT, Verdict::Closed, &acks) == Ok(true)
-}
-
-/// Whether a run whose acknowledgements get no more memory than this keeps the first, has written the text, and ends with
-/// `Memory`.
-fn runs_out_of_memory(alloc: Global, log: &[u8], heap: &LocalHeap) -> bool {
-    let mut kept = Vec::new(heap);
-    let mut writer = Watched::new(Vec::new(alloc));
-    let steps = [step(142, FIRST_END), step(142, ALL)];
-    let verdict = rehearse_semi(alloc, log, NAME, &steps, &crc32, &mut writer, &mut kept);
-    verdict == Verdict::Memory
-        && are_joined(&kept, &[&FIRST_ACK])
-        && writer.into_inner().as_slice() == TEXT.as_bytes()
-}
-
-// What the step shows is written, and the packets that are kept are complete.
-fn semi_rehearse_with_refused_memory(alloc: Global) -> bool {
-    let Ok(log) = one_insert(alloc) else {
-        return false;
-    };
-    let Ok(heap) = LocalHeap::new(alloc, 16) else {
-        return false;
-    };
-    runs_out_of_memory(alloc, &log, &heap)
-}
-
 #[test]
 fn semi(rt: HostRuntime) {
     let alloc = rt.alloc();
@@ -329,8 +221,4 @@ fn semi(rt: HostRuntime) {
     assert!(rt; plain_follower_acknowledges_nothing(alloc));
     assert!(rt; acks_are_returned_once(alloc));
     assert!(rt; semi_follow_with_a_failing_writer(alloc));
-    assert!(rt; semi_rehearse(alloc));
-    assert!(rt; semi_rehearse_every_break(alloc));
-    assert!(rt; semi_rehearse_a_growing_log(alloc));
-    assert!(rt; semi_rehearse_with_refused_memory(alloc));
 }

@@ -1,8 +1,8 @@
 //! Answers to requests for a binary log: the limit of a payload, and readers and writers that fail.
 
-use crate::failing::Full;
+use crate::answers::{Pieces, answer_of};
 use crate::following::LIMIT;
-use crate::samples::{BEGIN, MAP, Pieces, ROWS, XID, answer_of, one_insert};
+use crate::samples::{BEGIN, Full, MAP, ROWS, XID, one_insert};
 use crc32::crc32;
 use feed_kinds::Verdict;
 use feed_payloads::{RequestError, request};

@@ -10,11 +10,11 @@ use Rattle.rows_jsonb.specs.JsonParsing.{Parses}
 use Rattle.rows_cells.specs.declared.cell.CellRef.{CellRef}
 use Rattle.rows_cells.specs.declared.cell.CellRef.TheVariants as ref
 use Rattle.rows_cells.specs.CellViews.{cell_value, IsReadable}
-use Rattle.rows_cells.specs.declared.image.ImageCells.{ImageCells}
-use Rattle.rows_cells.specs.declared.image.ImageField.{ImageField}
-use Rattle.rows_cells.specs.Images.{ColumnValue}
+use Rattle.rows_images.specs.declared.image.ImageCells.{ImageCells}
+use Rattle.rows_images.specs.declared.image.ImageField.{ImageField}
+use Rattle.rows_images.specs.Images.{ColumnValue}
 use Rattle.rows_cells.proofs.FieldLemmas.{bind-ok}
-use Rattle.rows_cells.specs.ImageViews.{remaining_cells, cells_count, ReturnsCell, IsNextField, SkipsField}
+use Rattle.rows_images.specs.ImageViews.{remaining_cells, cells_count, ReturnsCell, IsNextField, SkipsField}
 use Rattle.feed_text.specs.CellText.{label, cell_text, Appends, IsCellError, PacksNone}
 use Rattle.feed_text.specs.FieldText.{WritesField}
 use Rattle.feed_text.specs.ImageText.{Cells, cells_then, cells_text, Gives, WritesFields, AppendsFields, PutsCells, StopsWithin, IsCellsError}

@@ -13,6 +13,7 @@ pub mod FieldTextLemmas
 pub mod ImageTextLemmas
 pub mod StringLemmas
 pub mod PrefixLemmas
+pub mod WordLemmas
 pub mod OrderLemmas
 pub mod DirectLemmas
 pub mod ContainerLemmas

@@ -1,10 +1,11 @@
 -- The text of the feed: decimals in MySQL's packed format (decimal2bin).
-use Rattle.std.specs.Prelude.{◌≡◌, ◌⊎◌, ℕ, List, [], ◌∷◌, ◌++◌, ◌||◌, ◌&&◌, nat_lt, nat_eq, if◌then◌else◌, Option, Some, None}
+use Rattle.std.specs.Prelude.{◌≡◌, ◌⊎◌, ℕ, List, [], ◌∷◌, ◌++◌, ◌||◌, ◌&&◌, nat_lt, nat_eq, take, if◌then◌else◌, Option, Some, None}
 use Rattle.std.specs.Fmt.{decimal}
 use Rattle.std.specs.Option.{option_map}
 use Rattle.rows_values.specs.declared.fault.RowsError.{RowsError}
 use Rattle.rows_values.specs.declared.fault.RowsError.TheVariants.{Memory, Decimal}
 use Rattle.rows_values.specs.Texts.{sign_text}
+use Rattle.rows_values.specs.PackedTexts.{Puts}
 use Rattle.rows_values.specs.Unpacked.{packed_text}
 use Rattle.rows_values.specs.declared.numbers.DecimalNumbers.{DecimalNumbers}
 use Rattle.rows_values.specs.TimeTexts.{padded_decimal}
@@ -23,6 +24,11 @@ AppendsSome (Some text) old new = new ≡ old ++ text
 pub record IsDecimalError (e : RowsError) (text : Option (List ℕ)) (old new : List ℕ) : Type 0 where
   pub cause : (e ≡ Memory) ⊎ ((e ≡ Decimal) × (text ≡ None))
   pub unchanged : new ≡ old
+
+-- the text was written, up to the offset; or the text before `at` is unchanged, and nothing more is stated
+abbrev pub PutsShort : Option (List ℕ) → ℕ → List ℕ → List ℕ → Option ℕ → Type 0
+PutsShort piece at old new (Some end) = Puts piece 76 at old new end
+PutsShort piece at old new None = take at new ≡ take at old
 
 -- the sign of two numbers: a zero without digits after the point has none
 abbrev pub numbers_sign : ℕ → DecimalNumbers → List ℕ

@@ -7,7 +7,7 @@ ghost use Rattle.feed_text.specs.ImageText.{WritesFields, AppendsFields, PutsCel
 use crate::buffer::TextBuffer;
 use crate::cells::{LABEL_LEN_MAX, put_label};
 use crate::fields::{VALUE_LEN_MAX, put_field};
-use rows_cells::ImageCells;
+use rows_images::ImageCells;
 use rows_values::RowsError;
 use std::alloc::{Allocator, Global};
 
@@ -30,7 +30,7 @@ pub(crate) fn put_fields<'p, 'a>(
     }
     let mut end = at;
     let mut left = cells;
-    while let Some(field) = left.next_field() {
+    while let Some(field) = left.next_plain_field() {
         let start = put_label(text, end, field.column);
         let Some((after, rest)) = put_field(text, start, field) else {
             break;

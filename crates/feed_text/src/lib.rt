@@ -28,6 +28,7 @@ mod short;
 mod short_decimals;
 mod short_strings;
 mod values;
+mod word_decimals;
 
 pub use buffer::TextBuffer;
 pub use cells::{put_cell, put_cell_ref};

@@ -138,16 +138,18 @@ pub(crate) fn datetime_parts(packed: i64) -> (Day, Clock)
 {
     let size = packed.unsigned_abs();
     let whole = size / 16_777_216;
-    let (days, clock) = (whole / 131_072, whole % 131_072);
+    let days = (whole / 131_072) as u32;
+    let clock = (whole % 131_072) as u32;
+    let months = days / 32;
     let day = Day {
-        year: (days / 32 / 13) as u32,
-        month: (days / 32 % 13) as u32,
-        day: (days % 32) as u32,
+        year: months / 13,
+        month: months % 13,
+        day: days % 32,
     };
     let clock = Clock {
-        hour: (clock / 4096) as u32,
-        minute: (clock / 64 % 64) as u32,
-        second: (clock % 64) as u32,
+        hour: clock / 4096,
+        minute: clock / 64 % 64,
+        second: clock % 64,
         micros: (size % 16_777_216) as u32,
     };
     (day, clock)

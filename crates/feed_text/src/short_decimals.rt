@@ -1,18 +1,63 @@
 //! The quoted text of decimals with few digits, from the numbers before and after the point.
 
-ghost use Rattle.std.specs.Prelude.{◌≡◌, ◌≤◌, ◌<◌, ◌+◌, ◌^◌, ◌++◌, ◌∷◌, [], length, take};
+ghost use Rattle.std.specs.Prelude.{◌≡◌, ◌≤◌, ◌<◌, ◌+◌, ◌-◌, ◌^◌, ◌++◌, ◌∷◌, [], length, take};
 ghost use Rattle.std.specs.Fmt.{decimal};
+ghost use Rattle.rows_values.specs.Decimals.{packed_size};
 ghost use Rattle.rows_values.specs.PackedTexts.{PutsOrNone};
-ghost use Rattle.feed_text.specs.DecimalText.{quoted_decimal, numbers_sign, micros_places_text, numbers_text};
+ghost use Rattle.feed_text.specs.DecimalText.{quoted_decimal, PutsShort, numbers_sign, micros_places_text, numbers_text};
 
 use crate::decimals::write_quoted;
+use crate::short::FEW_DIGITS;
+use crate::word_decimals::word_numbers;
 use feed_writers::{put_byte, put_fixed_digits, put_number};
 use rows_values::{DecimalNumbers, decimal_numbers};
+
+/// Writes the quoted text of the packed decimal in the first `size` bytes, if it has few digits.
+#[inline(always)]
+pub(crate) fn put_short_decimal(
+    text: &mut [u8],
+    at: usize,
+    bytes: &[u8],
+    size: usize,
+    precision: u8,
+    scale: u8,
+) -> Option<usize>
+    requires ordered { scale ≤ precision }
+    requires size { size ≡ packed_size (precision - scale) scale }
+    requires within { size ≤ length bytes.now }
+    requires room { at + 76 ≤ length text.old }
+    ensures { PutsShort (quoted_decimal precision scale (take size bytes.now)) at text.old text.new result }
+{
+    match word_numbers(usize::from(precision), usize::from(scale), bytes, size) {
+        Some(numbers) if numbers.before < 100_000_000 => {
+            Some(put_quoted_numbers(text, at, usize::from(scale), numbers))
+        }
+        _ => put_other_decimal(text, at, &bytes[..size], precision, scale),
+    }
+}
+
+/// The same for any decimal.
+#[inline(never)]
+fn put_other_decimal(
+    text: &mut [u8],
+    at: usize,
+    bytes: &[u8],
+    precision: u8,
+    scale: u8,
+) -> Option<usize>
+    requires room { at + 76 ≤ length text.old }
+    ensures { PutsShort (quoted_decimal precision scale bytes.now) at text.old text.new result }
+{
+    if precision > FEW_DIGITS {
+        return None;
+    }
+    write_few_quoted(text, at, usize::from(precision), usize::from(scale), bytes)
+}
 
 /// Does the same as [`write_quoted`], with more room. A decimal with at most 16 digits before the point and 8 after it is written
 /// from its numbers.
 #[inline(always)]
-pub(crate) fn write_few_quoted(
+fn write_few_quoted(
     text: &mut [u8],
     at: usize,
     precision: usize,

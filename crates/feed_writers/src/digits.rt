@@ -322,7 +322,7 @@ fn put_below_hundred(text: &mut [u8], at: usize, number: u32) -> usize
 }
 
 /// Writes a number of nine digits or more in decimal.
-#[inline(always)]
+#[inline(never)]
 fn put_long(text: &mut [u8], at: usize, number: u64) -> usize
     requires long { 100000000 ≤ number }
     requires room { at + 20 ≤ length text.old }

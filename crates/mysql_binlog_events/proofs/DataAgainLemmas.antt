@@ -1,12 +1,13 @@
 -- The body of an event of any type is read again.
-use Rattle.std.proofs.Common.{◌≡◌, ℕ, List, [], refl, sym, subst, append-nil}
+use Rattle.std.proofs.Common.{◌≡◌, ◌∙◌, ℕ, List, [], Some, refl, sym, ap, ap₂, subst, append-nil}
+use Rattle.std.proofs.lemmas.Option.{same_Some}
 use Rattle.wire_buf.specs.Encoding.{Reads}
 use Rattle.rows_meta.proofs.MapLawLemmas.{map_whole}
 use Rattle.events_frames.specs.Descriptions.{Description, IsFields, event_description_of}
 use Rattle.events_frames.proofs.LawLemmas.{written_whole}
 use Rattle.events_bodies.proofs.BodyLemmas.{incident_whole}
 use Rattle.events_queries.proofs.QueryLemmas.{query_whole}
-use Rattle.events_queries.proofs.LoadQueryLemmas.{load_query_whole}
+use Rattle.events_bodies.proofs.LoadQueryLemmas.{load_query_whole}
 use Rattle.events_stream.specs.declared.event_data.EventData.TheVariants as read
 use Rattle.mysql_binlog_events.specs.ReadAgain.{IsReadAsEncoded}
 use Rattle.mysql_binlog_events.specs.DataAgain.{IsDataSameAgain}
@@ -45,4 +46,7 @@ data_same (read.RowsEvent e) encoding body old new are h w = record {
   is = h.is;
   reads = rows_same h.rows_type _ body old new h.reads (record { bytes = w.bytes; is = w.is; appended = w.appended; encodes = w.encodes; least = w.least });
 }
-data_same (read.Raw t raw) encoding body old new are h w = (h.0, (w.encodes [] refl).bytes_are)
+data_same e encoding body old new are h w =
+    let again = w.encodes [] refl in
+    let same = same_Some again.0 _ (sym again.1 ∙ h.2) in
+    (h.0, h.1, again.1 ∙ ap₂ (λ k b. Some (record { event_type = k; bytes = b })) (ap (λ r. r.event_type) same) again.2.bytes_are)

@@ -7,7 +7,8 @@ use Rattle.wire_buf.specs.Encoding.{Begins, Reads, AreBytes, Alone, Both}
 use Rattle.wire_buf.specs.Numbers.{IsLongString, IsLenenc, IsShortString}
 use Rattle.rows_meta.specs.TableMaps.{IsTableMap, Skipped, little_endian, id_width}
 use Rattle.rows_meta.proofs.TableMapParts as map
-use Rattle.events_bodies.specs.Bodies.{Rotate, IsRotate, Xid, IsXid, Rand, IsRand, Intvar, IsIntvar, BeginLoadQuery, IsBeginLoadQuery, Incident, IsIncident, RowsQuery, IsRowsQuery}
+use Rattle.events_bodies.specs.Bodies.{Rand, IsRand, Intvar, IsIntvar, BeginLoadQuery, IsBeginLoadQuery, Incident, IsIncident, RowsQuery, IsRowsQuery}
+use Rattle.events_frames.specs.RotateAndXid.{Rotate, IsRotate, Xid, IsXid}
 use Rattle.std.specs.Option.{option_map}
 use Rattle.byteorder.specs.Endian.{little_number}
 use Rattle.byteorder.specs.Numbers.{little_from-lt}

@@ -3,9 +3,9 @@ use Rattle.std.proofs.Common.{ℕ, refl}
 use Rattle.wire_buf.specs.Encoding.{Both}
 use Rattle.rows_meta.specs.TableMaps.{little_endian}
 use Rattle.events_queries.specs.Queries.{IsQuery}
-use Rattle.events_queries.specs.LoadQueries.{IsLoadQuery}
+use Rattle.events_bodies.specs.LoadQueries.{IsLoadQuery}
 use Rattle.events_queries.proofs.QueryLemmas as query
-use Rattle.events_queries.proofs.LoadQueryLemmas as load
+use Rattle.events_bodies.proofs.LoadQueryLemmas as load
 use Rattle.mysql_binlog_events.specs.ReadAgain.{IsReadAsEncoded}
 use Rattle.mysql_binlog_events.proofs.OneWayLemmas.{one_number, one_text, one_skipped, one_all, one_both, one_led}
 

@@ -7,6 +7,8 @@ pub use Rattle.events_bodies.specs.BodyViews
 pub use Rattle.events_bodies.specs.BodySizes
 pub use Rattle.events_bodies.specs.UserVars
 pub use Rattle.events_bodies.specs.UserVarViews
+pub use Rattle.events_bodies.specs.LoadQueries
+pub use Rattle.events_bodies.specs.LoadQueryViews
 pub use Rattle.events_stream.specs.BodyFormats
 pub use Rattle.events_stream.specs.DataReadings
 pub use Rattle.events_stream.specs.DataEncodings
@@ -24,6 +26,8 @@ pub use Rattle.events_frames.specs.Events
 pub use Rattle.events_frames.specs.Frames
 pub use Rattle.events_frames.specs.Sources
 pub use Rattle.events_frames.specs.Checksums
+pub use Rattle.events_frames.specs.RotateAndXid
+pub use Rattle.events_frames.specs.RotateAndXidViews
 pub use Rattle.events_gtids.specs.Stamps
 pub use Rattle.events_gtids.specs.OptionalFields
 pub use Rattle.events_gtids.specs.Gtids
@@ -33,7 +37,6 @@ pub use Rattle.events_gtids.specs.FieldViews
 pub use Rattle.events_gtids.specs.GtidViews
 pub use Rattle.events_gtids.specs.WorkedFields
 pub use Rattle.events_queries.specs.Queries
-pub use Rattle.events_queries.specs.LoadQueries
 pub use Rattle.events_queries.specs.QueryViews
 pub use Rattle.events_queries.specs.StatusVars
 pub use Rattle.events_queries.specs.StatusVarsComputed

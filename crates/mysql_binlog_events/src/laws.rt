@@ -6,10 +6,11 @@ ghost use Rattle.rows_meta.specs.TableMaps.{IsTableMap, table_map_encoded, writt
 ghost use Rattle.rows_events.specs.RowsEvents.{IsRowsEvent};
 ghost use Rattle.rows_events.specs.declared.rows_event_ctx.RowsEventCtx.{RowsEventCtx as RowsContext};
 ghost use Rattle.events_frames.specs.Descriptions.{IsDescription, post_header_length};
-ghost use Rattle.events_bodies.specs.Bodies.{IsRotate, rotate_encoded, IsXid, xid_encoded, IsRand, rand_encoded, IsIntvar, intvar_encoded, IsBeginLoadQuery, begin_load_query_encoded, IsIncident, incident_encoded, written_incident, IsRowsQuery, rows_query_encoded};
+ghost use Rattle.events_bodies.specs.Bodies.{IsRand, rand_encoded, IsIntvar, intvar_encoded, IsBeginLoadQuery, begin_load_query_encoded, IsIncident, incident_encoded, written_incident, IsRowsQuery, rows_query_encoded};
+ghost use Rattle.events_frames.specs.RotateAndXid.{IsRotate, rotate_encoded, IsXid, xid_encoded};
 ghost use Rattle.events_bodies.specs.UserVars.{IsUserVar, user_var_encoded, written_user_var};
 ghost use Rattle.events_queries.specs.Queries.{IsQuery, query_encoded, written_query};
-ghost use Rattle.events_queries.specs.LoadQueries.{IsLoadQuery, load_query_encoded, written_load_query};
+ghost use Rattle.events_bodies.specs.LoadQueries.{IsLoadQuery, load_query_encoded, written_load_query};
 ghost use Rattle.events_gtids.specs.Gtids.{IsGtid, gtid_encoded};
 ghost use Rattle.std.specs.Fn.{FnReturnsAt};
 ghost use Rattle.mysql_binlog_events.specs.DataAgain.{IsDataSameAgain};
@@ -18,27 +19,27 @@ ghost use Rattle.mysql_binlog_events.specs.Newest.{AcceptsAll, newest_described,
 ghost use Rattle.mysql_binlog_events.specs.WrittenAgain.{IsWrittenBack, IsReadWithSum, IsFileWrittenBack};
 ghost use Rattle.mysql_binlog_events.specs.ReadAgain.{IsReadAsEncoded, IsReadAgain, IsSameAgain, IsDescriptionReadAgain, IsDescriptionSameAgain, IsRowsReadAgain, IsRowsSameAgain, NothingFollows, AnythingFollows};
 
+pub use crate::frame_laws::{
+    descriptions_are_written_whole, equal_descriptions_say_the_same, equal_headers_say_the_same,
+    events_are_split, parts_are_unique, worked_footers, worked_frames, worked_header,
+    worked_post_header_lengths, written_descriptions_are_read_back,
+};
+pub use crate::reader_laws::{
+    accepted_events_have_no_error, events_are_accepted_in_one_way, table_maps_change_no_reading,
+};
 pub use events_bodies::laws::{
     equal_begin_load_queries_say_the_same, equal_incidents_say_the_same,
     equal_intvars_say_the_same, equal_rands_say_the_same, equal_rotates_say_the_same,
     equal_rows_queries_say_the_same, equal_user_vars_say_the_same, equal_xids_say_the_same,
     incidents_are_written_whole,
 };
-pub use events_frames::laws::{
-    descriptions_are_written_whole, equal_descriptions_say_the_same, equal_headers_say_the_same,
-    events_are_split, parts_are_unique, worked_footers, worked_frames, worked_header,
-    worked_post_header_lengths, written_descriptions_are_read_back,
-};
-pub use events_gtids::laws::{
-    equal_gtids_say_the_same, gtids_are_written_back, worked_fields, worked_gtid,
-};
-pub use events_queries::laws::{
+pub use events_bodies::statement_laws::{
     equal_load_queries_say_the_same, equal_queries_say_the_same, equal_status_vars_say_the_same,
     equal_values_say_the_same, equal_variables_are_the_same, load_queries_are_written_whole,
     queries_are_written_whole, variables_are_read, worked_names, worked_queries, worked_variables,
 };
-pub use events_reader::laws::{
-    accepted_events_have_no_error, events_are_accepted_in_one_way, table_maps_change_no_reading,
+pub use events_gtids::laws::{
+    equal_gtids_say_the_same, gtids_are_written_back, worked_fields, worked_gtid,
 };
 pub use events_rows::laws::{
     default_contexts_are_those_of_writing, equal_data_say_the_same, equal_events_say_the_same,

@@ -2,27 +2,26 @@
 //! of streams and files.
 //!
 //! Each part is a crate, which is re-exported completely: `events_frames` has frames, headers, footers, format descriptions and
-//! event errors, `events_bodies` the bodies with a fixed layout, `events_queries` the bodies with statements and their status
-//! variables, `events_gtids` those with GTIDs, `events_rows` rows events by type, `events_reader` the reader of a log, and
+//! event errors, `events_queries` the body of a statement and its status variables, `events_bodies` the other bodies with one layout, `events_gtids` those with GTIDs, `events_rows` rows events by type, `events_reader` the reader of a log, and
 //! `events_stream` bodies of any type, owned events, files and the writer. The parts use those of `mysql_binlog_rows` and
 //! `mysql_wire`.
 #![tactic(auto)]
 
+mod frame_laws;
 pub mod laws;
+mod reader_laws;
 
 pub use events_bodies::{
-    BeginLoadQueryEvent, IncidentEvent, IntvarEvent, RandEvent, RotateEvent, RowsQueryEvent,
-    UserVarEvent, XidEvent,
+    BeginLoadQueryEvent, ExecuteLoadQueryEvent, IncidentEvent, IntvarEvent, RandEvent,
+    RowsQueryEvent, UserVarEvent,
 };
 pub use events_frames::{
     BinlogCtx, BinlogEvent, BinlogEventFooter, BinlogEventHeader, BinlogFileHeader, BinlogStruct,
-    EventError, EventParts, EventSource, FormatDescriptionEvent, NextFrame, calc_checksum, gather,
-    next_frame, read_body, read_struct,
+    EventError, EventParts, EventSource, FormatDescriptionEvent, NextFrame, RotateEvent, XidEvent,
+    calc_checksum, gather, next_frame, read_body, read_struct,
 };
 pub use events_gtids::{AnonymousGtidEvent, GtidEvent};
-pub use events_queries::{
-    ExecuteLoadQueryEvent, QueryEvent, StatusVar, StatusVarVal, StatusVars, StatusVarsIterator,
-};
+pub use events_queries::{QueryEvent, StatusVar, StatusVarVal, StatusVars, StatusVarsIterator};
 pub use events_reader::EventStreamReader;
 pub use events_rows::{
     DeleteRows, DeleteRowsEvent, DeleteRowsEventV1, DeleteRowsV1, HasAfter, HasBefore,

@@ -2,7 +2,8 @@ pub use Rattle.rows_consts.specs.EventTypes
 pub use Rattle.rows_consts.specs.StatusVarKeys
 pub use Rattle.rows_consts.specs.MetadataTypes
 pub use Rattle.rows_consts.specs.Constants
-pub use Rattle.rows_consts.specs.Conversions
+pub use Rattle.rows_more_consts.specs.MoreConstants
+pub use Rattle.rows_more_consts.specs.Conversions
 pub use Rattle.rows_consts.specs.FlagTables
 pub use Rattle.rows_values.specs.Faults
 pub use Rattle.rows_packed_times.specs.PackedTimes
@@ -44,10 +45,10 @@ pub use Rattle.rows_cells.specs.CellSizes
 pub use Rattle.rows_cells.specs.CellValues
 pub use Rattle.rows_cells.specs.CellViews
 pub use Rattle.rows_cells.specs.Cells
-pub use Rattle.rows_cells.specs.Images
-pub use Rattle.rows_cells.specs.ImageViews
-pub use Rattle.rows_cells.specs.EventRows
-pub use Rattle.rows_cells.specs.RowViews
+pub use Rattle.rows_images.specs.Images
+pub use Rattle.rows_images.specs.ImageViews
+pub use Rattle.rows_images.specs.EventRows
+pub use Rattle.rows_images.specs.RowViews
 pub use Rattle.rows_cells.specs.BinlogValues
 pub use Rattle.rows_meta.specs.Entries
 pub use Rattle.rows_meta.specs.EntryErrors

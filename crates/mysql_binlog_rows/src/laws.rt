@@ -6,28 +6,28 @@ ghost use Rattle.rows_events.specs.PlanViews.{IsPlanOf};
 ghost use Rattle.rows_events.specs.declared.plan.ColumnPlan.{ColumnPlan};
 ghost use Rattle.rows_meta.specs.declared.table_map.TableMapEvent.{TableMapEvent};
 
-pub use rows_cells::laws::{
+pub use crate::cell_laws::{
     cells_are_read, images_are_read, kept_values_are_those_of_cells, lists_of_rows_are_read,
     no_cell_is_prefix_of_another, no_image_is_prefix_of_another, rows_are_read,
 };
-pub use rows_consts::laws::{
-    numbers_are_distinct, orders_are_of_numbers, transaction_numbers, worked_numbers,
-};
-pub use rows_events::laws::{equal_events_say_the_same, events_are_written_whole};
-pub use rows_jsonb::laws::{
+pub use crate::event_laws::{equal_events_say_the_same, events_are_written_whole};
+pub use crate::json_laws::{
     diffs_are_read, lists_of_diffs_are_read, worked_budget, worked_depth, worked_objects,
     worked_pointer,
 };
-pub use rows_meta::laws::{
+pub use crate::table_map_laws::{
     entries_are_read, equal_fields_are_the_same, equal_maps_have_equal_contents, lists_are_read,
     maps_are_written_completely,
 };
-pub use rows_values::laws::{
+pub use crate::value_laws::{
     equal_bits_are_the_same, equal_columns_and_times_are_the_same, equal_rows_are_the_same,
     equal_values_are_the_same, named_numbers, numbers_in_order, only_zero_groups_are_dropped,
     packed_bytes_are_read_back, packed_bytes_are_uniquely_read, packed_bytes_are_unpacked,
     packed_fields_are_read_back, texts_are_parsed_back, times_by_cases, worked_bits,
     worked_decimals, worked_time, worked_time_values, worked_unpacking,
+};
+pub use rows_more_consts::laws::{
+    numbers_are_distinct, orders_are_of_numbers, transaction_numbers, worked_numbers,
 };
 
 /// A plan that was made of a table map has all that rows need of the map: `rows_by` with the plan gives what `rows` gives with the

@@ -8,8 +8,8 @@ pub use Rattle.wire_forms.specs.Ints
 pub use Rattle.wire_forms.specs.Faults
 pub use Rattle.wire_forms.specs.Strings
 pub use Rattle.wire_forms.specs.Sevens
-pub use Rattle.wire_forms.specs.TrailingOnes
-pub use Rattle.wire_forms.specs.Streams
+pub use Rattle.wire_more_forms.specs.TrailingOnes
+pub use Rattle.wire_more_forms.specs.Streams
 pub use Rattle.wire_buf.specs.Transfers
 pub use Rattle.wire_buf.specs.Watched
 pub use Rattle.wire_consts.specs.Numbering
@@ -20,7 +20,7 @@ pub use Rattle.wire_forms.specs.Raw
 pub use Rattle.wire_forms.specs.Bits
 pub use Rattle.wire_forms.specs.Bytewise
 pub use Rattle.wire_forms.specs.Texts
-pub use Rattle.wire_forms.specs.Eithers
+pub use Rattle.wire_more_forms.specs.Eithers
 pub use Rattle.wire_forms.specs.Consts
 pub use Rattle.wire_forms.specs.Overwritten
 pub use Rattle.wire_forms.specs.RawTexts

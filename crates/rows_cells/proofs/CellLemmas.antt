@@ -1,10 +1,9 @@
 -- Cells that are read are what the bytes encode, and the other way round.
-use Rattle.std.proofs.Common.{◌≡◌, ℕ, Bool, true, false, List, [], ◌++◌, Ok, refl, sym, ap, ◌∙◌}
+use Rattle.std.proofs.Common.{◌≡◌, ℕ, List, ◌++◌, Ok, refl, sym, ap, ◌∙◌}
 use Rattle.rows_cells.specs.declared.format.CellFormat.{CellFormat}
 use Rattle.rows_cells.specs.CellSizes.{Size, exactly, after_length, unreadable, cell_size}
-use Rattle.rows_cells.specs.CellValues.{CellValue, null}
+use Rattle.rows_cells.specs.CellValues.{CellValue}
 use Rattle.rows_cells.specs.Cells.{IsCellContent, plain, sized, IsCell, content_at, cell_at}
-use Rattle.rows_cells.specs.Images.{IsField, field_at}
 use Rattle.rows_cells.proofs.FieldLemmas.{bind-ok, ok_pair, at_width-is, at_width-here, counted_at-is, counted_at-here}
 
 content-is : (z : Size) (s : List ℕ) (x : List ℕ × List ℕ) → content_at z s ≡ Ok x → (bytes : List ℕ) × (s ≡ bytes ++ x.1) × IsCellContent z x.0 bytes
@@ -32,11 +31,3 @@ cell-here format v bytes r h = rw (content-here (cell_size format) h.content byt
 -- no encoding of a cell is a proper prefix of another
 pub one_cell : (format : CellFormat) (v w : CellValue) (a b x y : List ℕ) → IsCell format v a → IsCell format w b → a ++ x ≡ b ++ y → (v ≡ w) × (x ≡ y)
 one_cell format v w a b x y h i e = ok_pair v x (w, y) (sym (cell-here format v a x h) ∙ ap (cell_at format) e ∙ cell-here format w b y i)
-
-pub field-is : (b : Bool) (format : CellFormat) (s : List ℕ) (x : CellValue × List ℕ) → field_at b format s ≡ Ok x → (bytes : List ℕ) × (s ≡ bytes ++ x.1) × IsField b format x.0 bytes
-field-is true format s x h = let p = ok_pair null s x h in ([], p.1, (sym p.0, refl))
-field-is false format s x h = cell-is format s x.0 x.1 h
-
-pub field-here : (b : Bool) (format : CellFormat) (v : CellValue) (bytes r : List ℕ) → IsField b format v bytes → field_at b format (bytes ++ r) ≡ Ok (v, r)
-field-here true format v bytes r h = rw (h.0, h.1) refl
-field-here false format v bytes r h = cell-here format v bytes r h

@@ -19,7 +19,7 @@ use Rattle.rows_cells.specs.CellValues as cell
 use Rattle.rows_cells.specs.CellViews.{cell_value_of}
 use Rattle.rows_cells.specs.ColumnFormats.{column_format}
 use Rattle.rows_cells.specs.Cells.{IsCell}
-use Rattle.rows_cells.specs.Images.{format_by}
+use Rattle.rows_cells.specs.ColumnFormats.{format_by}
 
 -- what is kept of a cell: a value, a JSON document, or JSON diffs
 pub data Kept : Type 0 where

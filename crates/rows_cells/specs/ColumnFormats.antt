@@ -80,3 +80,8 @@ column_format column.MYSQL_TYPE_YEAR metadata unsigned = format.Year
 column_format column.MYSQL_TYPE_NEWDATE metadata unsigned = format.NewDate
 column_format column.MYSQL_TYPE_JSON metadata unsigned = format.Json
 column_format other metadata unsigned = metadata_format other metadata
+
+-- a JSON column whose partial bit is set has JSON diffs
+abbrev pub format_by : Bool → CellFormat → CellFormat
+format_by true format.Json = format.JsonDiffs
+format_by b f = f

@@ -4,8 +4,4 @@ pub mod ColumnFormats
 pub mod CellValues
 pub mod CellViews
 pub mod Cells
-pub mod Images
-pub mod ImageViews
-pub mod EventRows
-pub mod RowViews
 pub mod BinlogValues

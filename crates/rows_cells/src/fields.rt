@@ -13,7 +13,7 @@ use rows_values::RowsError;
 
 /// Splits off the first `len` bytes, and returns them and the rest; `EndOfBody` if there are fewer.
 #[inline(always)]
-pub(crate) fn split_prefix(bytes: &[u8], len: usize) -> Result<(&[u8], &[u8]), RowsError>
+pub fn split_prefix(bytes: &[u8], len: usize) -> Result<(&[u8], &[u8]), RowsError>
     ensures { map_reading (λ x. (x.0.now, x.1.now)) result ≡ at_width len bytes.now }
 {
     if len <= bytes.len() {

@@ -12,10 +12,7 @@ mod column_format;
 mod conversions;
 mod fields;
 mod format;
-mod image;
-pub mod laws;
 mod owned;
-mod rows;
 mod value_field;
 
 pub use binlog_value::BinlogValue;
@@ -25,7 +22,6 @@ pub use cell_reading::{
     split_decimal,
 };
 pub use conversions::BinlogValueToValueError;
+pub use fields::split_prefix;
 pub use format::{CellFormat, Width};
-pub use image::{ImageCells, ImageColumn, ImageField, ImagePlan};
-pub use rows::{RowPart, RowPlan, RowsCursor};
 pub use value_field::BinlogValueCtx;

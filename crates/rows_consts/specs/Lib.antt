@@ -3,4 +3,3 @@ pub mod EventTypes
 pub mod StatusVarKeys
 pub mod MetadataTypes
 pub mod Constants
-pub mod Conversions

@@ -9,9 +9,9 @@ use Rattle.rows_values.specs.declared.rows.column.Column.{Column}
 use Rattle.rows_values.specs.declared.fault.RowsError.{RowsError}
 use Rattle.rows_values.specs.declared.fault.RowsError.TheVariants.{Memory}
 use Rattle.rows_values.specs.Readings.{Reading, ◌>>=◌}
-use Rattle.rows_cells.specs.Images.{ColumnValue, ImageShape}
-use Rattle.rows_cells.specs.declared.image.ImageColumn.{ImageColumn}
-use Rattle.rows_cells.specs.EventRows.{images_at, row_at}
+use Rattle.rows_images.specs.Images.{ColumnValue, ImageShape}
+use Rattle.rows_images.specs.declared.image.ImageColumn.{ImageColumn}
+use Rattle.rows_images.specs.EventRows.{images_at, row_at}
 use Rattle.rows_events.specs.RowImages.{IsReadRow, IsRowOf, image_read}
 use Rattle.rows_events.specs.declared.binlog_row.BinlogRow.{BinlogRow}
 use Rattle.rows_events.specs.declared.row_image.RowImage.{RowImage}

@@ -13,12 +13,12 @@ use Rattle.rows_values.specs.declared.fault.RowsError.{RowsError}
 use Rattle.rows_values.specs.declared.fault.RowsError.TheVariants.{Metadata, Memory}
 use Rattle.rows_values.specs.Readings.{Reading}
 use Rattle.rows_cells.specs.BinlogValues.{Kept, kept_view}
-use Rattle.rows_cells.specs.Images.{ColumnValue, ImageShape, IsImage, image_at}
+use Rattle.rows_images.specs.Images.{ColumnValue, ImageShape, IsImage, image_at}
 use Rattle.rows_cells.specs.declared.binlog_value.BinlogValue.{BinlogValue}
-use Rattle.rows_cells.specs.declared.image.ImageColumn.{ImageColumn}
+use Rattle.rows_images.specs.declared.image.ImageColumn.{ImageColumn}
 use Rattle.rows_cells.proofs.FieldLemmas.{ok_pair}
 use Rattle.rows_cells.proofs.KeptLemmas.{kept_of, one_kept}
-use Rattle.rows_cells.proofs.RowLemmas.{image-is, image-here}
+use Rattle.rows_images.proofs.RowLemmas.{image-is, image-here}
 use Rattle.rows_events.specs.PlanViews.{IsPlanOf, planned}
 use Rattle.rows_events.specs.PickedColumns.{picked_as, definition}
 use Rattle.rows_events.specs.ImageShapes.{table_plan, map_plan, shape_picked}

@@ -7,8 +7,8 @@ use Rattle.rows_values.specs.declared.bits.Bits.{Bits}
 use Rattle.rows_values.specs.declared.fault.RowsError.{RowsError}
 use Rattle.rows_values.specs.declared.fault.RowsError.TheVariants.{EmptyPair, Memory}
 use Rattle.rows_values.specs.Readings.{Reading, ◌>>=◌}
-use Rattle.rows_cells.specs.Images.{ImageShape}
-use Rattle.rows_cells.specs.declared.image.ImageColumn.{ImageColumn}
+use Rattle.rows_images.specs.Images.{ImageShape}
+use Rattle.rows_images.specs.declared.image.ImageColumn.{ImageColumn}
 use Rattle.rows_events.specs.Plans.{PlannedColumn}
 use Rattle.rows_events.specs.PickedColumns.{is_picked, picked_as, bit_is_set, image_column, definition}
 use Rattle.std.specs.Rc.{rc_slice_items}

@@ -5,8 +5,8 @@ use Rattle.rows_values.specs.BitLists.{lowest_bit}
 use Rattle.rows_values.specs.declared.fault.RowsError.TheVariants.{EmptyPair}
 use Rattle.rows_values.specs.Readings.{Reading, ◌>>=◌}
 use Rattle.rows_jsonb.specs.Items.{Walked, items_at}
-use Rattle.rows_cells.specs.Images.{ColumnValue, ImageShape}
-use Rattle.rows_cells.specs.EventRows.{row_at}
+use Rattle.rows_images.specs.Images.{ColumnValue, ImageShape}
+use Rattle.rows_images.specs.EventRows.{row_at}
 use Rattle.rows_events.specs.ImageShapes.{TablePlan, shape_picked}
 use Rattle.rows_events.specs.RowsEventTypes.{images_of, has_partial_after}
 use Rattle.rows_events.specs.RowsEvents.{RowsBody}

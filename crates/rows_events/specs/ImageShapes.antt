@@ -2,7 +2,7 @@
 use Rattle.std.specs.Prelude.{ℕ, Bool, List, [], Option, Some, None, if◌then◌else◌}
 use Rattle.std.specs.declared.result.Result.TheVariants.{Ok}
 use Rattle.rows_values.specs.Readings.{Reading, ◌>>=◌}
-use Rattle.rows_cells.specs.Images.{ImageShape}
+use Rattle.rows_images.specs.Images.{ImageShape}
 use Rattle.rows_meta.specs.MapViews.{map_of}
 use Rattle.rows_meta.specs.declared.table_map.TableMapEvent.{TableMapEvent}
 use Rattle.rows_events.specs.declared.plan.ColumnPlan.{ColumnPlan}

@@ -9,7 +9,7 @@ use Rattle.rows_values.specs.BitLists.{count_below}
 use Rattle.rows_values.specs.declared.fault.RowsError.TheVariants.{Metadata, Cell}
 use Rattle.rows_values.specs.Readings.{Reading, ◌>>=◌}
 use Rattle.rows_cells.specs.ColumnFormats.{column_format}
-use Rattle.rows_cells.specs.declared.image.ImageColumn.{ImageColumn}
+use Rattle.rows_images.specs.declared.image.ImageColumn.{ImageColumn}
 use Rattle.rows_meta.specs.ColumnMetadata.{ColumnMeta}
 use Rattle.rows_meta.specs.ColumnViews.{real_type_of}
 use Rattle.rows_meta.specs.declared.bad_column_type.BadColumnType.{BadColumnType}

@@ -42,7 +42,8 @@ IsRowsHead ctx (id, (flags, extra)) =
 -- the column bits of each image that the rows have, and the rows
 abbrev pub IsRows : RowsEventType → ℕ → Encoding (Option (List ℕ) × (Option (List ℕ) × List ℕ))
 IsRows t n (before, (after, rows_data)) =
-    IsMaybe plain_bytes (only_if (has_before (images_of t)) (bits_size n)) before ⨾ IsMaybe plain_bytes (only_if (has_after (images_of t)) (bits_size n)) after ⨾ IsAll rows_data
+    IsMaybe plain_bytes (only_if (has_before (images_of t)) (bits_size n)) before
+    ⨾ IsMaybe plain_bytes (only_if (has_after (images_of t)) (bits_size n)) after ⨾ IsAll rows_data
 
 -- the body of a rows event of the context's type, up to the end of the bytes
 abbrev pub IsRowsEvent : RowsEventCtx → Encoding RowsBody
@@ -73,7 +74,8 @@ written_body r = record r { extra = only_if (writes_extra r.event_type) (unwrap_
 abbrev pub rows_event_encoded : RowsBody → Option (List ℕ)
 rows_event_encoded r =
     concat_some (concat_some (little_encoded 6 r.table_id) (concat_some (little_encoded 2 r.flags) (optional_encoded extra_encoded r.extra)))
-    (concat_some (Some (lenenc_encoded r.columns)) (concat_some (optional_encoded (λ b. Some b) r.before) (concat_some (optional_encoded (λ b. Some b) r.after) (Some r.rows_data))))
+    (concat_some (Some (lenenc_encoded r.columns)) (concat_some (optional_encoded (λ b. Some b) r.before) (concat_some
+    (optional_encoded (λ b. Some b) r.after) (Some r.rows_data))))
 
 -- an event that was read in the context of its type is written completely
 abbrev pub IsWrittenWhole : Type 0

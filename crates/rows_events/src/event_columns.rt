@@ -2,7 +2,7 @@
 
 ghost use Rattle.std.specs.Prelude.{◌≡◌, ◌⊎◌, ◌∷◌, [], IfOk, IfErr, OnErr, Ok, Err};
 ghost use Rattle.rows_values.specs.declared.fault.RowsError.TheVariants.{Memory};
-ghost use Rattle.rows_cells.specs.RowViews.{row_shape, IsBetweenRows};
+ghost use Rattle.rows_images.specs.RowViews.{row_shape, IsBetweenRows};
 ghost use Rattle.rows_events.specs.ImageShapes.{table_plan, no_columns};
 ghost use Rattle.rows_events.specs.EventShapes.{event_shapes};
 ghost use Rattle.rows_events.specs.EventColumnViews.{shapes_of};
@@ -10,7 +10,7 @@ ghost use Rattle.rows_events.specs.Views.{body_of};
 
 use crate::rows_event::RowsEvent;
 use crate::{ColumnPlan, ImageColumns};
-use rows_cells::{RowPlan, RowsCursor};
+use rows_images::{RowPlan, RowsCursor};
 use rows_values::RowsError;
 use std::alloc::Global;
 

@@ -2,7 +2,7 @@
 
 ghost use Rattle.std.specs.Prelude.{◌≡◌, ◌⊎◌, ◌<◌, length, IfOk, IfErr, Err};
 ghost use Rattle.rows_values.specs.declared.fault.RowsError.TheVariants.{Memory};
-ghost use Rattle.rows_cells.specs.EventRows.{images_at, row_at};
+ghost use Rattle.rows_images.specs.EventRows.{images_at, row_at};
 ghost use Rattle.rows_events.specs.ImageShapes.{table_plan};
 ghost use Rattle.rows_events.specs.EventShapes.{event_shapes};
 ghost use Rattle.rows_events.specs.EventImages.{shapes_read, ReadsEventImages, ReadsImages, ReadsPair};
@@ -66,7 +66,7 @@ impl EventImages {
     ///
     /// - The errors of [`RowImage::read`].
     /// - `EmptyPair`: the row takes no bytes.
-    #[tactic(auto, unfolding(rows_cells::specs::EventRows::row_at))]
+    #[tactic(auto, unfolding(rows_images::specs::EventRows::row_at))]
     pub(crate) fn read<'a>(
         &self,
         alloc: Global,
@@ -87,7 +87,7 @@ impl EventImages {
     }
 
     /// Reads the images that the bytes begin with; returns them and the bytes after them.
-    #[tactic(auto, unfolding(rows_cells::specs::EventRows::images_at))]
+    #[tactic(auto, unfolding(rows_images::specs::EventRows::images_at))]
     fn read_images<'a>(
         &self,
         alloc: Global,

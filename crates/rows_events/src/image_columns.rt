@@ -3,11 +3,11 @@
 ghost use Rattle.std.specs.Prelude.{◌≡◌, ◌⊎◌, IfOk, IfErr, OnErr, Ok, Err, Some, None, if◌then◌else◌};
 ghost use Rattle.rows_values.specs.declared.fault.RowsError.TheVariants.{Memory};
 ghost use Rattle.rows_values.specs.BitLists.{len_of, bit_at};
-ghost use Rattle.rows_cells.specs.ImageViews.{image_shape};
+ghost use Rattle.rows_images.specs.ImageViews.{image_shape};
 ghost use Rattle.rows_events.specs.ImageShapes.{table_plan, shape_of, shape_picked, no_columns};
 
 use crate::plan::ColumnPlan;
-use rows_cells::{ImageColumn, ImagePlan};
+use rows_images::{ImageColumn, ImagePlan};
 use rows_values::{Bits, RowsError};
 use std::alloc::Global;
 

@@ -15,7 +15,6 @@ mod event_images;
 mod extra_data;
 mod image_columns;
 mod into_row;
-pub mod laws;
 mod optional_field;
 mod picked;
 mod plan;

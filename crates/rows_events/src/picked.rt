@@ -14,7 +14,7 @@ use crate::column::PlannedColumn;
 use crate::plan::ColumnPlan;
 use bitflags::Flags;
 use itoa::Buffer;
-use rows_cells::ImageColumn;
+use rows_images::ImageColumn;
 use rows_meta::ColumnName;
 use rows_values::{Bits, Column, RowsError};
 use std::alloc::{AllocError, Global};

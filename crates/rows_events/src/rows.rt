@@ -13,7 +13,7 @@ use crate::ColumnPlan;
 use crate::event_columns::EventColumns;
 use crate::event_images::{EventImages, RowPair};
 use crate::rows_event::RowsEvent;
-use rows_cells::RowPlan;
+use rows_images::RowPlan;
 use rows_meta::TableMapEvent;
 use rows_values::RowsError;
 use std::alloc::Global;

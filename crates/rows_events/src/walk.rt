@@ -9,7 +9,8 @@ ghost use Rattle.rows_events.specs.Plans.{Table, table_columns_of, is_json, sign
 ghost use Rattle.rows_events.specs.Walks.{IsWalkAt, WalksColumn, SkipsName};
 
 use crate::column::PlannedColumn;
-use rows_cells::{CellFormat, ImageColumn};
+use rows_cells::CellFormat;
+use rows_images::ImageColumn;
 use rows_meta::{
     IterCharset, IterColumns, IterNames, IterPrimaryKey, IterSignedness, OptionalMetaExtractor,
 };

@@ -9,7 +9,8 @@ use Rattle.rows_values.specs.Readings.{Reading}
 -- consecutive items
 abbrev pub AreItemsEncoded : {A : Type 0} → Encoding A → Encoding (List A)
 AreItemsEncoded encodes [] bytes rest = bytes ≡ []
-AreItemsEncoded encodes (v ∷ vs) bytes rest = (own : List ℕ) × (more : List ℕ) × (bytes ≡ own ++ more) × encodes v own (more ++ rest) × AreItemsEncoded encodes vs more rest
+AreItemsEncoded encodes (v ∷ vs) bytes rest =
+    (own : List ℕ) × (more : List ℕ) × (bytes ≡ own ++ more) × encodes v own (more ++ rest) × AreItemsEncoded encodes vs more rest
 
 -- the items found, and the error that ended the walk, if any
 pub record Walked (A : Type 0) : Type 0 where

@@ -78,7 +78,9 @@ opaque_at bytes = if nat_lt (length bytes) 1 then Err malformed
 
 -- the container of n elements with its first `size` bytes; an error if fewer remain or the entries need more
 abbrev pub container_in : ContainerFormat → ℕ → ℕ → List ℕ → Reading JsonbValue
-container_in f n size bytes = if nat_lt (length bytes) size || nat_lt size (header_size f n) then Err (Jsonb (Some SizeOverflow)) else Ok (container f n (take size bytes))
+container_in f n size bytes =
+    if nat_lt (length bytes) size || nat_lt size (header_size f n) then Err (Jsonb (Some SizeOverflow))
+    else Ok (container f n (take size bytes))
 
 -- the container that bytes begin with, by its count and its size
 abbrev pub container_at : ContainerFormat → List ℕ → Reading JsonbValue
@@ -160,7 +162,9 @@ document_size (b ∷ bytes) = typed_size (jsonb_type_of b) bytes
 
 -- the value at an offset that is at least `least`, the entry's end, and at most the container's size
 abbrev pub pointed : JsonbType → ℕ → ℕ → List ℕ → Reading JsonbValue
-pointed t offset least bytes = if nat_lt (length bytes) offset || nat_lt offset least then Err (Jsonb (Some InvalidValueOffsetPointer)) else json_value_at t (drop offset bytes)
+pointed t offset least bytes =
+    if nat_lt (length bytes) offset || nat_lt offset least then Err (Jsonb (Some InvalidValueOffsetPointer))
+    else json_value_at t (drop offset bytes)
 
 -- the value of the entry at an offset
 abbrev pub entry_of : Bool → Option JsonbType → ℕ → List ℕ → Reading JsonbValue
@@ -179,7 +183,9 @@ elem f n bytes pos = entry_at f.is_large (value_entry_offset f n pos) bytes
 
 -- the key at an offset that is at least `least`, the entries' end; it ends within the container
 abbrev pub key_in : ℕ → ℕ → ℕ → List ℕ → Reading (List ℕ)
-key_in offset len least bytes = if nat_lt offset least || nat_lt (length bytes) (offset + len) then Err (Jsonb (Some InvalidKeyOffsetPointer)) else Ok (take len (drop offset bytes))
+key_in offset len least bytes =
+    if nat_lt offset least || nat_lt (length bytes) (offset + len) then Err (Jsonb (Some InvalidKeyOffsetPointer))
+    else Ok (take len (drop offset bytes))
 
 -- key number pos of an object of n members
 abbrev pub key : ContainerFormat → ℕ → List ℕ → ℕ → Reading (List ℕ)

@@ -11,7 +11,6 @@ mod dom;
 mod elements;
 mod fields;
 mod iterators;
-pub mod laws;
 mod parse;
 mod reading;
 mod storage_format;

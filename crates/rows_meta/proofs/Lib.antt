@@ -7,11 +7,9 @@ pub mod SignLemmas
 pub mod MemberLemmas
 pub mod ServedLemmas
 pub mod LawLemmas
-pub mod EntryErrorLemmas
 pub mod ItemLemmas
 pub mod MemberLawLemmas
 pub mod FieldLemmas
-pub mod EqualFieldLemmas
 pub mod MemberWriteLemmas
 pub mod TableMapParts
 pub mod TypeNumberLemmas

@@ -66,4 +66,6 @@ after_metadata (Some x) = Some x.1
 -- the type and metadata of each column; [] from the first column on whose metadata has an unknown size or missing bytes
 unfoldable pub columns_with_metadata : List ℕ → Option (List ℕ) → List ColumnMeta
 columns_with_metadata [] bytes = []
-columns_with_metadata (n ∷ types) bytes = record { number = n; metadata = own_metadata (split_metadata n bytes) } ∷ columns_with_metadata types (after_metadata (split_metadata n bytes))
+columns_with_metadata (n ∷ types) bytes =
+    record { number = n; metadata = own_metadata (split_metadata n bytes) }
+    ∷ columns_with_metadata types (after_metadata (split_metadata n bytes))

@@ -22,7 +22,10 @@ geometry_type n = constant_with geometry_type_number geometry_types n
 
 -- all types of fields
 abbrev pub field_types : List OptionalMetadataFieldType
-field_types = SIGNEDNESS ∷ DEFAULT_CHARSET ∷ COLUMN_CHARSET ∷ COLUMN_NAME ∷ SET_STR_VALUE ∷ ENUM_STR_VALUE ∷ GEOMETRY_TYPE ∷ SIMPLE_PRIMARY_KEY ∷ PRIMARY_KEY_WITH_PREFIX ∷ ENUM_AND_SET_DEFAULT_CHARSET ∷ ENUM_AND_SET_COLUMN_CHARSET ∷ COLUMN_VISIBILITY ∷ VECTOR_DIMENSIONALITY ∷ []
+field_types =
+    SIGNEDNESS ∷ DEFAULT_CHARSET ∷ COLUMN_CHARSET ∷ COLUMN_NAME ∷ SET_STR_VALUE ∷ ENUM_STR_VALUE ∷ GEOMETRY_TYPE
+    ∷ SIMPLE_PRIMARY_KEY ∷ PRIMARY_KEY_WITH_PREFIX ∷ ENUM_AND_SET_DEFAULT_CHARSET ∷ ENUM_AND_SET_COLUMN_CHARSET
+    ∷ COLUMN_VISIBILITY ∷ VECTOR_DIMENSIONALITY ∷ []
 
 -- the type of a field with this number
 abbrev pub field_type : ℕ → Reading OptionalMetadataFieldType

@@ -37,8 +37,15 @@ id_width post_header = if post_header == 6 then 4 else 6
 -- each name has its length in one byte before it and an ignored byte after it
 abbrev pub IsTableMap : ℕ → Encoding TableMap
 IsTableMap post_header t =
-    (little_endian (id_width post_header) t.table_id ⨾ little_endian 2 t.flags ⨾ Alone IsShortString t.database ⨾ IsSkipped 1 ⨾ Alone IsShortString t.table ⨾ IsSkipped 1 ⨾ Alone IsLenenc (length t.column_types))
-    ⨾ plain_bytes (length t.column_types) t.column_types ⨾ Alone IsLenencString t.metadata ⨾ plain_bytes ((length t.column_types + 7) / 8) t.null_bitmask ⨾ IsAll t.optional_metadata
+    (little_endian (id_width post_header) t.table_id
+    ⨾ little_endian 2 t.flags
+    ⨾ Alone IsShortString t.database ⨾ IsSkipped 1
+    ⨾ Alone IsShortString t.table ⨾ IsSkipped 1
+    ⨾ Alone IsLenenc (length t.column_types))
+    ⨾ plain_bytes (length t.column_types) t.column_types
+    ⨾ Alone IsLenencString t.metadata
+    ⨾ plain_bytes ((length t.column_types + 7) / 8) t.null_bitmask
+    ⨾ IsAll t.optional_metadata
 
 -- the fields before the column count: the table id, the flags and the names, with the ignored bytes
 abbrev pub Names : Type 0
@@ -48,7 +55,8 @@ abbrev pub Skipped : Encoding (Unit {0})
 Skipped v = IsSkipped 1
 
 abbrev pub IsNames : ℕ → Encoding Names
-IsNames post_header = Both (little_endian (id_width post_header)) (Both (little_endian 2) (Both (Alone IsShortString) (Both Skipped (Both (Alone IsShortString) Skipped))))
+IsNames post_header =
+    Both (little_endian (id_width post_header)) (Both (little_endian 2) (Both (Alone IsShortString) (Both Skipped (Both (Alone IsShortString) Skipped))))
 
 -- the column count, and then the types
 abbrev pub IsTypes : Encoding (List ℕ)
@@ -60,7 +68,9 @@ BeginsNoLenenc bytes = lenenc_fault bytes ≡ BadNumber
 
 -- the column count, or the length of the metadata, begins with 251 or 255
 abbrev pub HasBadNumber : ℕ → List ℕ → Type 0
-HasBadNumber post_header x = BeginsThen (IsNames post_header) (λ names rest. BeginsNoLenenc rest) x ⊎ BeginsThen (Both (IsNames post_header) IsTypes) (λ v rest. BeginsNoLenenc rest) x
+HasBadNumber post_header x =
+    BeginsThen (IsNames post_header) (λ names rest. BeginsNoLenenc rest) x
+    ⊎ BeginsThen (Both (IsNames post_header) IsTypes) (λ v rest. BeginsNoLenenc rest) x
 
 -- `BadNumber` exactly if there is such a number, otherwise `Eof`: bytes are missing
 abbrev pub IsMapFault : ℕ → List ℕ → WireFault → Type 0

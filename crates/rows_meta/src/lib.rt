@@ -15,7 +15,6 @@ mod entries;
 mod extractor;
 mod field;
 mod geometry_types;
-pub mod laws;
 mod lengths;
 mod names;
 mod optional_metadata;

@@ -2,12 +2,14 @@
 
 use rows_consts::{
     BINLOG_CHECKSUM_ALG_DESC_LEN, BINLOG_CHECKSUM_LEN, BinlogVersion, CHECKSUM_VERSION_PRODUCT,
-    ENCODED_SID_LENGTH, GTID_HEADER_LEN, Gno, IncidentType, IntvarEventType, InvalidGno,
-    LOGICAL_TIMESTAMP_TYPECODE, LoadDuplicateHandling, OptionalMetadataFieldType, QUERY_HEADER_LEN,
-    ROTATE_HEADER_LEN, ROWS_HEADER_LEN_V1, ROWS_HEADER_LEN_V2, SERVER_VER_LEN,
-    TABLE_MAP_HEADER_LEN, TransactionPayloadFields, UnknownBinlogRowValueOptions,
-    UnknownChecksumAlg, UnknownDuplicateHandling, UnknownEventType, UnknownIncidentType,
-    UnknownIntvarEventType,
+    ENCODED_SID_LENGTH, GTID_HEADER_LEN, LOGICAL_TIMESTAMP_TYPECODE, OptionalMetadataFieldType,
+    QUERY_HEADER_LEN, ROTATE_HEADER_LEN, ROWS_HEADER_LEN_V1, ROWS_HEADER_LEN_V2, SERVER_VER_LEN,
+    TABLE_MAP_HEADER_LEN, UnknownChecksumAlg, UnknownEventType,
+};
+use rows_more_consts::{
+    Gno, IncidentType, IntvarEventType, InvalidGno, LoadDuplicateHandling,
+    TransactionPayloadFields, UnknownBinlogRowValueOptions, UnknownDuplicateHandling,
+    UnknownIncidentType, UnknownIntvarEventType,
 };
 
 fn numbers_of_constants() -> bool {

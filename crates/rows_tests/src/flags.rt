@@ -2,10 +2,8 @@
 
 use crate::devices::is_text;
 use bitflags::Flags;
-use rows_consts::{
-    EventFlags, GtidFlags, RowsEventFlags, SemiSyncFlags, UnknownEventFlags, UnknownGtidFlags,
-    UserVarFlags,
-};
+use rows_consts::{EventFlags, RowsEventFlags, SemiSyncFlags, UnknownEventFlags};
+use rows_more_consts::{GtidFlags, UnknownGtidFlags, UserVarFlags};
 use std::alloc::Global;
 
 // A set of flags, by its trait alone.

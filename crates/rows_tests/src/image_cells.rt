@@ -1,6 +1,7 @@
 //! Reading the cells of an image one by one.
 
-use rows_cells::{CellFormat, CellRef, ImageCells, ImageColumn, ImagePlan, Width};
+use rows_cells::{CellFormat, CellRef, Width};
+use rows_images::{ImageCells, ImageColumn, ImagePlan};
 use rows_values::RowsError;
 
 /// A column of signed integers of four bytes.

@@ -1,47 +1,47 @@
 //! Each law can be called, without effect.
 
 fn laws_of_constants() {
-    rows_consts::laws::orders_are_of_numbers();
-    rows_consts::laws::numbers_are_distinct();
-    rows_consts::laws::transaction_numbers();
-    rows_consts::laws::worked_numbers();
+    rows_more_consts::laws::orders_are_of_numbers();
+    rows_more_consts::laws::numbers_are_distinct();
+    rows_more_consts::laws::transaction_numbers();
+    rows_more_consts::laws::worked_numbers();
 }
 
 fn laws_of_values() {
-    rows_values::laws::equal_values_are_the_same();
-    rows_values::laws::equal_columns_and_times_are_the_same();
-    rows_values::laws::equal_rows_are_the_same();
-    rows_values::laws::worked_time_values();
-    rows_values::laws::worked_bits();
+    mysql_binlog_rows::laws::equal_values_are_the_same();
+    mysql_binlog_rows::laws::equal_columns_and_times_are_the_same();
+    mysql_binlog_rows::laws::equal_rows_are_the_same();
+    mysql_binlog_rows::laws::worked_time_values();
+    mysql_binlog_rows::laws::worked_bits();
 }
 
 fn laws_of_times() {
-    rows_values::laws::times_by_cases();
-    rows_values::laws::packed_fields_are_read_back();
-    rows_values::laws::worked_time();
+    mysql_binlog_rows::laws::times_by_cases();
+    mysql_binlog_rows::laws::packed_fields_are_read_back();
+    mysql_binlog_rows::laws::worked_time();
 }
 
 fn laws_of_decimals() {
-    rows_values::laws::numbers_in_order();
-    rows_values::laws::packed_bytes_are_uniquely_read();
-    rows_values::laws::packed_bytes_are_unpacked();
-    rows_values::laws::packed_bytes_are_read_back();
-    rows_values::laws::named_numbers();
-    rows_values::laws::only_zero_groups_are_dropped();
-    rows_values::laws::texts_are_parsed_back();
-    rows_values::laws::worked_decimals();
-    rows_values::laws::worked_unpacking();
+    mysql_binlog_rows::laws::numbers_in_order();
+    mysql_binlog_rows::laws::packed_bytes_are_uniquely_read();
+    mysql_binlog_rows::laws::packed_bytes_are_unpacked();
+    mysql_binlog_rows::laws::packed_bytes_are_read_back();
+    mysql_binlog_rows::laws::named_numbers();
+    mysql_binlog_rows::laws::only_zero_groups_are_dropped();
+    mysql_binlog_rows::laws::texts_are_parsed_back();
+    mysql_binlog_rows::laws::worked_decimals();
+    mysql_binlog_rows::laws::worked_unpacking();
 }
 
 fn laws_of_documents_and_metadata() {
-    rows_jsonb::laws::diffs_are_read();
-    rows_jsonb::laws::lists_of_diffs_are_read();
-    rows_jsonb::laws::worked_objects();
-    rows_jsonb::laws::worked_pointer();
-    rows_jsonb::laws::worked_budget();
-    rows_jsonb::laws::worked_depth();
-    rows_meta::laws::entries_are_read();
-    rows_meta::laws::lists_are_read();
+    mysql_binlog_rows::laws::diffs_are_read();
+    mysql_binlog_rows::laws::lists_of_diffs_are_read();
+    mysql_binlog_rows::laws::worked_objects();
+    mysql_binlog_rows::laws::worked_pointer();
+    mysql_binlog_rows::laws::worked_budget();
+    mysql_binlog_rows::laws::worked_depth();
+    mysql_binlog_rows::laws::entries_are_read();
+    mysql_binlog_rows::laws::lists_are_read();
 }
 
 fn laws_of_texts() {
@@ -53,15 +53,15 @@ fn laws_of_texts() {
 }
 
 fn laws_of_rows() {
-    rows_cells::laws::cells_are_read();
-    rows_cells::laws::no_cell_is_prefix_of_another();
-    rows_cells::laws::kept_values_are_those_of_cells();
-    rows_cells::laws::images_are_read();
-    rows_cells::laws::no_image_is_prefix_of_another();
-    rows_cells::laws::rows_are_read();
-    rows_cells::laws::lists_of_rows_are_read();
-    rows_events::laws::events_are_written_whole();
-    rows_events::laws::equal_events_say_the_same();
+    mysql_binlog_rows::laws::cells_are_read();
+    mysql_binlog_rows::laws::no_cell_is_prefix_of_another();
+    mysql_binlog_rows::laws::kept_values_are_those_of_cells();
+    mysql_binlog_rows::laws::images_are_read();
+    mysql_binlog_rows::laws::no_image_is_prefix_of_another();
+    mysql_binlog_rows::laws::rows_are_read();
+    mysql_binlog_rows::laws::lists_of_rows_are_read();
+    mysql_binlog_rows::laws::events_are_written_whole();
+    mysql_binlog_rows::laws::equal_events_say_the_same();
 }
 
 #[test]

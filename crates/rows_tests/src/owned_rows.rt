@@ -1,7 +1,8 @@
 //! Owned rows: access to their values, the column indexes of these, and conversion to rows of plain values.
 
-use rows_cells::{BinlogValue, BinlogValueToValueError, CellFormat, ImageColumn, Width};
+use rows_cells::{BinlogValue, BinlogValueToValueError, CellFormat, Width};
 use rows_events::{BinlogRow, BinlogRowToRowError};
+use rows_images::ImageColumn;
 use rows_jsonb::Value as JsonbValue;
 use rows_values::{Column, Row, Value};
 use std::alloc::{AllocError, Global};

@@ -1,10 +1,11 @@
 //! Images by the plan of a table's columns, and a table with a thousand columns.
 
-use rows_cells::{BinlogValue, CellRef, ImageColumn, RowPart, RowsCursor};
+use rows_cells::{BinlogValue, CellRef};
 use rows_events::{
     BinlogRow, BinlogRowCtx, ColumnPlan, EventColumns, ImageColumns, RowImage, RowsEvent,
     RowsEventCtx, RowsEventType,
 };
+use rows_images::{ImageColumn, RowPart, RowsCursor};
 use rows_meta::TableMapEvent;
 use rows_values::{Bits, Column, RowsError, Value};
 use std::alloc::{AllocError, Global};

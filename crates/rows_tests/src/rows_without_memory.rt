@@ -2,7 +2,8 @@
 
 use feed_text::put_cell_ref;
 use linked_list_allocator::LocalHeap;
-use rows_cells::{CellFormat, ImageColumn, ImagePlan, RowPart, RowPlan, RowsCursor, Width};
+use rows_cells::{CellFormat, Width};
+use rows_images::{ImageColumn, ImagePlan, RowPart, RowPlan, RowsCursor};
 use std::alloc::Global;
 
 /// A column of signed integers of four bytes.

@@ -1,7 +1,8 @@
 //! The text of an image's cells, in a buffer with spare capacity.
 
 use feed_text::TextBuffer;
-use rows_cells::{CellFormat, CellRef, ImageCells, ImageColumn, ImagePlan, Width};
+use rows_cells::{CellFormat, CellRef, Width};
+use rows_images::{ImageCells, ImageColumn, ImagePlan};
 use rows_values::RowsError;
 use std::alloc::Global;
 

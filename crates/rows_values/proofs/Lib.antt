@@ -15,12 +15,10 @@ pub mod DigitTextLemmas
 pub mod FlipBackLemmas
 pub mod WriteLemmas
 pub mod PackedPrefixLemmas
-pub mod Computed
 pub mod CheckLemmas
 pub mod NumberLemmas
 pub mod SideLemmas
 pub mod TimeTextLemmas
-pub mod TimeCaseLemmas
 pub mod RowLemmas
 pub mod EqualLemmas
 pub mod EqualBitLemmas

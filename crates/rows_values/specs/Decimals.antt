@@ -139,8 +139,10 @@ pub record ReadsPacked (keep : Bool) (d : DecimalParts) (old new : Option (List 
 
 -- the precision and the scale were not both there, or the reader failed; or both were taken, and no decimal was read after them
 pub data FailsPacked : RowsError → Option (List ℕ) → Option (List ℕ) → Type 0 where
-  early : {fault : RowsError} {old new : Option (List ℕ)} (taken : List ℕ) → Consumes old new taken → length taken ≤ 2 → ((fault ≡ EndOfBody) × IsAtEnd new × (length taken < 2)) ⊎ (fault ≡ Read) → FailsPacked fault old new
-  following : {fault : RowsError} {old middle new : Option (List ℕ)} (precision scale : ℕ) → Consumes old middle (precision ∷ scale ∷ []) → FailsDecimal precision scale fault middle new → FailsPacked fault old new
+  early : {fault : RowsError} {old new : Option (List ℕ)} (taken : List ℕ) → Consumes old new taken → length taken ≤ 2
+      → ((fault ≡ EndOfBody) × IsAtEnd new × (length taken < 2)) ⊎ (fault ≡ Read) → FailsPacked fault old new
+  following : {fault : RowsError} {old middle new : Option (List ℕ)} (precision scale : ℕ)
+      → Consumes old middle (precision ∷ scale ∷ []) → FailsDecimal precision scale fault middle new → FailsPacked fault old new
 
 -- out of memory, and nothing was written; or the writer failed, and a prefix of the bytes was written
 abbrev pub FailsToWrite : WireFault → List ℕ → Option (List ℕ) → Option (List ℕ) → Type 0

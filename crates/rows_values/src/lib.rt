@@ -19,7 +19,6 @@ mod fault;
 mod fields;
 mod group_number;
 mod groups;
-pub mod laws;
 mod numbers;
 mod order;
 mod packed_check;

@@ -1,11 +1,8 @@
 pub mod SequenceLemmas
 pub mod CountLemmas
-pub mod SequenceBytewiseLemmas
 pub mod WritingLemmas
 pub mod SevenLemmas
-pub mod OnesLemmas
 pub mod StreamLemmas
-pub mod LenencStreamLemmas
 pub mod FixedLemmas
 pub mod BytewiseLemmas
 pub mod TextLemmas

@@ -1,37 +1,16 @@
--- Values at the start of a reader's bytes, and two parts that a writer takes in sequence.
-use Rattle.std.proofs.Common.{◌≡◌, ◌++◌, ℕ, List, length, take, drop, append_assoc, sym, ap, subst, ◌∙◌, Option, Some, None}
-use Rattle.std.proofs.lemmas.List.{append-nil, take-append-drop}
+-- Two parts that a writer takes in sequence, and an error that is passed on.
+use Rattle.std.proofs.Common.{◌≡◌, ◌++◌, ℕ, List, length, take, drop, append_assoc, sym, ap, subst, ◌∙◌, Option, Result, IsErr, IsErrAnd, IfErr}
+use Rattle.std.proofs.lemmas.List.{take-append-drop}
+use Rattle.std.proofs.lemmas.Result.{err_from_is_err_and}
 use Rattle.std.proofs.Math.Seq.{take-append_seam}
-use Rattle.wire_buf.specs.Encoding.{Lacks, Alone}
-use Rattle.wire_buf.proofs.EncodingLemmas.{Reads-prefix}
+use Rattle.wire_buf.specs.declared.fault.WireFault.{WireFault}
 use Rattle.wire_buf.specs.Transfers.{WritesPrefix}
-use Rattle.wire_forms.specs.Streams.{ReadsFrom, LacksIn}
 use Rattle.std.proofs.KnownBytes.{Appends-trans}
-use Rattle.std.specs.Io.KnownBytes.{Consumes, Appends, IsAtEnd}
+use Rattle.std.specs.Io.KnownBytes.{Appends}
 
--- facts about all known bytes from a prefix of them
-module _ {A : Type 0} (encodes : A → List ℕ → Type 0) (prefix : List ℕ → Option (A × List ℕ))
-    (complete : (v : A) (bytes r : List ℕ) → encodes v bytes → prefix (bytes ++ r) ≡ Some (v, r)) where
-  pub ReadsFrom-taken : (v : A) (taken : List ℕ) (old new : Option (List ℕ)) → encodes v taken → Consumes old new taken → ReadsFrom (Alone encodes) v old new
-  ReadsFrom-taken v taken None new is h = tt
-  ReadsFrom-taken v taken (Some x) None is h = absurd h
-  ReadsFrom-taken v taken (Some x) (Some y) is h = Reads-prefix encodes prefix complete v x y (record { bytes = taken; joined = h; is = is })
-
--- no value begins with these bytes, whatever follows
-pub lacks_taken : {A : Type 0} (encodes : A → List ℕ → List ℕ → Type 0) (taken : List ℕ) (old new : Option (List ℕ)) → Consumes old new taken
-    → ((r : List ℕ) → Lacks encodes (taken ++ r)) → LacksIn encodes old
-lacks_taken encodes taken None new h none = tt
-lacks_taken encodes taken (Some x) None h none = absurd h
-lacks_taken encodes taken (Some x) (Some y) h none = λ v r t. none y v r (record { bytes = t.bytes; joined = sym h ∙ t.joined; is = t.is })
-
--- at the end of the input, the taken bytes are all there were
-pub lacks_ended : {A : Type 0} (encodes : A → List ℕ → List ℕ → Type 0) (taken : List ℕ) (old new : Option (List ℕ)) → Consumes old new taken → IsAtEnd new
-    → Lacks encodes taken → LacksIn encodes old
-lacks_ended encodes taken None new h end none = tt
-lacks_ended encodes taken (Some x) None h end none = absurd h
-lacks_ended encodes taken (Some x) (Some y) h end none = λ v r t.
-    let all : x ≡ taken = h ∙ ap (λ l. taken ++ l) end ∙ append-nil taken in
-    none v r (record { bytes = t.bytes; joined = sym all ∙ t.joined; is = t.is })
+-- a `?` whose error is passed on
+pub IfErr-same : {T : Type 0} (r : Result T WireFault) (e : WireFault) (P : WireFault → Type 0) → IsErr r × IsErrAnd r (λ y. y ≡ e) → P e → IfErr r P
+IfErr-same r e P h p = let f = err_from_is_err_and r h.1 in rw f.1 (subst P (sym f.2) p)
 
 -- a prefix of the first of two parts, and a prefix of the second after the first
 pub some_first : (a b : List ℕ) (old new : Option (List ℕ)) → WritesPrefix a old new → WritesPrefix (a ++ b) old new

@@ -4,13 +4,10 @@ pub mod Ints
 pub mod Faults
 pub mod Strings
 pub mod Sevens
-pub mod TrailingOnes
-pub mod Streams
 pub mod Raw
 pub mod Bits
 pub mod Bytewise
 pub mod Texts
-pub mod Eithers
 pub mod Consts
 pub mod Overwritten
 pub mod RawTexts

@@ -1,10 +1,10 @@
 //! Fields of MySQL's packets and events: integers and byte strings in each of their encodings, constants as their numbers, sets of
-//! flags, constant bytes, fields of one of two formats, and sequences of fields; and integers and strings over buffers and streams.
+//! flags, bytes without meaning, and sequences of fields; and integers and strings over buffers and writers.
 //!
 //! A field is a type with `MyDeserialize` and `MySerialize`. An encoding of integers is a type with the trait [`IntRepr`], one of
 //! byte strings a type with [`BytesRepr`], and one of sequences a type with [`SeqRepr`]; the contracts of these traits have their
-//! laws. [`RawInt`], [`RawBytes`] and [`RawSeq`] are fields in such an encoding. `specs/Ints.antt` and `specs/Texts.antt` say which
-//! bytes encode a number or a string, and how much of it is written.
+//! laws. [`RawInt`] and [`RawBytes`] are fields in such an encoding. `specs/Ints.antt` and `specs/Texts.antt` say which bytes encode
+//! a number or a string, and how much of it is written.
 #![tactic(auto)]
 
 mod buf_mut_ext;
@@ -13,24 +13,18 @@ mod bytes_repr;
 mod consts;
 mod counted_bytes;
 mod counts;
-mod either;
 mod fixed;
-mod fixed_bytes;
 mod flags;
-mod halves;
 mod int_repr;
 mod items;
-pub mod laws;
 mod lenenc;
 mod number;
 mod plain_bytes;
 mod raw_bytes;
-mod raw_seq;
-mod read_ext;
 mod seq;
 mod seq_repr;
+mod skip;
 mod varlen;
-mod varlen_uint;
 mod write_ext;
 
 pub use buf_mut_ext::BufMutExt;
@@ -38,24 +32,19 @@ pub use bytes_repr::{BytesRepr, InnerBytes};
 pub use consts::{Const, RawConst};
 pub use counted_bytes::{U8Bytes, U32Bytes};
 pub use counts::Unknown;
-pub use either::Either;
 pub use fixed::{
     BeI16, BeI24, BeI32, BeI40, BeI48, BeI56, BeI64, BeI128, BeU16, BeU24, BeU32, BeU40, BeU48,
     BeU56, BeU64, BeU128, Fixed, InBytes, LeI16, LeI24, LeI32, LeI40, LeI48, LeI56, LeI64, LeI128,
     LeU16, LeU24, LeU32, LeU40, LeU48, LeU56, LeU64, LeU128,
 };
-pub use fixed_bytes::{ConstBytes, ConstBytesValue, ConstU8, ConstU32, Skip};
 pub use flags::RawFlags;
-pub use halves::{LeU32LowerHalf, LeU32UpperHalf};
 pub use int_repr::{IntRepr, RawInt};
 pub use lenenc::{InvalidLengthEncodedInteger, LenEnc, lenenc_int_len, lenenc_str_len};
 pub use number::{Number, Unsigned};
 pub use plain_bytes::{BareBytes, BareU8Bytes, BareU16Bytes, EofBytes, FixedLengthText, NullBytes};
 pub use raw_bytes::RawBytes;
-pub use raw_seq::RawSeq;
-pub use read_ext::ReadMysqlExt;
 pub use seq::Seq;
 pub use seq_repr::SeqRepr;
+pub use skip::Skip;
 pub use varlen::{VarLen, varlen_bytes};
-pub use varlen_uint::{read_varlen_uint, varlen_uint_size, write_varlen_uint};
 pub use write_ext::WriteMysqlExt;

@@ -5,4 +5,3 @@ pub mod PacketLemmas
 pub mod PieceLemmas
 pub mod ChunkLemmas
 pub mod VersionLemmas
-pub mod SplitLemmas

@@ -9,7 +9,6 @@ mod chunk_decoder;
 mod error;
 mod framing;
 mod header;
-pub mod laws;
 mod packet_codec;
 mod pieces;
 mod version;

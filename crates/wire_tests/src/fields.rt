@@ -6,10 +6,8 @@ use crate::helpers::{read_error, round_trips_as, size_agrees, writes};
 use std::alloc::Global;
 use wire_buf::{MySerialize, ParseBuf, WireFault};
 use wire_consts::{ColumnFlags, ColumnType, GeometryType, ItemResult};
-use wire_forms::{
-    BareU8Bytes, Const, ConstBytes, ConstBytesValue, ConstU8, ConstU32, Either, LeU16, RawBytes,
-    RawConst, RawFlags, RawInt, Skip,
-};
+use wire_forms::{BareU8Bytes, Const, LeU16, RawBytes, RawConst, RawFlags, RawInt, Skip};
+use wire_more_forms::{ConstBytes, ConstBytesValue, ConstU8, ConstU32, Either};
 
 fn constants_and_flags(alloc: Global) -> bool {
     let flags = RawFlags::<ColumnFlags, LeU16>::new(0x0100);

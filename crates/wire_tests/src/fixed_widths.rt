@@ -5,8 +5,9 @@ use std::alloc::Global;
 use wire_forms::{
     BeI16, BeI24, BeI32, BeI40, BeI48, BeI56, BeI64, BeI128, BeU16, BeU24, BeU32, BeU40, BeU48,
     BeU56, BeU64, BeU128, LeI16, LeI24, LeI32, LeI40, LeI48, LeI56, LeI64, LeI128, LeU16, LeU24,
-    LeU32, LeU32LowerHalf, LeU32UpperHalf, LeU40, LeU48, LeU56, LeU64, LeU128, LenEnc, VarLen,
+    LeU32, LeU40, LeU48, LeU56, LeU64, LeU128, LenEnc, VarLen,
 };
+use wire_more_forms::{LeU32LowerHalf, LeU32UpperHalf};
 
 fn one_byte(alloc: Global) -> bool {
     agrees::<u8>(alloc, 7, b"\x07") && agrees::<i8>(alloc, -1, b"\xff")

@@ -3,11 +3,13 @@
 use crate::helpers::{number_parsed, writes_number, written};
 use std::alloc::Global;
 use wire_buf::{ParseBuf, WireFault};
-use wire_forms::laws::read_back;
 use wire_forms::{
-    BufMutExt, InvalidLengthEncodedInteger, LeI24, LeI48, LeU16, LeU24, LeU32LowerHalf,
-    LeU32UpperHalf, LeU128, LenEnc, RawInt, VarLen, lenenc_int_len, lenenc_str_len,
-    read_varlen_uint, varlen_uint_size, write_varlen_uint,
+    BufMutExt, InvalidLengthEncodedInteger, LeI24, LeI48, LeU16, LeU24, LeU128, LenEnc, RawInt,
+    VarLen, lenenc_int_len, lenenc_str_len,
+};
+use wire_more_forms::laws::read_back;
+use wire_more_forms::{
+    LeU32LowerHalf, LeU32UpperHalf, read_varlen_uint, varlen_uint_size, write_varlen_uint,
 };
 
 fn length_encoded_numbers(alloc: Global) -> bool {

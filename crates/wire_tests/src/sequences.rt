@@ -7,8 +7,9 @@ use wire_buf::{MySerialize, ParseBuf, WireFault};
 use wire_consts::ColumnType;
 use wire_forms::{
     BeU16, BeU24, BeU32, BeU40, BeU48, BeU56, BeU64, BeU128, LeU16, LeU24, LeU32, LeU40, LeU48,
-    LeU56, LeU64, LeU128, RawBytes, RawInt, RawSeq, Seq, SeqRepr, U8Bytes, Unknown,
+    LeU56, LeU64, LeU128, RawBytes, RawInt, Seq, SeqRepr, U8Bytes, Unknown,
 };
+use wire_more_forms::RawSeq;
 
 type Numbers<'a, U> = Seq<'a, RawInt<LeU16>, U>;
 

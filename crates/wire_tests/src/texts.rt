@@ -4,11 +4,11 @@ use crate::helpers::{parsed, read_error, size_agrees, writes};
 use std::alloc::Global;
 use std::borrow::CowSlice;
 use wire_buf::{ParseBuf, WireFault, WireSize};
-use wire_forms::laws::read_back_bytes;
 use wire_forms::{
     BareU8Bytes, BareU16Bytes, BytesRepr, EofBytes, FixedLengthText, LenEnc, NullBytes, RawBytes,
     U8Bytes, U32Bytes, VarLen,
 };
+use wire_more_forms::laws::read_back_bytes;
 
 /// Whether the representation writes the text as the bytes.
 fn writes_text<T: BytesRepr>(alloc: Global, text: &[u8], bytes: &[u8]) -> bool {

@@ -11,8 +11,8 @@ use Rattle.rows_meta.specs.Members.{strings_in}
 use Rattle.rows_meta.specs.MetadataFields.{bits_from, is_numeric_number}
 use Rattle.rows_meta.specs.Served.{charset_after}
 use Rattle.rows_cells.specs.Cells.{cell_at}
-use Rattle.rows_cells.specs.Images.{cells_at, lenenc_at, image_at}
-use Rattle.rows_cells.specs.EventRows.{images_at, row_at}
+use Rattle.rows_images.specs.Images.{cells_at, lenenc_at, image_at}
+use Rattle.rows_images.specs.EventRows.{images_at, row_at}
 use Rattle.rows_events.specs.Plans.{keys_after, column_at, first_columns}
 use Rattle.hex.specs.Hex.{encode_with}
 use Rattle.feed_writers.specs.Quoting.{quoted}

@@ -1,4 +1,4 @@
-use Rattle.rows_cells.specs.ImageViews.{image_shape}
+use Rattle.rows_images.specs.ImageViews.{image_shape}
 use Rattle.feed_rows.proofs.RowLineLemmas.{image_untold}
 use Rattle.feed_rows.proofs.lines.put_image.Goals as goal
 

@@ -1,7 +1,7 @@
 use Rattle.std.proofs.Common.{rules, ◌≡◌, Some, None}
 use Rattle.wire_buf.proofs.EncodingLemmas.{IfErr-of_same}
-use Rattle.rows_cells.specs.ImageViews.{image_shape}
-use Rattle.rows_cells.specs.RowViews.{second_shape}
+use Rattle.rows_images.specs.ImageViews.{image_shape}
+use Rattle.rows_images.specs.RowViews.{second_shape}
 use Rattle.feed_rows.proofs.RowLineLemmas.{one_image, first_failed, second_put, second_not_put}
 use Rattle.feed_rows.proofs.lines.put_images.Goals as goal
 

@@ -1,6 +1,6 @@
 use Rattle.std.proofs.Common.{rules, arith, refl, ◌≡◌, ◌<◌, length}
 use Rattle.wire_buf.proofs.EncodingLemmas.{IfErr-of_same}
-use Rattle.rows_cells.specs.RowViews.{row_shape}
+use Rattle.rows_images.specs.RowViews.{row_shape}
 use Rattle.feed_text.specs.Buffers.{text_in}
 use Rattle.feed_rows.proofs.RowLineLemmas.{none_put, more_put, all_put, lines_failed}
 use Rattle.feed_rows.proofs.lines.put_lines.Goals as goal

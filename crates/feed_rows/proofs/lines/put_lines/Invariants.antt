@@ -1,5 +1,5 @@
 use Rattle.std.proofs.Common.{length}
-use Rattle.rows_cells.specs.RowViews.{row_shape}
+use Rattle.rows_images.specs.RowViews.{row_shape}
 use Rattle.feed_text.specs.Buffers.{text_in}
 use Rattle.feed_rows.specs.RowLines.{IsAppendedSoFar}
 use Rattle.feed_rows.proofs.lines.put_lines.Given as goal

@@ -1,6 +1,6 @@
 use Rattle.std.proofs.Common.{rules, arith, refl, inl, ◌≤◌, ◌<◌, length}
 use Rattle.wire_buf.proofs.EncodingLemmas.{IfErr-of_same}
-use Rattle.rows_cells.specs.RowViews.{row_shape}
+use Rattle.rows_images.specs.RowViews.{row_shape}
 use Rattle.feed_rows.proofs.RowLineLemmas.{row_put, row_failed, row_empty, not_shorter}
 use Rattle.feed_rows.proofs.lines.put_row.Goals as goal
 

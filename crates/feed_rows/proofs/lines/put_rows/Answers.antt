@@ -1,5 +1,5 @@
 use Rattle.std.proofs.Common.{rules, arith, ◌≡◌, ◌<◌, length, Ok}
-use Rattle.rows_cells.specs.RowViews.{row_shape}
+use Rattle.rows_images.specs.RowViews.{row_shape}
 use Rattle.rows_events.specs.ImageShapes.{table_plan}
 use Rattle.rows_events.specs.EventShapes.{event_shapes}
 use Rattle.rows_events.specs.RowPairs.{planned_table}

@@ -1,6 +1,6 @@
 use Rattle.std.proofs.Common.{ap, ◌∷◌}
-use Rattle.rows_cells.specs.ImageViews.{image_shape}
-use Rattle.rows_cells.specs.RowViews.{row_shape, second_shape}
+use Rattle.rows_images.specs.ImageViews.{image_shape}
+use Rattle.rows_images.specs.RowViews.{row_shape, second_shape}
 use Rattle.feed_text.specs.Buffers.{text_in}
 use Rattle.feed_rows.proofs.RowLineLemmas.{short_put, rows_shorter}
 use Rattle.feed_rows.proofs.lines.put_short_lines.Goals as goal

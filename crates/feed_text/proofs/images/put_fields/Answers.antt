@@ -41,7 +41,7 @@ loop-field-preserved c =
 
 pub returns : goal.returns
 returns c =
-    elim c.match-next_field.branch [
+    elim c.match-next_plain_field.branch [
       | in_default w ↦ rw w.text-is c.loop-field.invariant.writes
       | in-Some+in_default-put_field w ↦
           rw w.text-is (prefix_stays c.args.cells c.loop-field.left c.args.at c.loop-field.end w.put_label-start.result w.in-Some.field.column c.args.text.now c.loop-field.text w.put_label-start.new.text w.put_field.new.text c.loop-field.invariant.writes w.put_label-start.ensures.from w.put_label-start.ensures.text w.in_default-put_field.ensures (let within = c.loop-field.invariant.writes.within in omega (arith, within, ap length w.text-is)))

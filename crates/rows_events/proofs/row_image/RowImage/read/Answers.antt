@@ -1,5 +1,5 @@
 use Rattle.std.proofs.Common.{length, sym, ap, ◌∙◌}
-use Rattle.rows_cells.specs.Images.{ImageShape}
+use Rattle.rows_images.specs.Images.{ImageShape}
 use Rattle.rows_events.proofs.row_image.RowImage.read.Goals as goal
 
 pub of_image-row-requires : goal.of_image-row-requires

@@ -2,7 +2,7 @@ use Rattle.std.proofs.Common.{◌≡◌, subst}
 use Rattle.std.specs.Io.KnownBytes.{Appends}
 use Rattle.wire_buf.specs.declared.fault.WireFault.TheVariants.{Write}
 use Rattle.wire_buf.specs.Transfers.{WritesPrefix}
-use Rattle.wire_forms.proofs.LenencStreamLemmas.{IfErr-same}
+use Rattle.wire_forms.proofs.StreamLemmas.{IfErr-same}
 use Rattle.wire_forms.proofs.write_ext.WriteMysqlExt.write_lenenc_int.Goals as goal
 
 pub returns-in_err-write_all-clause-err : goal.returns-in_err-write_all-clause-err

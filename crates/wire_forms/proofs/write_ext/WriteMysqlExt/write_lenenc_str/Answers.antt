@@ -2,7 +2,7 @@ use Rattle.std.proofs.Common.{◌≡◌}
 use Rattle.wire_buf.specs.declared.fault.WireFault.TheVariants.{Write}
 use Rattle.wire_buf.specs.Transfers.{WritesPrefix}
 use Rattle.wire_forms.proofs.StreamLemmas.{some_first, some_second}
-use Rattle.wire_forms.proofs.LenencStreamLemmas.{IfErr-same}
+use Rattle.wire_forms.proofs.StreamLemmas.{IfErr-same}
 use Rattle.wire_forms.proofs.write_ext.WriteMysqlExt.write_lenenc_str.Goals as goal
 
 pub returns-in_err-write_lenenc_int-clause-err : goal.returns-in_err-write_lenenc_int-clause-err

@@ -1,0 +1,57 @@
+//! The program `binlog-changes`: the committed changes of MySQL binary logs as JSON, whether logs are whole, and their events.
+//!
+//! `binlog-changes json FILE..` prints a JSON object a line for each changed row; `check` says whether logs are whole; `events`
+//! lists events. The status is 0 if all logs are whole, 1 if one isn't, 2 for a wrong command line, and 3 if reading or writing
+//! failed or memory ran out. It ends quietly if whoever reads its output has gone.
+#![tactic(auto)]
+
+mod cells;
+mod changes;
+mod character_sets;
+mod columns;
+mod command_line;
+mod documents;
+mod events;
+mod filter;
+mod json;
+mod lines;
+mod output;
+mod rows;
+mod run;
+mod tables;
+mod times;
+mod words;
+
+use crate::command_line::{Refused, parse};
+use std::env;
+use std::process::ExitCode;
+use std::rt::Env;
+
+fn main(rt: HostRuntime) -> ExitCode {
+    let words = match env::args(&rt) {
+        Ok(words) => words,
+        Err(_) => {
+            let _ = eprintln!(&rt; "binlog-changes: the arguments can't be read");
+            return ExitCode::from(2);
+        }
+    };
+    let Ok(words) = words.collect::<Vec<String>>(rt.alloc()) else {
+        let _ = eprintln!(&rt; "binlog-changes: out of memory");
+        return ExitCode::from(3);
+    };
+    match parse(rt.alloc(), &words) {
+        Ok(options) => run::run(&rt, &options),
+        Err(Refused::Words(error)) => {
+            let _ = error.print(&rt);
+            ExitCode::from(error.exit_code() as u8)
+        }
+        Err(Refused::Value(name, example)) => {
+            let _ = eprintln!(&rt; "binlog-changes: --{name} wants a value such as {example}");
+            ExitCode::from(2)
+        }
+        Err(Refused::NoCommand) => {
+            let _ = eprintln!(&rt; "binlog-changes: the commands are json, check and events");
+            ExitCode::from(2)
+        }
+    }
+}

@@ -1,0 +1,5 @@
+pub mod CheckedRowLemmas
+pub mod KeptTableLemmas
+pub mod KeptChangeLemmas
+pub mod RecorderLemmas
+pub mod LogLemmas

@@ -1,0 +1,19 @@
+//! The committed transactions of a binary log as values: the rows of tables and the statements of each, in order.
+#![tactic(auto)]
+
+mod change;
+mod change_log;
+mod change_recorder;
+mod checked_rows;
+mod committed_transaction;
+mod kept_changes;
+mod kept_tables;
+pub mod laws;
+mod parts;
+mod stop;
+
+pub use change::{Change, Changes, TableRows, What};
+pub use change_log::ChangeLog;
+pub use change_recorder::ChangeRecorder;
+pub use committed_transaction::CommittedTransaction;
+pub use stop::Stop;

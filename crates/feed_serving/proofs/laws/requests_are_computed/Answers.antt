@@ -1,5 +1,0 @@
-use Rattle.feed_serving.proofs.FileLemmas.{requested_is, is_requested}
-use Rattle.feed_serving.proofs.laws.requests_are_computed.Goals as goal
-
-pub returns : goal.returns
-returns c = λ request name asked. (requested_is request name asked, is_requested request name asked)

@@ -1,5 +1,0 @@
-use Rattle.feed_streams.proofs.StreamLemmas.{payload-holds, event-back}
-use Rattle.feed_streams.proofs.laws.payloads_are_of_their_events.Goals as goal
-
-pub returns : goal.returns
-returns c = record { holds = payload-holds; event = event-back }

@@ -1,0 +1,4 @@
+pub mod TimeCaseLemmas
+pub mod Computed
+pub mod EntryErrorLemmas
+pub mod EqualFieldLemmas

@@ -1,5 +1,0 @@
-use Rattle.rows_events.proofs.EqualLemmas.{events_decide}
-use Rattle.rows_events.proofs.laws.equal_events_say_the_same.Goals as goal
-
-pub returns : goal.returns
-returns c = events_decide

@@ -1,5 +1,0 @@
-use Rattle.rows_events.proofs.WritingLemmas.{written_whole}
-use Rattle.rows_events.proofs.laws.events_are_written_whole.Goals as goal
-
-pub returns : goal.returns
-returns c = written_whole

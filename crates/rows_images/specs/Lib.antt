@@ -1,0 +1,4 @@
+pub mod Images
+pub mod ImageViews
+pub mod EventRows
+pub mod RowViews

@@ -1,8 +1,0 @@
-use Rattle.rows_jsonb.proofs.DiffLemmas.{diff-complete, diff-sound}
-use Rattle.rows_jsonb.proofs.laws.diffs_are_read.Goals as goal
-
-pub returns : goal.returns
-returns c d bytes rest = (
-  (λ h. let b = diff-sound bytes d rest h in (b.bytes, b.joined, b.is)),
-  (λ h. rw h.1 (diff-complete d h.0 rest rest h.2)),
-)

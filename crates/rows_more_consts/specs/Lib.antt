@@ -1,0 +1,2 @@
+pub mod MoreConstants
+pub mod Conversions

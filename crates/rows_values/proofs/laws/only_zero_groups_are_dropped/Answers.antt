@@ -1,5 +1,0 @@
-use Rattle.rows_values.proofs.ZeroLemmas.{groups_split}
-use Rattle.rows_values.proofs.laws.only_zero_groups_are_dropped.Goals as goal
-
-pub returns : goal.returns
-returns c = groups_split

@@ -1,5 +1,0 @@
-use Rattle.wire_packets.proofs.PacketLemmas.{prefix_of_packets}
-use Rattle.wire_packets.proofs.laws.packets_are_longest.Goals as goal
-
-pub returns : goal.returns
-returns c = λ limit k s ps r all is. (_, prefix_of_packets limit k s ps r all is)

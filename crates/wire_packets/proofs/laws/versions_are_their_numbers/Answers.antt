@@ -1,5 +1,0 @@
-use Rattle.wire_packets.proofs.VersionLemmas.{version_numbers}
-use Rattle.wire_packets.proofs.laws.versions_are_their_numbers.Goals as goal
-
-pub returns : goal.returns
-returns c = version_numbers
