@@ -1,6 +1,6 @@
 //! Plain values of cells, quoted bytes, and opaque values of JSON documents. The texts of cells are those of rows.
 
-use crate::words::{Fault, bytes_of, done, put_rest, put_type};
+use crate::words::{Fault, bytes_of, done, only_bytes_of, put_rest, put_type};
 use feed_text::{put_value, quote};
 use rows_cells::{BinlogValue, BinlogValueCtx};
 use rows_jsonb::{JsonDom, JsonOpaque, JsonScalar, Value as JsonbValue};
@@ -60,10 +60,7 @@ pub(crate) fn put_quoted(
     arguments: &[&str],
     out: &mut Vec<u8>,
 ) -> Result<(), Fault> {
-    let [bytes] = arguments else {
-        return Err(Fault::NoCase);
-    };
-    Ok(quote(&bytes_of(alloc, bytes)?, out)?)
+    Ok(quote(&only_bytes_of(alloc, arguments)?, out)?)
 }
 
 /// Appends the column type and the bytes of an opaque value, and its text by `Display`.
@@ -87,10 +84,7 @@ pub(crate) fn put_opaque(
     arguments: &[&str],
     out: &mut Vec<u8>,
 ) -> Result<(), Fault> {
-    let [bytes] = arguments else {
-        return Err(Fault::NoCase);
-    };
-    match &tree(alloc, &bytes_of(alloc, bytes)?)? {
+    match &tree(alloc, &only_bytes_of(alloc, arguments)?)? {
         JsonDom::Scalar(JsonScalar::Opaque(opaque)) => put_opaque_value(opaque, out),
         _ => Err(Fault::NoCase),
     }

@@ -1,6 +1,8 @@
 //! Decimals.
 
-use crate::words::{Fault, byte_of, bytes_of, done, put_bytes, put_error, put_rest, put_text};
+use crate::words::{
+    Fault, byte_of, bytes_of, done, only_bytes_of, put_bytes, put_error, put_rest, put_text,
+};
 use feed_text::put_decimal;
 use rows_values::{Decimal, ParseDecimalError, RowsError, decimal_numbers, put_decimal_text};
 use std::alloc::Global;
@@ -39,10 +41,11 @@ pub(crate) fn put_parsed(
     arguments: &[&str],
     out: &mut Vec<u8>,
 ) -> Result<(), Fault> {
-    let [text] = arguments else {
-        return Err(Fault::NoCase);
-    };
-    put_shown(alloc, &parsed(alloc, call, &bytes_of(alloc, text)?)?, out)
+    put_shown(
+        alloc,
+        &parsed(alloc, call, &only_bytes_of(alloc, arguments)?)?,
+        out,
+    )
 }
 
 /// The precision, the scale and the bytes of a case.
@@ -169,10 +172,7 @@ pub(crate) fn put_from_packed(
     arguments: &[&str],
     out: &mut Vec<u8>,
 ) -> Result<(), Fault> {
-    let [bytes] = arguments else {
-        return Err(Fault::NoCase);
-    };
-    let bytes = bytes_of(alloc, bytes)?;
+    let bytes = only_bytes_of(alloc, arguments)?;
     let decimal = Decimal::from_packed(alloc, &bytes, false)?;
     let read = Decimal::read_packed(alloc, &mut bytes.as_slice(), false)?;
     if read != decimal {
@@ -187,10 +187,7 @@ pub(crate) fn put_written(
     arguments: &[&str],
     out: &mut Vec<u8>,
 ) -> Result<(), Fault> {
-    let [text] = arguments else {
-        return Err(Fault::NoCase);
-    };
-    let decimal = parsed(alloc, "parse_bytes", &bytes_of(alloc, text)?)?;
+    let decimal = parsed(alloc, "parse_bytes", &only_bytes_of(alloc, arguments)?)?;
     let mut packed = Vec::new(alloc);
     if decimal.write_bin(alloc, &mut packed).is_err() || decimal.bin_size() != packed.len() {
         put_text("of another size ", out)?;

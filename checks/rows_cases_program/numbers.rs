@@ -1,8 +1,13 @@
 //! Constants and their numbers.
 
 use crate::words::{Fault, done, number_of, put_number, put_text};
-use rows_consts::{BinlogChecksumAlg, BinlogVersion, EventType, OptionalMetadataFieldType, StatusVarKey};
-use rows_more_consts::{BinlogRowValueOptions, Gno, IncidentType, IntvarEventType, LoadDuplicateHandling, TransactionPayloadCompressionType, TransactionPayloadFields};
+use rows_consts::{
+    BinlogChecksumAlg, BinlogVersion, EventType, OptionalMetadataFieldType, StatusVarKey,
+};
+use rows_more_consts::{
+    BinlogRowValueOptions, Gno, IncidentType, IntvarEventType, LoadDuplicateHandling,
+    TransactionPayloadCompressionType, TransactionPayloadFields,
+};
 use std::alloc::Global;
 use std::fmt::{Debug, Display};
 use std::io::Write;

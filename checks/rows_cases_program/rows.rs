@@ -3,8 +3,8 @@
 use crate::tables::Table;
 use crate::words::{Fault, put_error};
 use feed_text::{TextBuffer, put_cell, put_cell_ref};
-use rows_images::{ImageCells, ImagePlan, RowPart, RowPlan, RowsCursor};
 use rows_events::{BinlogRow, BinlogRowCtx, ColumnPlan, EventColumns, RowsEvent, RowsEventRows};
+use rows_images::{ImageCells, ImagePlan, RowPart, RowPlan, RowsCursor};
 use rows_values::{Bits, RowsError};
 use std::alloc::Global;
 use wire_buf::ParseBuf;

@@ -200,6 +200,14 @@ pub(crate) fn bytes_of(alloc: Global, word: &str) -> Result<Vec<u8>, Fault> {
     Ok(bytes)
 }
 
+/// The bytes of a case with one argument.
+pub(crate) fn only_bytes_of(alloc: Global, arguments: &[&str]) -> Result<Vec<u8>, Fault> {
+    let [bytes] = arguments else {
+        return Err(Fault::NoCase);
+    };
+    bytes_of(alloc, bytes)
+}
+
 /// The number of a word in decimal digits.
 pub(crate) fn number_of(word: &str) -> Result<u64, Fault> {
     match word.parse::<u64>() {
