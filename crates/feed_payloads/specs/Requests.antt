@@ -7,7 +7,7 @@ use Rattle.wire_packets.specs.Framing.{framing}
 abbrev pub com_binlog_dump : ℕ
 com_binlog_dump = 0x12
 
--- the flag BINLOG_DUMP_NON_BLOCK: the answer ends where the log does
+-- the flag BINLOG_DUMP_NON_BLOCK: the answer ends at the end of the newest log and doesn't wait for more
 abbrev pub binlog_dump_non_block : ℕ
 binlog_dump_non_block = 1
 

@@ -51,7 +51,7 @@ pub record Row : Type 0 where
   pub table : List ℕ
   pub images : List (List ℕ)
 
--- the texts of images; a cell whose JSON document can't be parsed has none
+-- the texts of images; an error if a JSON document in one can't be parsed
 unfoldable pub image_texts : List (List ColumnValue) → Reading (List (List ℕ))
 image_texts [] = Ok []
 image_texts (image ∷ images) = do

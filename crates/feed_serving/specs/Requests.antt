@@ -31,7 +31,7 @@ position_for name p =
     else if not (bytes_eq (name_in p) name) then Err Name
     else Ok (position_in p)
 
--- what the bytes of a request ask for: what their payload asks for, if they are the packet of one, with sequence numbers from 0 on; `NotADump`, if they are no payload's packet
+-- `asked` is the position that a request asks for, or the first reason against it; `NotADump` if its bytes aren't exactly one payload in packets numbered from 0
 abbrev pub IsRequested : List ℕ → List ℕ → Result ℕ Refusal → Type 0
 IsRequested request name asked =
     ((p : List ℕ) × (request ≡ framing 0 p) × (asked ≡ position_for name p))

@@ -45,7 +45,7 @@ cell_time packed =
     let t = span_fields packed in
     time t.neg (t.hour / 24) (t.hour % 24) t.minute t.second t.second_part
 
--- NEWDATE: the day in the lowest five bits, the month in the next four, the year above them; only the lowest 16 bits of the year are kept
+-- NEWDATE, in three bytes: the day in the lowest five bits, the month in the next four, the year above them
 abbrev pub new_date : ℕ → CellValue
 new_date n = date (n / 2 ^ 9 % 2 ^ 16) (n / 2 ^ 5 % 2 ^ 4) (n % 2 ^ 5) 0 0 0 0
 
@@ -59,7 +59,7 @@ old_time z =
     let n = unsigned_abs z in
     time (int_lt z (pos 0)) (n / 10000 / 24) (n / 10000 % 24) (n / 100 % 100) (n % 100) 0
 
--- nothing for 0; else a point and six digits, or a point, `-` and five digits
+-- nothing for 0; else a point and at least six digits; if negative, a point, `-` and at least five
 abbrev pub cell_micros_text : ℤ → List ℕ
 cell_micros_text micros =
     if unsigned_abs micros == 0 then []

@@ -29,7 +29,7 @@ blob_format m =
 abbrev pub enum_format : ℕ → CellFormat
 enum_format n = if n == 1 then format.Unsigned width.One else if n == 2 then format.Unsigned width.Two else format.NoMetadata
 
--- the maximum length of a STRING column: bits 4 and 5 of the first metadata byte, inverted, are bits 8 and 9 above the second byte; 256 times the second byte if the first is 0
+-- the maximum length of a STRING column with metadata m, n: n + 256 * (3 - bits 4 and 5 of m); 256 * n if m is 0, which no server writes (MySQL: n)
 abbrev pub greatest_string : ℕ → ℕ → ℕ
 greatest_string m n = if m == 0 then 256 * n else 256 * (3 - m / 16 % 4) + n
 

@@ -80,7 +80,7 @@ abbrev pub sign_or_signed : Option Bool → Bool
 sign_or_signed None = false
 sign_or_signed (Some b) = b
 
--- whether column i is unsigned: its bit is numbered by the numeric columns before it
+-- whether column i is unsigned: bit j of SIGNEDNESS, where j is the number of numeric columns before it
 abbrev pub sign_at : Table → ℕ → ColumnType → Bool
 sign_at t i real = if is_numeric real then sign_or_signed (slice_get t.signs (count_before is_numeric t i)) else false
 
@@ -105,7 +105,7 @@ name_or_index i (Some r) = r
 abbrev pub name_at : List (Reading (List ℕ)) → ℕ → Reading (List ℕ)
 name_at names i = name_or_index i (slice_get names i)
 
--- the first index of a key is consumed by the column that it names
+-- the key's indexes after column i: without the first, if that is i
 abbrev pub after_column : ℕ → List (Reading ℕ) → List (Reading ℕ)
 after_column i [] = []
 after_column i (Err e ∷ keys) = Err e ∷ keys
@@ -121,7 +121,7 @@ abbrev pub is_next : ℕ → Option (Reading ℕ) → Reading Bool
 is_next i None = Ok false
 is_next i (Some index) = index >>= λ j. Ok (j == i)
 
--- whether column i is in the primary key
+-- whether the next index of the key is i; true for every key column only if the key names its columns in the table's order
 abbrev pub key_at : Table → ℕ → Reading Bool
 key_at t i = is_next i (first_item (keys_after t.keys i))
 

@@ -15,7 +15,7 @@ use Rattle.rows_events.specs.RowsEventTypes.{images_of, has_before, has_after, w
 use Rattle.rows_events.specs.declared.rows_event_type.RowsEventType.{RowsEventType}
 use Rattle.rows_events.specs.declared.rows_event_ctx.RowsEventCtx.{RowsEventCtx}
 
--- the contents of a rows event: for each image a bit for each column of the table that says whether the image has it, and the rows; reading the rows doesn't use the extra data
+-- the contents of a rows event: the number of columns, for each image a bit per column that says whether the image has it, and the rows data; the rows don't depend on `extra`
 pub record RowsBody : Type 0 where
   pub event_type : RowsEventType
   pub table_id : ℕ

@@ -128,7 +128,7 @@ abbrev pub container_len : JsonbValue → ℕ
 container_len (container f n bytes) = length bytes
 container_len _ = 0
 
--- an error if the tree has more values than the outermost container has bytes, plus one
+-- the tree; an error if it has more than `size` + 1 values; `size` is that of the outermost container in bytes
 abbrev pub within_budget : ℕ → Counted Tree → Reading Tree
 within_budget size t = if nat_le t.1 (1 + size) then Ok t.0 else Err malformed
 

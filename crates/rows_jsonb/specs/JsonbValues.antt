@@ -52,7 +52,7 @@ literal (Some JSONB_FALSE_LITERAL) = Ok (boolean false)
 abbrev pub literal_at : List ℕ → Reading JsonbValue
 literal_at bytes = sized 1 bytes (slice_index bytes 0) >>= (λ n. literal (literal_of n))
 
--- the string after its length, below 2^32 and no longer than the bytes
+-- the string after its length; an error if there is no length, if it is 2^32 or more, or if it exceeds the remaining bytes
 abbrev pub counted_string : Option (ℕ × List ℕ) → Reading (List ℕ)
 counted_string None = Err malformed
 counted_string (Some p) = if nat_lt p.0 (2 ^ 32) && nat_le p.0 (length p.1) then Ok (take p.0 p.1) else Err malformed

@@ -17,7 +17,7 @@ plain_size column.MYSQL_TYPE_TYPED_ARRAY = None
 plain_size column.MYSQL_TYPE_VARCHAR = Some 4
 plain_size t = Some (1 + metadata_size t)
 
--- the size of a plain element; for an array one byte more than its own metadata
+-- the size of an element with its type byte: n for a plain element; for an array, one byte more than the inner array's metadata
 abbrev pub size_or : Option ℕ → Option ℕ → Option ℕ
 size_or None inner = option_map (λ n. 1 + n) inner
 size_or (Some n) inner = Some n
@@ -63,7 +63,7 @@ abbrev pub after_metadata : Option (List ℕ × List ℕ) → Option (List ℕ)
 after_metadata None = None
 after_metadata (Some x) = Some x.1
 
--- the type and metadata of each column; [] from the first column on whose metadata has an unknown size or missing bytes
+-- the type and metadata of each column; if a column's metadata has an unknown size or missing bytes, that column and all later ones have none
 unfoldable pub columns_with_metadata : List ℕ → Option (List ℕ) → List ColumnMeta
 columns_with_metadata [] bytes = []
 columns_with_metadata (n ∷ types) bytes =

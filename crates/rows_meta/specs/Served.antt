@@ -64,7 +64,7 @@ default_item default = option_map (λ (n : ℕ). Ok n) default
 abbrev pub next_index : ℕ → ℕ
 next_index i = (i + 1) % 2 ^ 64
 
--- the character set of column i + k, if these entries remain at column i; an error is returned once, and then None
+-- the character set of column i + k, counted among the columns of its kind, if these entries remain when column i is next; the column that meets an unreadable entry has its error, later ones None
 unfoldable pub charset_after : Option ℕ → List (Reading CharsetEntry) → ℕ → ℕ → Option (Reading ℕ)
 charset_after default [] i k = default_item default
 charset_after default (Err e ∷ entries) i zero = Some (Err e)

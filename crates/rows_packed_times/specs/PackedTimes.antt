@@ -46,6 +46,6 @@ time2 n bytes = packed_signed (256 ^ n) (100 ^ (3 - n)) (pos (big_number (3 + n)
 abbrev pub datetime2 : ℕ → List ℕ → ℤ
 datetime2 n bytes = packed_time (pos (big_number 5 bytes) -ℤ pos (2 ^ 39)) (fraction n (drop 5 bytes))
 
--- A TIMESTAMP2 with n bytes of fraction: seconds in four bytes, then the fraction.
+-- a TIMESTAMP2 with n fraction bytes: signed seconds in four bytes (MySQL: unsigned), then the fraction
 abbrev pub timestamp2 : ℕ → List ℕ → ℤ × ℤ
 timestamp2 n bytes = (twos_complement 4 (big_number 4 bytes), fraction n (drop 4 bytes))

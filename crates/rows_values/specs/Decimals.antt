@@ -55,7 +55,7 @@ packed_size before after = side_size before + side_size after
 abbrev pub only_zeros : List ℕ → Bool
 only_zeros ds = list_all (λ d. d == 0) ds
 
--- the digits without the leading ones of n groups of nine that are only zeros
+-- the digits without the leading groups of nine that are only zeros; at most n groups are dropped
 unfoldable pub without_zero_nines : ℕ → List ℕ → List ℕ
 without_zero_nines zero ds = ds
 without_zero_nines (suc n) ds = if only_zeros (take 9 ds) then without_zero_nines n (drop 9 ds) else ds

@@ -13,7 +13,7 @@ concat_digits None more = None
 concat_digits (Some ds) None = None
 concat_digits (Some ds) (Some es) = Some (ds ++ es)
 
--- the k digits of a number below 10^k; None for a greater one
+-- the k digits of a number below 10^k; None from 10^k on
 abbrev pub exact_digits : ℕ → ℕ → Option (List ℕ)
 exact_digits k n = if nat_lt n (10 ^ k) then Some (digits_in k n) else None
 

@@ -60,7 +60,7 @@ is_character MYSQL_TYPE_VARCHAR = true
 is_character MYSQL_TYPE_BLOB = true
 is_character _ = false
 
--- the types whose columns have the character set of ENUM and SET
+-- ENUM and SET, whose columns have their own list of character sets
 abbrev pub is_enum_or_set : ColumnType → Bool
 is_enum_or_set MYSQL_TYPE_ENUM = true
 is_enum_or_set MYSQL_TYPE_SET = true

@@ -18,7 +18,7 @@ slice_of width p i = take width (drop (i * width) p)
 unfoldable pub chunks : ℕ → ℕ → ℕ → List ℕ → List ℕ
 chunks width k m p = flat_map (λ i. chunk (k + i) (slice_of width p i)) (range_with_len 0 m)
 
--- the packets of a payload from sequence id k on: full chunks, then one that is shorter, and may be empty
+-- the chunks of a payload, numbered from k: full ones, then a shorter one, which may be empty
 abbrev pub framing : ℕ → List ℕ → List ℕ
 framing k p = chunks max_chunk_len k (length p / max_chunk_len + 1) p
 

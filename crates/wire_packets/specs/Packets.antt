@@ -14,7 +14,7 @@ payload_in (suc n) limit k before s =
     else Some (chunk_payload s))
     else None
 
--- the payloads with whose framings s begins, with sequence ids from k on; at most n of them
+-- the payloads whose framings s begins with, numbered from k, each within the limit; at most n
 unfoldable pub packets_in : ℕ → ℕ → ℕ → List ℕ → List (List ℕ)
 packets_in zero limit k s = []
 packets_in (suc n) limit k s =
@@ -24,7 +24,7 @@ packets_in (suc n) limit k s =
 abbrev pub packets : ℕ → ℕ → List ℕ → List (List ℕ)
 packets limit k s = packets_in (length s) limit k s
 
--- the full chunks at the start of s: the number of payload bytes so far, and the bytes after these chunks
+-- the full chunks (16,777,215 bytes each) that can be taken at the start of s, at most n: the number of payload bytes up to their end, `before` included, and the bytes after them
 unfoldable pub full_run : ℕ → ℕ → ℕ → ℕ → List ℕ → ℕ × List ℕ
 full_run zero limit k before s = (before, s)
 full_run (suc n) limit k before s =
@@ -36,7 +36,7 @@ full_run (suc n) limit k before s =
 abbrev pub after_packets : ℕ → ℕ → List ℕ → List ℕ
 after_packets limit k s = drop (length (framings k (packets limit k s))) s
 
--- why no packet follows: the fault at the bytes after the longest run of full chunks
+-- why no packet follows: the fault of the first chunk that can't be taken; None if only bytes are missing
 abbrev pub packet_fault : ℕ → ℕ → List ℕ → Option PacketCodecError
 packet_fault limit k s =
     let run = full_run (length (after_packets limit k s)) limit (sequence_id_after k (packets limit k s)) 0 (after_packets limit k s) in

@@ -20,7 +20,7 @@ is_too_large limit gathered s = nat_le 4 (length s) && nat_le (limit + 1) (gathe
 abbrev pub has_chunk_of : ℕ → ℕ → ℕ → List ℕ → Bool
 has_chunk_of k limit gathered s = has_chunk s && (slice_index s 3 == k % 256) && nat_le (gathered + payload_len_at s) limit
 
--- why no chunk is taken: `PacketTooLarge` once the header is there, `PacketsOutOfSync` once the chunk is, else None
+-- why no chunk is taken: `PacketTooLarge` as soon as the header has arrived, `PacketsOutOfSync` as soon as the whole chunk has; else None, bytes are missing
 abbrev pub chunk_fault : ℕ → ℕ → List ℕ → Option PacketCodecError
 chunk_fault limit gathered s =
     if is_too_large limit gathered s then Some PacketTooLarge
