@@ -1,4 +1,4 @@
--- The size of a cell, by its format.
+-- The size of a cell, by its format (MySQL's source, libs/mysql/binlog/event/rows_event.h, the table of column types).
 use Rattle.std.specs.Prelude.{ℕ, ◌+◌, ◌-◌, nat_le, if◌then◌else◌}
 use Rattle.rows_values.specs.PackedTimes.{fraction_len}
 use Rattle.rows_values.specs.declared.fault.RowsError.{RowsError}

@@ -1,4 +1,4 @@
--- The encoding of one cell: which bytes encode which value, and the cell that bytes begin with.
+-- The encoding of one cell: which bytes encode which value, and the cell that bytes begin with (MySQL's source, libs/mysql/binlog/event/rows_event.h, the table of column types).
 use Rattle.std.specs.Prelude.{◌≡◌, ⊤, ◌<◌, ◌++◌, ◌⊎◌, ℕ, List, length}
 use Rattle.std.specs.declared.result.Result.TheVariants.{Ok, Err}
 use Rattle.wire_buf.specs.Numbers.{IsLittle}

@@ -1,4 +1,4 @@
--- The layout of row images by the plan of their table: the columns in each, and the formats of their cells.
+-- The layout of row images by the plan of their table: the columns in each, and the formats of their cells (the crate, row.rs).
 use Rattle.std.specs.Prelude.{ℕ, Bool, List, [], Option, Some, None, if◌then◌else◌}
 use Rattle.std.specs.declared.result.Result.TheVariants.{Ok}
 use Rattle.rows_values.specs.Readings.{Reading, ◌>>=◌}

@@ -1,4 +1,4 @@
--- The columns of a plan that are in an image, and their definitions.
+-- The columns of a plan that are in an image, and their definitions (the crate, row.rs).
 use Rattle.std.specs.Prelude.{ℕ, ◌+◌, Bool, false, List, ◌++◌, map, filter, Option, Some, None, if◌then◌else◌}
 use Rattle.std.specs.declared.result.Result.TheVariants.{Ok}
 use Rattle.wire_consts.specs.declared.column_flags.ColumnFlags.{ColumnFlags}

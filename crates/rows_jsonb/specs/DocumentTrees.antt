@@ -1,4 +1,4 @@
--- The tree of a JSON value and the number of values in it: recursion over the remaining nesting depth and over the entries of a container.
+-- The tree of a JSON value and the number of values in it: recursion over the remaining nesting depth and over the entries of a container (the crate, jsonb.rs).
 use Rattle.std.specs.Prelude.{ℕ, zero, suc, ◌+◌, if◌then◌else◌, nat_le, nat_lt, ◌==◌, ◌||◌, ℤ, Bool, true, false, List, length, Option, Some, None}
 use Rattle.std.specs.declared.result.Result.TheVariants.{Ok, Err}
 use Rattle.std.specs.Str.{is_utf8}

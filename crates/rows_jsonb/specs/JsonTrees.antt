@@ -1,4 +1,4 @@
--- JSON documents as trees.
+-- JSON documents as trees (the crate, jsonb.rs, JsonDom).
 use Rattle.std.specs.Prelude.{ℕ, ℤ, List, Bool}
 use Rattle.rows_values.specs.declared.times.mysql_time.MysqlTime.{MysqlTime}
 use Rattle.rows_values.specs.Decimals.{DecimalParts}

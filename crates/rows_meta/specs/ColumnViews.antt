@@ -1,4 +1,4 @@
--- The columns of a table map, read one at a time.
+-- The columns of a table map, read one at a time (the crate, table_map_event.rs).
 use Rattle.std.specs.Prelude.{◌≡◌, ℕ, List, [], ◌∷◌, Option, Some, None}
 use Rattle.std.specs.Borrow.{Bor}
 use Rattle.rows_meta.specs.declared.columns.ColumnMeta.{ColumnMeta as CodeColumn}

@@ -1,4 +1,4 @@
--- What the columns of a table use from the optional metadata: the last field of each kind, or the error of the first field that can't be read.
+-- What the columns of a table use from the optional metadata: the last field of each kind, or the error of the first field that can't be read (the crate, table_map_event.rs, OptionalMetaExtractor).
 use Rattle.std.specs.Prelude.{ℕ, Bool, List, [], ◌∷◌, Option, Some, None}
 use Rattle.std.specs.declared.result.Result.TheVariants.{Ok}
 use Rattle.rows_values.specs.Readings.{Reading, ◌>>=◌}

@@ -1,4 +1,4 @@
--- What the optional metadata's lists give for each column of a table, in order.
+-- What the optional metadata's lists give for each column of a table, in order (the crate, table_map_event.rs, OptionalMetaExtractor).
 use Rattle.std.specs.Prelude.{ℕ, zero, suc, ◌+◌, ◌%◌, ◌^◌, ◌==◌, Bool, List, [], ◌∷◌, map, Option, Some, None, option_map, if◌then◌else◌}
 use Rattle.std.specs.declared.result.Result.TheVariants.{Ok, Err}
 use Rattle.rows_values.specs.Readings.{Reading, map_reading}

@@ -1,4 +1,4 @@
--- Bits of bytes: null bitmaps, and the bits of columns and of signedness.
+-- Bits of bytes: null bitmaps, and the bits of columns and of signedness (MySQL Internals: ROWS_EVENT: bitmaps).
 use Rattle.std.specs.Prelude.{◌≡◌, ℕ, zero, suc, ◌+◌, ◌-◌, ◌/◌, ◌%◌, ◌^◌, Bool, List, [], ◌∷◌, slice_index, Option, Some, None, nat_lt, ◌==◌, if◌then◌else◌}
 use Rattle.rows_values.specs.declared.bits.Bits.{Bits}
 use Rattle.rows_values.specs.declared.bits.BitsIter.{BitsIter}

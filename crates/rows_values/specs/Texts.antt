@@ -1,4 +1,4 @@
--- The text of a decimal that is printed, and the text that is parsed.
+-- The text of a decimal that is printed, and the text that is parsed (MySQL's source, decimal.cc, decimal2string).
 use Rattle.std.specs.Prelude.{◌≡◌, ⊤, ℕ, ◌+◌, ◌-◌, List, [], ◌∷◌, ◌++◌, length, drop, map, Bool, false, not, ◌==◌, ◌&&◌, ◌||◌, nat_lt, Option, Some, None, if◌then◌else◌}
 use Rattle.std.specs.List.{prefix_len, list_all, before_first, after_first}
 use Rattle.std.specs.Char.{is_ascii_digit}

@@ -1,4 +1,4 @@
--- The fields of packed times: a time span, and a date and time.
+-- The fields of packed times: a time span, and a date and time (MySQL's source, mysys/my_time.cc, TIME_from_longlong_time_packed and TIME_from_longlong_datetime_packed; the crate, src/binlog/time.rs).
 use Rattle.std.specs.Prelude.{ℕ, ◌/◌, ◌%◌, Bool, ℤ, pos, unsigned_abs, int_lt}
 use Rattle.rows_values.specs.declared.times.mysql_time.MysqlTime.{MysqlTime}
 use Rattle.rows_values.specs.declared.times.mysql_time.MysqlTimestampType.{MysqlTimestampType}

@@ -1,4 +1,4 @@
--- The decimal that given bytes pack, computed from the bytes, and its text. The law `packed_bytes_are_unpacked` says that it is the only one with these packed bytes.
+-- The decimal that given bytes pack, computed from the bytes, and its text (MySQL's source, decimal.cc, bin2decimal). The law `packed_bytes_are_unpacked` says that it is the only one with these packed bytes.
 use Rattle.std.specs.Prelude.{ℕ, zero, suc, ◌*◌, ◌/◌, ◌%◌, ◌-◌, ◌^◌, nat_lt, Bool, false, List, [], ◌++◌, length, take, drop, slice_index, Option, Some, None, if◌then◌else◌, nat_eq}
 use Rattle.byteorder.specs.Endian.{big_number}
 use Rattle.rows_values.specs.Digits.{group_size, side_size, top_flipped, signed, digits_in, has_minus_bit}

@@ -1,4 +1,4 @@
--- `VarLen` integers: seven bits a byte, the lowest first, the top bit set if more bytes follow; at most five bytes and 32 bits.
+-- `VarLen` integers: seven bits a byte, the lowest first, the top bit set if more bytes follow; at most five bytes and 32 bits (MySQL's source, json_binary.cc, read_variable_length).
 use Rattle.std.specs.Prelude.{◌<◌, ◌≤◌, ◌+◌, ◌*◌, ◌-◌, ◌/◌, ◌%◌, ◌^◌, ℕ, zero, suc, List, [], ◌∷◌, Option, Some, None, nat_lt, if◌then◌else◌, option_map}
 
 -- v in at most k bytes: the low seven bits of byte i count 128 ^ i, and all bytes but the last have their top bit set

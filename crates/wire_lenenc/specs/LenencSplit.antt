@@ -1,4 +1,4 @@
--- Length-encoded integers as a function that computes the number at the start of bytes and the bytes after it. The readers of `wire_buf` are proved against it, whose `Numbers` defines the encodings.
+-- Length-encoded integers as a function that computes the number at the start of bytes and the bytes after it (MySQL Internals: Protocol::LengthEncodedInteger). The readers of `wire_buf` are proved against it, whose `Numbers` defines the encodings.
 use Rattle.std.specs.Prelude.{ℕ, List, [], ◌∷◌, length, drop, Option, Some, None, nat_le, ◌==◌, if◌then◌else◌}
 use Rattle.byteorder.specs.Endian.{little_number}
 

@@ -1,4 +1,4 @@
--- The packets of a stream and its first fault, as functions of the whole stream.
+-- The packets of a stream and its first fault, as functions of the whole stream (MySQL Internals: MySQL Packets).
 use Rattle.std.specs.Prelude.{ℕ, zero, suc, ◌+◌, ◌/◌, ◌&&◌, List, [], ◌∷◌, ◌++◌, length, drop, Option, Some, None, option_map, ◌==◌, if◌then◌else◌}
 use Rattle.wire_packets.specs.Framing.{max_chunk_len, framing, framings, next_sequence_id, sequence_id_after}
 use Rattle.wire_packets.specs.Reading.{payload_len_at, has_chunk_of, chunk_fault, chunk_payload, after_chunk}

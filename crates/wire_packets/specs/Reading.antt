@@ -1,4 +1,4 @@
--- A chunk's header at the start of bytes: length in three bytes, then the sequence id.
+-- A chunk's header at the start of bytes: length in three bytes, then the sequence id (MySQL Internals: MySQL Packets).
 use Rattle.std.specs.Prelude.{ℕ, ◌+◌, ◌<◌, ◌%◌, Bool, ◌&&◌, List, length, take, drop, slice_index, Option, Some, None, nat_le, ◌==◌, if◌then◌else◌}
 use Rattle.byteorder.specs.Endian.{little_number}
 use Rattle.wire_packets.specs.declared.error.PacketCodecError.{PacketCodecError}

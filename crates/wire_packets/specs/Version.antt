@@ -1,4 +1,4 @@
--- Server versions: three decimal numbers, the first two followed by a point.
+-- Server versions: three decimal numbers, the first two followed by a point (MySQL's source, libs/mysql/binlog/event/binlog_event.h, do_server_version_split; the crate, src/misc).
 use Rattle.std.specs.Prelude.{◌≡◌, ◌<◌, ◌++◌, true, ◌+◌, ◌*◌, ◌-◌, ℕ, List, [], ◌∷◌, length, drop, Option, Some, None, fold, nat_lt, ◌==◌, ◌&&◌, if◌then◌else◌, take_while, unwrap_or, option_and_then}
 use Rattle.std.specs.Char.{is_ascii_digit}
 use Rattle.std.specs.List.{list_all}
