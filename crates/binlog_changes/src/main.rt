@@ -5,21 +5,15 @@
 //! failed or memory ran out. It ends quietly if whoever reads its output has gone.
 #![tactic(auto)]
 
-mod cells;
+mod brief;
 mod changes;
-mod character_sets;
-mod columns;
 mod command_line;
-mod documents;
 mod events;
-mod filter;
-mod json;
 mod lines;
+mod names;
 mod output;
-mod rows;
+mod progress;
 mod run;
-mod tables;
-mod times;
 mod words;
 
 use crate::command_line::{Refused, parse};
@@ -27,13 +21,29 @@ use std::env;
 use std::process::ExitCode;
 use std::rt::Env;
 
-fn main(rt: HostRuntime) -> ExitCode {
-    let words = match env::args(&rt) {
-        Ok(words) => words,
-        Err(_) => {
-            let _ = eprintln!(&rt; "binlog-changes: the arguments can't be read");
-            return ExitCode::from(2);
+/// Says why the command line can't be used.
+fn refuse(rt: &HostRuntime, refused: Refused) -> ExitCode {
+    match refused {
+        Refused::Words(error) => {
+            let _ = error.print(rt);
+            ExitCode::from(error.exit_code() as u8)
         }
+        Refused::Value(option) => {
+            let example = Refused::example(option);
+            let _ = eprintln!(rt; "binlog-changes: --{option} wants a value such as {example}");
+            ExitCode::from(2)
+        }
+        Refused::NoCommand => {
+            let _ = eprintln!(rt; "binlog-changes: the commands are json, check and events");
+            ExitCode::from(2)
+        }
+    }
+}
+
+fn main(rt: HostRuntime) -> ExitCode {
+    let Ok(words) = env::args(&rt) else {
+        let _ = eprintln!(&rt; "binlog-changes: the arguments can't be read");
+        return ExitCode::from(2);
     };
     let Ok(words) = words.collect::<Vec<String>>(rt.alloc()) else {
         let _ = eprintln!(&rt; "binlog-changes: out of memory");
@@ -41,17 +51,6 @@ fn main(rt: HostRuntime) -> ExitCode {
     };
     match parse(rt.alloc(), &words) {
         Ok(options) => run::run(&rt, &options),
-        Err(Refused::Words(error)) => {
-            let _ = error.print(&rt);
-            ExitCode::from(error.exit_code() as u8)
-        }
-        Err(Refused::Value(name, example)) => {
-            let _ = eprintln!(&rt; "binlog-changes: --{name} wants a value such as {example}");
-            ExitCode::from(2)
-        }
-        Err(Refused::NoCommand) => {
-            let _ = eprintln!(&rt; "binlog-changes: the commands are json, check and events");
-            ExitCode::from(2)
-        }
+        Err(refused) => refuse(&rt, refused),
     }
 }

@@ -1,19 +1,24 @@
 //! What is said to people about logs and errors.
 
-use crate::json::{put_key, put_name, put_string, put_unsigned};
 use feed_changes::Stop;
+use feed_json::Text;
 use feed_kinds::{Verdict, name_of};
 use rows_consts::EventType;
-use std::alloc::{AllocError, Global};
-use std::io::Write;
 
-/// The name of an event type, or its number if it has none: `WRITE_ROWS_EVENT`, `type 165`.
-pub(crate) fn put_type(number: u8, out: &mut Vec<u8>) -> Result<(), AllocError> {
-    let written = match EventType::try_from(number) {
-        Ok(event_type) => write!(out, "{event_type:?}"),
-        Err(_) => write!(out, "type {number}"),
-    };
-    written.map_err(|_| AllocError)
+/// Appends the name of an event type, or its number if it has none: `WRITE_ROWS_EVENT`, `type 165`.
+pub(crate) fn put_type(number: u8, out: &mut Text) {
+    match EventType::try_from(number) {
+        Ok(event_type) => out.debug(&event_type),
+        Err(_) => {
+            out.words("type ");
+            out.unsigned(u64::from(number));
+        }
+    }
+}
+
+/// Whether a log ended well: between two transactions.
+pub(crate) fn is_whole(stop: Stop) -> bool {
+    stop.verdict == Verdict::End && !stop.is_cut && !stop.is_open
 }
 
 /// What a verdict means.
@@ -56,90 +61,90 @@ pub(crate) fn advice(verdict: Verdict) -> &'static str {
     }
 }
 
-/// Appends how a log ended, for people.
-pub(crate) fn put_stop(path: &str, stop: Stop, out: &mut Vec<u8>) -> Result<(), AllocError> {
-    let Stop {
-        verdict,
-        offset,
-        header,
-        last_commit,
-        is_open,
-        remaining,
-        is_cut,
-    } = stop;
-    let begun = if is_cut {
-        write!(
-            out,
-            "{path}: the log ends within an event, {remaining} bytes after position {offset}"
-        )
-    } else if verdict == Verdict::End && is_open {
-        write!(out, "{path}: the log ends within a transaction")
+/// Appends why a log ended.
+fn put_cause(stop: Stop, out: &mut Text) {
+    if stop.is_cut {
+        out.words("the log ends within an event, ");
+        out.unsigned(stop.remaining as u64);
+        out.words(" bytes after position ");
+        out.unsigned(stop.offset);
+    } else if stop.verdict == Verdict::End && stop.is_open {
+        out.words("the log ends within a transaction");
     } else {
-        write!(out, "{path}: {}", meaning(verdict))
-    };
-    begun.map_err(|_| AllocError)?;
-    if verdict != Verdict::End {
-        write!(out, ", at position {offset}").map_err(|_| AllocError)?;
-        if let Some(header) = header {
-            out.extend_from_slice(b", ")?;
-            put_type(header.event_type_raw(), out)?;
-            write!(out, " of {} bytes", header.event_size()).map_err(|_| AllocError)?;
-        }
+        out.words(meaning(stop.verdict));
     }
-    if let Some(position) = last_commit {
-        write!(out, "; the last transaction ends at {position}").map_err(|_| AllocError)?;
+}
+
+/// Appends where a log ended, and at which event.
+fn put_place(stop: Stop, out: &mut Text) {
+    out.words(", at position ");
+    out.unsigned(stop.offset);
+    if let Some(header) = stop.header {
+        out.words(", ");
+        put_type(header.event_type_raw(), out);
+        out.words(" of ");
+        out.unsigned(u64::from(header.event_size()));
+        out.words(" bytes");
     }
-    if is_open && (verdict != Verdict::End || is_cut) {
-        out.extend_from_slice(b"; a transaction is open")?;
+}
+
+/// Appends how a log ended, for people.
+pub(crate) fn put_stop(path: &str, stop: Stop, out: &mut Text) {
+    let is_end = stop.verdict == Verdict::End;
+    out.words(path);
+    out.words(": ");
+    put_cause(stop, out);
+    if !is_end && stop.offset > 0 {
+        put_place(stop, out);
     }
-    if verdict != Verdict::End {
-        write!(out, "; {}", advice(verdict)).map_err(|_| AllocError)?;
+    if let Some(position) = stop.last_commit {
+        out.words("; the last transaction ends at ");
+        out.unsigned(u64::from(position));
     }
-    Ok(out.push(b'\n')?)
+    if stop.is_open && (!is_end || stop.is_cut) {
+        out.words("; a transaction is open");
+    }
+    if !is_end {
+        out.words("; ");
+        out.words(advice(stop.verdict));
+    }
+    out.push(b'\n');
+}
+
+/// Appends the event at which a log ended, as members of an object.
+fn put_event_json(stop: Stop, out: &mut Text) {
+    if let Some(header) = stop.header {
+        out.key("event_type");
+        out.push(b'"');
+        put_type(header.event_type_raw(), out);
+        out.push(b'"');
+        out.key("event_size");
+        out.unsigned(u64::from(header.event_size()));
+    }
 }
 
 /// Appends how a log ended, as JSON.
-pub(crate) fn put_stop_json(
-    alloc: Global,
-    path: &str,
-    stop: Stop,
-    out: &mut Vec<u8>,
-) -> Result<(), AllocError> {
-    out.push(b'{')?;
-    put_key("file", out)?;
-    put_string(path, out)?;
-    put_key("verdict", out)?;
-    put_string(name_of(&stop.verdict), out)?;
-    put_key("is_whole", out)?;
-    put_bool(
-        stop.verdict == Verdict::End && !stop.is_cut && !stop.is_open,
-        out,
-    )?;
-    put_key("offset", out)?;
-    put_unsigned(stop.offset, out)?;
-    if let Some(header) = stop.header {
-        let mut name = Vec::new(alloc);
-        put_type(header.event_type_raw(), &mut name)?;
-        put_key("event_type", out)?;
-        put_name(alloc, &name, out)?;
-        put_key("event_size", out)?;
-        put_unsigned(u64::from(header.event_size()), out)?;
-    }
-    put_key("last_commit", out)?;
+pub(crate) fn put_stop_json(path: &str, stop: Stop, out: &mut Text) {
+    out.push(b'{');
+    out.key("file");
+    out.string(path);
+    out.key("verdict");
+    out.string(name_of(&stop.verdict));
+    out.key("is_whole");
+    out.boolean(is_whole(stop));
+    out.key("offset");
+    out.unsigned(stop.offset);
+    put_event_json(stop, out);
+    out.key("last_commit");
     match stop.last_commit {
-        Some(position) => put_unsigned(u64::from(position), out)?,
-        None => out.extend_from_slice(b"null")?,
+        Some(position) => out.unsigned(u64::from(position)),
+        None => out.null(),
     }
-    put_key("is_open", out)?;
-    put_bool(stop.is_open, out)?;
-    put_key("is_cut", out)?;
-    put_bool(stop.is_cut, out)?;
-    put_key("remaining", out)?;
-    put_unsigned(stop.remaining as u64, out)?;
-    out.extend_from_slice(b"}\n")
-}
-
-/// Appends a Boolean.
-fn put_bool(value: bool, out: &mut Vec<u8>) -> Result<(), AllocError> {
-    out.extend_from_slice(if value { b"true" } else { b"false" })
+    out.key("is_open");
+    out.boolean(stop.is_open);
+    out.key("is_cut");
+    out.boolean(stop.is_cut);
+    out.key("remaining");
+    out.unsigned(stop.remaining as u64);
+    out.words("}\n");
 }

@@ -22,7 +22,10 @@ mod worked_runs;
 mod worked_serving;
 mod worked_streams;
 
-pub use feed_changes::{Change, ChangeLog, Changes, CommittedTransaction, Stop, TableRows, What};
+pub use feed_changes::{
+    Change, ChangeLog, Changes, CommittedTransaction, Filter, NoLog, OwnedTransaction, Stop,
+    TableRows, TakenChanges, What,
+};
 pub use feed_kept::{Keeper, kept};
 pub use feed_kinds::{Gtid, QueryTexts, Verdict, name_of, status};
 pub use feed_payloads::{RequestError, request};

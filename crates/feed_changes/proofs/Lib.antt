@@ -3,3 +3,5 @@ pub mod KeptTableLemmas
 pub mod KeptChangeLemmas
 pub mod RecorderLemmas
 pub mod LogLemmas
+pub mod StopLemmas
+pub mod FilterLemmas

@@ -3,5 +3,7 @@ pub mod KeptChanges
 pub mod ChangeViews
 pub mod CheckedRows
 pub mod CommittedLists
+pub mod Stops
+pub mod Filters
 pub mod ChangeLogs
 pub mod Laws

@@ -6,6 +6,7 @@ mod change_log;
 mod change_recorder;
 mod checked_rows;
 mod committed_transaction;
+mod filter;
 mod kept_changes;
 mod kept_tables;
 pub mod laws;
@@ -13,7 +14,8 @@ mod parts;
 mod stop;
 
 pub use change::{Change, Changes, TableRows, What};
-pub use change_log::ChangeLog;
+pub use change_log::{ChangeLog, NoLog};
 pub use change_recorder::ChangeRecorder;
-pub use committed_transaction::CommittedTransaction;
+pub use committed_transaction::{CommittedTransaction, OwnedTransaction};
+pub use filter::{Filter, TakenChanges};
 pub use stop::Stop;

@@ -113,6 +113,7 @@ fn put_row<'a, A: Allocator>(
 
 /// Appends the lines of the first rows, as long as a row has one image and the texts of its cells are short; returns the bytes
 /// from the next row on. It appends none unless `is_tried`.
+#[inline(always)]
 fn put_short_lines<'a, A: Allocator>(
     plan: RowPlan<'_>,
     is_tried: bool,
@@ -133,8 +134,8 @@ fn put_short_lines<'a, A: Allocator>(
     }
 }
 
-/// Appends a line for each row of the rows data, up to its end. Each line begins with `start`. After a row that isn't short it
-/// tries short rows again, unless there was none the last time.
+/// Appends a line for each row of the rows data, up to its end. Each line begins with `start`.
+#[inline(always)]
 pub(crate) fn put_lines<A: Allocator>(
     alloc: Global,
     plan: RowPlan<'_>,
@@ -145,8 +146,31 @@ pub(crate) fn put_lines<A: Allocator>(
     ensures ok { OnOk result (PutsLines (row_shape plan.entry) start.now rows_data.now (text_in text.old) (text_in text.new)) }
     ensures err { IfErr result (IsRowsError (rows_texts_at (row_shape plan.entry) rows_data.now)) }
 {
-    let mut rest = put_short_lines(plan, true, start, rows_data, text);
-    let mut is_tried = rest.len() < rows_data.len();
+    let rest = put_short_lines(plan, true, start, rows_data, text);
+    if rest.is_empty() {
+        return Ok(());
+    }
+    put_other_lines(alloc, plan, rest.len() < rows_data.len(), start, rest, text)
+}
+
+/// Appends a line for each of the remaining rows, up to their end, after those of the first rows. After a row that isn't short it
+/// tries short rows again, if `is_tried` or if there was one the last time.
+#[inline(never)]
+fn put_other_lines<A: Allocator>(
+    alloc: Global,
+    plan: RowPlan<'_>,
+    is_tried: bool,
+    start: &[u8],
+    rows_data: &[u8],
+    text: &mut TextBuffer<A>,
+) -> Result<(), Verdict>
+    ensures ok { (bytes before : List ℕ) → IsAppendedSoFar (row_shape plan.entry) start.now bytes rows_data.now before (text_in text.old)
+        → OnOk result (PutsLines (row_shape plan.entry) start.now bytes before (text_in text.new)) }
+    ensures err { (bytes before : List ℕ) → IsAppendedSoFar (row_shape plan.entry) start.now bytes rows_data.now before (text_in text.old)
+        → IfErr result (IsRowsError (rows_texts_at (row_shape plan.entry) bytes)) }
+{
+    let mut rest = rows_data;
+    let mut is_tried = is_tried;
     while !rest.is_empty() {
         text.put_text(start)?;
         let next = put_row(alloc, plan, rest, text)?;

@@ -36,6 +36,7 @@ pub(crate) fn put_gtid<A: Allocator>(
 }
 
 /// Appends the line of a statement: its quoted schema and its quoted text. Out of memory: a part of it may be appended.
+#[inline(never)]
 pub(crate) fn put_statement<A: Allocator>(
     texts: QueryTexts<'_>,
     text: &mut TextBuffer<A>,

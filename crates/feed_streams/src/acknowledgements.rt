@@ -23,6 +23,7 @@ const ACK_LEN: usize = 9;
 
 /// Appends the packet that acknowledges an event; `position` is the position after it in its log. An error changes nothing.
 #[tactic(auto, using(crate::proofs::AcknowledgementLemmas::packet_is))]
+#[inline(never)]
 fn put_acknowledgement(
     position: u32,
     name: &LogName,
@@ -41,6 +42,7 @@ fn put_acknowledgement(
 }
 
 /// Whether a flag byte asks for an acknowledgement. Unknown bits are ignored.
+#[inline(always)]
 fn is_ack_flag_set(bits: u8) -> bool
     ensures { result ≡ (bits % 2 == 1) }
 {
@@ -48,6 +50,7 @@ fn is_ack_flag_set(bits: u8) -> bool
 }
 
 /// Whether a payload asks for an acknowledgement of its event.
+#[inline(always)]
 fn is_ack_requested(format: PayloadFormat, payload: &[u8]) -> bool
     ensures { result ≡ is_ack_requested format payload.now }
 {
@@ -59,6 +62,7 @@ fn is_ack_requested(format: PayloadFormat, payload: &[u8]) -> bool
 
 /// If the payload asks for an acknowledgement, appends that of its event; `position` is the position after the event in its log.
 /// An error changes nothing.
+#[inline(always)]
 pub(crate) fn put_requested_acknowledgement(
     format: PayloadFormat,
     payload: &[u8],

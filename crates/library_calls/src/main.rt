@@ -4,9 +4,8 @@
 //! - `follower` follows the first bytes of the answer on standard input, and then asks with `Follower::again` for what follows
 //!   them; `follower rest` feeds the rest of the answer before it asks once more.
 //! - `checksums FILE LEN` computes the checksums of a file's pieces.
-//! - `rows FILE` prints the rows of a binary log.
 //!
-//! Without arguments it prints checksums, rows and the events of built-in bytes, and then follows. A fault is named on standard
+//! Without arguments it prints checksums and the events of built-in bytes, and then follows. A fault is named on standard
 //! error, and the status is 1.
 //!
 //! If memory runs out, `events` and `follower` call the library again. On standard error, `Unchanged` means that a reader ran out
@@ -17,7 +16,6 @@
 mod checksums;
 mod events;
 mod follower;
-mod row_lines;
 
 use std::alloc::Global;
 use std::env;
@@ -60,7 +58,7 @@ fn words_of(rt: &HostRuntime) -> Result<Vec<String>, &'static str> {
     }
 }
 
-/// The result of a command that prints checksums or rows.
+/// The result of a command that prints checksums.
 fn printed(is_printed: bool) -> Result<Option<&'static str>, &'static str> {
     if is_printed { Ok(None) } else { Err("Failed") }
 }
@@ -76,10 +74,9 @@ fn follow(rt: &HostRuntime, takes_rest: bool) -> Result<Option<&'static str>, &'
     Ok(follower::print_request(rt, &answer, takes_rest)?.then_some("Refused"))
 }
 
-/// Prints checksums, rows and events of built-in bytes, and follows the answer on standard input.
+/// Prints checksums and events of built-in bytes, and follows the answer on standard input.
 fn show_all(rt: &HostRuntime) -> Result<Option<&'static str>, &'static str> {
     printed(checksums::print_samples(rt).is_ok())?;
-    printed(row_lines::print_two_rows(rt, rt.alloc()).is_ok())?;
     list(rt, &ONE_INSERT)?;
     follow(rt, false)
 }
@@ -97,7 +94,6 @@ fn run(rt: &HostRuntime) -> Result<Option<&'static str>, &'static str> {
         ("checksums", [path, len]) => {
             printed(checksums::print_file(rt, path.as_str(), len.as_str()).is_ok())
         }
-        ("rows", [path]) => printed(row_lines::print_file(rt, rt.alloc(), path.as_str()).is_ok()),
         _ => Err("Usage"),
     }
 }

@@ -25,7 +25,7 @@ fn plan_of(alloc: Global, table_map: &[u8]) -> Result<ColumnPlan, RowsError> {
 /// Appends the text of a part of a row.
 fn put_part(alloc: Global, part: RowPart<'_>, text: &mut Vec<u8>) -> Result<(), RowsError> {
     match part {
-        RowPart::Cell(place, cell) => put_cell_ref(alloc, place, cell, text),
+        RowPart::Cell(index, cell) => put_cell_ref(alloc, index, cell, text),
         RowPart::NextImage => Ok(text.extend_from_slice(b" to")?),
         RowPart::EndOfRow => Ok(text.push(b'\n')?),
     }

@@ -1,28 +1,19 @@
-use Rattle.std.proofs.Common.{rules, arith, refl, ◌≡◌, ◌<◌, length}
-use Rattle.wire_buf.proofs.EncodingLemmas.{IfErr-of_same}
+use Rattle.std.proofs.Common.{rules, arith, refl, ◌≡◌, length}
 use Rattle.rows_images.specs.RowViews.{row_shape}
 use Rattle.feed_text.specs.Buffers.{text_in}
-use Rattle.feed_rows.proofs.RowLineLemmas.{none_put, more_put, all_put, lines_failed}
+use Rattle.feed_rows.proofs.RowLineLemmas.{none_put, all_put}
 use Rattle.feed_rows.proofs.lines.put_lines.Goals as goal
 
-pub loop-rest-init : goal.loop-rest-init
-loop-rest-init g c =
-    c.put_short_lines-rest.ensures.lines c.args.rows_data.now (text_in c.args.text.now) (none_put (row_shape c.args.plan) c.args.start.now c.args.rows_data.now (text_in c.args.text.now) c.args.rows_data.now refl)
-
-pub loop-rest-preserved : goal.loop-rest-preserved
-loop-rest-preserved g c =
-    let some : 0 < length c.loop-rest.rest.now = search (arith, rules) in
-    c.put_short_lines-rest-in-loop-rest.ensures.lines c.args.rows_data.now (text_in c.args.text.now)
-    (more_put (row_shape c.args.plan) c.args.start.now c.args.rows_data.now (text_in c.args.text.now) c.loop-rest.rest.now c.in_ok-next.next.now (text_in c.loop-rest.text) _ _ _ some c.loop-rest.invariant
-    c.in_ok-put_text.ensures.ok c.in_ok-next.ensures.ok c.in_ok-put.ensures.ok)
-
-pub returns-in_err-next-clause-err : goal.returns-in_err-next-clause-err
-returns-in_err-next-clause-err g c =
-    let some : 0 < length c.loop-rest.rest.now = search (arith, rules) in
-    IfErr-of_same _ _ _ c.from_residual-in_err-next.ensures
-    (lines_failed (row_shape c.args.plan) c.args.start.now c.args.rows_data.now (text_in c.args.text.now) c.loop-rest.rest.now (text_in c.loop-rest.text) _ some c.loop-rest.invariant c.in_err-next.ensures.err)
+pub returns-then-is_empty-clause-ok : goal.returns-then-is_empty-clause-ok
+returns-then-is_empty-clause-ok g c =
+    let none : length c.put_short_lines-rest.result.now ≡ 0 = search (arith, rules) in
+    all_put (row_shape c.args.plan) c.args.start.now c.args.rows_data.now (text_in c.args.text.now) c.put_short_lines-rest.result.now (text_in c.put_short_lines-rest.new.text) none
+    (c.put_short_lines-rest.ensures.lines c.args.rows_data.now (text_in c.args.text.now) (none_put (row_shape c.args.plan) c.args.start.now c.args.rows_data.now (text_in c.args.text.now) c.args.rows_data.now refl))
 
 pub returns-clause-ok : goal.returns-clause-ok
-returns-clause-ok g c =
-    let none : length c.loop-rest.rest.now ≡ 0 = search (arith, rules) in
-    all_put (row_shape c.args.plan) c.args.start.now c.args.rows_data.now (text_in c.args.text.now) c.loop-rest.rest.now (text_in c.loop-rest.text) none c.loop-rest.invariant
+returns-clause-ok g c = c.put_other_lines.ensures.ok c.args.rows_data.now (text_in c.args.text.now)
+    (c.put_short_lines-rest.ensures.lines c.args.rows_data.now (text_in c.args.text.now) (none_put (row_shape c.args.plan) c.args.start.now c.args.rows_data.now (text_in c.args.text.now) c.args.rows_data.now refl))
+
+pub returns-clause-err : goal.returns-clause-err
+returns-clause-err g c = c.put_other_lines.ensures.err c.args.rows_data.now (text_in c.args.text.now)
+    (c.put_short_lines-rest.ensures.lines c.args.rows_data.now (text_in c.args.text.now) (none_put (row_shape c.args.plan) c.args.start.now c.args.rows_data.now (text_in c.args.text.now) c.args.rows_data.now refl))

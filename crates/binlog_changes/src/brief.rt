@@ -1,0 +1,100 @@
+//! What the bodies of events say, in brief.
+
+use crate::lines::put_gtid;
+use events_frames::{EventParts, RotateEvent, read_body};
+use events_queries::QueryEvent;
+use events_reader::EventStreamReader;
+use feed_json::Text;
+use feed_kinds::EventKind;
+use rows_consts::EventType;
+use rows_events::RowsEvent;
+use rows_meta::TableMapEvent;
+
+/// How many bytes of a statement are shown, at most.
+const SHOWN_OF_STATEMENT: usize = 60;
+
+/// Appends the beginning of a statement, as a string.
+fn put_statement(query: QueryEvent<'_>, out: &mut Text) {
+    let statement = query.query_raw();
+    match statement.get(..SHOWN_OF_STATEMENT) {
+        Some(first) => {
+            out.name(first);
+            out.words("..");
+        }
+        None => out.name(statement),
+    }
+}
+
+/// Appends the names of a table.
+fn put_table(map: &TableMapEvent<'_>, out: &mut Text) {
+    out.name(map.database_name_raw());
+    out.push(b'.');
+    out.name(map.table_name_raw());
+}
+
+/// Appends the names of a table, its id and how many columns it has.
+fn put_map(map: TableMapEvent<'_>, out: &mut Text) {
+    put_table(&map, out);
+    out.words(", table ");
+    out.unsigned(map.table_id());
+    out.words(", columns ");
+    out.unsigned(map.columns_count());
+}
+
+/// Appends the table of rows.
+fn put_rows(reader: &EventStreamReader, rows: RowsEvent<'_>, out: &mut Text) {
+    if let Some(map) = reader.get_tme(rows.table_id()) {
+        put_table(map, out);
+        out.words(", ");
+    }
+    out.words("table ");
+    out.unsigned(rows.table_id());
+}
+
+/// Appends what an event of this kind says.
+fn put_kind(reader: &EventStreamReader, kind: EventKind<'_>, out: &mut Text) {
+    match kind {
+        EventKind::Format => out.name(reader.get_fde().server_version_raw()),
+        EventKind::NextGtid(gtid) => put_gtid(Some(gtid), out),
+        EventKind::Begin => out.words("BEGIN"),
+        EventKind::Commit => out.words("COMMIT"),
+        EventKind::Rollback => out.words("ROLLBACK"),
+        EventKind::Statement(query) => put_statement(query, out),
+        EventKind::Map(map) => put_map(map, out),
+        EventKind::Rows(rows) => put_rows(reader, rows, out),
+        EventKind::RealRotate | EventKind::Ignored => {}
+        EventKind::Unshown => out.words("not shown"),
+        EventKind::Unknown => out.words("unknown"),
+    }
+}
+
+/// Appends where the log goes on.
+fn put_rotate(body: &[u8], out: &mut Text) {
+    match read_body::<RotateEvent<'_>>(out.alloc(), (), body) {
+        Ok(rotate) => {
+            out.name(rotate.name_raw());
+            out.words(" at ");
+            out.unsigned(rotate.position());
+        }
+        Err(_) => out.words("damaged"),
+    }
+}
+
+/// Appends what an event with these parts says.
+fn put_parts(reader: &EventStreamReader, parts: &EventParts<'_>, out: &mut Text) {
+    if parts.header().event_type_raw() == EventType::ROTATE_EVENT as u8 {
+        return put_rotate(parts.body(), out);
+    }
+    match EventKind::of(out.alloc(), reader.get_fde(), parts) {
+        Ok(kind) => put_kind(reader, kind, out),
+        Err(_) => out.words("damaged"),
+    }
+}
+
+/// Appends what an event says. The reader has accepted the events before it.
+pub(crate) fn put_brief(reader: &mut EventStreamReader, event: &[u8], out: &mut Text) {
+    match reader.read_slice(event) {
+        Ok(parts) => put_parts(reader, &parts, out),
+        Err(_) => out.words("damaged"),
+    }
+}
