@@ -4,6 +4,7 @@ use crate::lines::put_gtid;
 use events_frames::{EventParts, RotateEvent, read_body};
 use events_queries::QueryEvent;
 use events_reader::EventStreamReader;
+use feed_changes::Filter;
 use feed_json::Text;
 use feed_kinds::EventKind;
 use rows_consts::EventType;
@@ -14,7 +15,7 @@ use rows_meta::TableMapEvent;
 const SHOWN_OF_STATEMENT: usize = 60;
 
 /// Appends the beginning of a statement, as a string.
-fn put_statement(query: QueryEvent<'_>, out: &mut Text) {
+fn put_statement(query: &QueryEvent<'_>, out: &mut Text) {
     let statement = query.query_raw();
     match statement.get(..SHOWN_OF_STATEMENT) {
         Some(first) => {
@@ -33,8 +34,8 @@ fn put_table(map: &TableMapEvent<'_>, out: &mut Text) {
 }
 
 /// Appends the names of a table, its id and how many columns it has.
-fn put_map(map: TableMapEvent<'_>, out: &mut Text) {
-    put_table(&map, out);
+fn put_map(map: &TableMapEvent<'_>, out: &mut Text) {
+    put_table(map, out);
     out.words(", table ");
     out.unsigned(map.table_id());
     out.words(", columns ");
@@ -42,7 +43,7 @@ fn put_map(map: TableMapEvent<'_>, out: &mut Text) {
 }
 
 /// Appends the table of rows.
-fn put_rows(reader: &EventStreamReader, rows: RowsEvent<'_>, out: &mut Text) {
+fn put_rows(reader: &EventStreamReader, rows: &RowsEvent<'_>, out: &mut Text) {
     if let Some(map) = reader.get_tme(rows.table_id()) {
         put_table(map, out);
         out.words(", ");
@@ -52,10 +53,10 @@ fn put_rows(reader: &EventStreamReader, rows: RowsEvent<'_>, out: &mut Text) {
 }
 
 /// Appends what an event of this kind says.
-fn put_kind(reader: &EventStreamReader, kind: EventKind<'_>, out: &mut Text) {
+fn put_kind(reader: &EventStreamReader, kind: &EventKind<'_>, out: &mut Text) {
     match kind {
         EventKind::Format => out.name(reader.get_fde().server_version_raw()),
-        EventKind::NextGtid(gtid) => put_gtid(Some(gtid), out),
+        EventKind::NextGtid(gtid) => put_gtid(Some(*gtid), out),
         EventKind::Begin => out.words("BEGIN"),
         EventKind::Commit => out.words("COMMIT"),
         EventKind::Rollback => out.words("ROLLBACK"),
@@ -65,6 +66,24 @@ fn put_kind(reader: &EventStreamReader, kind: EventKind<'_>, out: &mut Text) {
         EventKind::RealRotate | EventKind::Ignored => {}
         EventKind::Unshown => out.words("not shown"),
         EventKind::Unknown => out.words("unknown"),
+    }
+}
+
+/// Whether a filter takes changes of a table.
+fn takes_table(filter: Filter<'_>, map: &TableMapEvent<'_>) -> bool {
+    filter.takes_table(map.database_name_raw(), map.table_name_raw())
+}
+
+/// Whether a filter takes an event of this kind: a table map and rows by their table, a statement by its schema, others always.
+fn is_taken(reader: &EventStreamReader, filter: Filter<'_>, kind: &EventKind<'_>) -> bool {
+    match kind {
+        EventKind::Map(map) => takes_table(filter, map),
+        EventKind::Rows(rows) => match reader.get_tme(rows.table_id()) {
+            Some(map) => takes_table(filter, map),
+            None => true,
+        },
+        EventKind::Statement(query) => filter.takes_database(query.schema_raw()),
+        _ => true,
     }
 }
 
@@ -80,21 +99,44 @@ fn put_rotate(body: &[u8], out: &mut Text) {
     }
 }
 
-/// Appends what an event with these parts says.
-fn put_parts(reader: &EventStreamReader, parts: &EventParts<'_>, out: &mut Text) {
+/// Appends what an event with these parts says. Returns whether the filter takes it.
+fn put_parts(
+    reader: &EventStreamReader,
+    filter: Filter<'_>,
+    parts: &EventParts<'_>,
+    out: &mut Text,
+) -> bool {
     if parts.header().event_type_raw() == EventType::ROTATE_EVENT as u8 {
-        return put_rotate(parts.body(), out);
+        put_rotate(parts.body(), out);
+        return true;
     }
     match EventKind::of(out.alloc(), reader.get_fde(), parts) {
-        Ok(kind) => put_kind(reader, kind, out),
-        Err(_) => out.words("damaged"),
+        Ok(kind) => {
+            put_kind(reader, &kind, out);
+            let is_taken = is_taken(reader, filter, &kind);
+            drop(kind);
+            is_taken
+        }
+        Err(_) => {
+            out.words("damaged");
+            true
+        }
     }
 }
 
-/// Appends what an event says. The reader has accepted the events before it.
-pub(crate) fn put_brief(reader: &mut EventStreamReader, event: &[u8], out: &mut Text) {
+/// Appends what an event says. The reader has accepted the events before it. Returns whether the filter takes it; it takes each event
+/// that can't be read.
+pub(crate) fn put_brief(
+    reader: &mut EventStreamReader,
+    filter: Filter<'_>,
+    event: &[u8],
+    out: &mut Text,
+) -> bool {
     match reader.read_slice(event) {
-        Ok(parts) => put_parts(reader, &parts, out),
-        Err(_) => out.words("damaged"),
+        Ok(parts) => put_parts(reader, filter, &parts, out),
+        Err(_) => {
+            out.words("damaged");
+            true
+        }
     }
 }

@@ -1,13 +1,13 @@
 //! The words of the command line.
 
-use crate::lines::Shape;
 use clap::{Arg, ArgAction, ArgMatches, Command, Error};
+use feed_changes::Filter;
 use jiff::civil::DateTime;
 use jiff::tz::Offset;
 use std::alloc::{AllocError, Global};
 
 /// A command of the program.
-#[derive(Clone, Copy, PartialEq, Eq)]
+#[derive(Clone, Copy)]
 pub(crate) enum Task {
     /// Prints the changes.
     Json,
@@ -17,148 +17,208 @@ pub(crate) enum Task {
     Events,
 }
 
-/// What the program is to do.
-#[derive(Drop)]
-pub(crate) struct Options {
-    pub(crate) task: Task,
-    pub(crate) files: Vec<String>,
-    pub(crate) shape: Shape,
-    pub(crate) is_json: bool,
+/// Where to begin, and where to end.
+#[derive(Clone, Copy)]
+pub(crate) struct Range {
+    /// Positions, in the first log and in the last one.
     pub(crate) start: Option<u32>,
     pub(crate) stop: Option<u32>,
-    pub(crate) databases: Vec<String>,
-    /// Tables as `database.table`.
-    pub(crate) tables: Vec<String>,
-    pub(crate) excluded: Vec<String>,
     /// Seconds since 1970: from this time on, and before that.
     pub(crate) from_time: Option<u64>,
     pub(crate) to_time: Option<u64>,
 }
 
-/// An option with a value.
-fn valued<'a>(alloc: Global, name: &'a str, value: &'a str, help: &'a str) -> Arg<'a> {
-    Arg::new(alloc, name)
-        .long(name)
-        .value_name(value)
-        .action(ArgAction::Set)
-        .help(help)
+/// What the program is to do.
+#[derive(Drop)]
+pub(crate) struct Options<'w> {
+    pub(crate) task: Task,
+    /// Whether changes are printed by transaction.
+    pub(crate) by_transaction: bool,
+    pub(crate) is_json: bool,
+    pub(crate) range: Range,
+    pub(crate) databases: Vec<&'w [u8]>,
+    /// Tables as `database.table`.
+    pub(crate) tables: Vec<&'w [u8]>,
+    pub(crate) excluded: Vec<&'w [u8]>,
+    pub(crate) files: Vec<&'w str>,
 }
 
-/// An option that may be given several times.
-fn repeated<'a>(alloc: Global, name: &'a str, value: &'a str, help: &'a str) -> Arg<'a> {
-    Arg::new(alloc, name)
-        .long(name)
-        .value_name(value)
-        .action(ArgAction::Append)
-        .help(help)
+/// What an option takes.
+#[derive(Clone, Copy)]
+enum Takes {
+    Nothing,
+    Position,
+    Value,
+    /// A value, and the option may be given several times.
+    Values,
+}
+
+/// An option of a command: its name, what its value is called, and what it is for.
+#[derive(Clone, Copy)]
+struct Known {
+    takes: Takes,
+    name: &'static str,
+    value: &'static str,
+    help: &'static str,
+}
+
+const FROM_TIME: Known = Known {
+    takes: Takes::Value,
+    name: "start-datetime",
+    value: "TIME",
+    help: "only from this time on, in UTC: '2026-11-27 10:00:00'",
+};
+
+const TO_TIME: Known = Known {
+    takes: Takes::Value,
+    name: "stop-datetime",
+    value: "TIME",
+    help: "only before this time, in UTC",
+};
+
+const DATABASE: Known = Known {
+    takes: Takes::Values,
+    name: "database",
+    value: "NAME",
+    help: "only changes of this database",
+};
+
+const TABLE: Known = Known {
+    takes: Takes::Values,
+    name: "table",
+    value: "DATABASE.TABLE",
+    help: "only changes of this table; may be given several times",
+};
+
+const EXCLUDED: Known = Known {
+    takes: Takes::Values,
+    name: "exclude-table",
+    value: "DATABASE.TABLE",
+    help: "no changes of this table",
+};
+
+/// The options of `json`.
+const OF_JSON: [Known; 8] = [
+    Known {
+        takes: Takes::Nothing,
+        name: "transactions",
+        value: "",
+        help: "print a line for each transaction",
+    },
+    Known {
+        takes: Takes::Position,
+        name: "start-position",
+        value: "POSITION",
+        help: "begin after the transaction of the first log that ends here",
+    },
+    Known {
+        takes: Takes::Position,
+        name: "stop-position",
+        value: "POSITION",
+        help: "end with the transaction of the last log that ends here, or before",
+    },
+    FROM_TIME,
+    TO_TIME,
+    DATABASE,
+    TABLE,
+    EXCLUDED,
+];
+
+/// The option of `check`.
+const OF_CHECK: [Known; 1] = [Known {
+    takes: Takes::Nothing,
+    name: "json",
+    value: "",
+    help: "print a JSON object for each log",
+}];
+
+/// The options of `events`.
+const OF_EVENTS: [Known; 7] = [
+    Known {
+        takes: Takes::Position,
+        name: "start-position",
+        value: "POSITION",
+        help: "begin with the first event of the first log at this position or after it",
+    },
+    Known {
+        takes: Takes::Position,
+        name: "stop-position",
+        value: "POSITION",
+        help: "end before the first event of the last log at this position or after it",
+    },
+    FROM_TIME,
+    TO_TIME,
+    DATABASE,
+    TABLE,
+    EXCLUDED,
+];
+
+/// An option.
+fn argument<'a>(alloc: Global, known: Known) -> Arg<'a> {
+    let option = Arg::new(alloc, known.name)
+        .long(known.name)
+        .help(known.help);
+    match known.takes {
+        Takes::Nothing => option.action(ArgAction::SetTrue),
+        Takes::Position => option
+            .value_name(known.value)
+            .action(ArgAction::Set)
+            .value_parser(clap::value_parser!(u32)),
+        Takes::Value => option.value_name(known.value).action(ArgAction::Set),
+        Takes::Values => option.value_name(known.value).action(ArgAction::Append),
+    }
 }
 
 /// The logs, as the last words of a command.
 fn files<'a>(alloc: Global) -> Arg<'a> {
     Arg::new(alloc, "file")
         .value_name("FILE")
-        .num_args(0..)
+        .action(ArgAction::Append)
         .help("binary logs, in their order; - or none is standard input")
 }
 
-/// The options that say where to begin and to end; `from` and `to` explain those with positions.
-fn with_range<'a>(
+/// A command with its options and the logs.
+fn subcommand<'a>(
     alloc: Global,
-    command: Command<'a>,
-    from: &'a str,
-    to: &'a str,
+    name: &'a str,
+    about: &'a str,
+    options: &[Known],
 ) -> Result<Command<'a>, AllocError> {
-    command
-        .arg(valued(alloc, "start-position", "POSITION", from).value_parser(clap::value_parser!(
-            u32
-        )))?
-        .arg(valued(alloc, "stop-position", "POSITION", to).value_parser(clap::value_parser!(u32)))?
-        .arg(valued(
-            alloc,
-            "start-datetime",
-            "TIME",
-            "only from this time on, in UTC: '2026-11-27 10:00:00'",
-        ))?
-        .arg(valued(
-            alloc,
-            "stop-datetime",
-            "TIME",
-            "only before this time, in UTC",
-        ))
-}
-
-/// The options that say of which tables.
-fn with_tables<'a>(alloc: Global, command: Command<'a>) -> Result<Command<'a>, AllocError> {
-    command
-        .arg(repeated(alloc, "database", "NAME", "only changes of this database"))?
-        .arg(repeated(
-            alloc,
-            "table",
-            "DATABASE.TABLE",
-            "only changes of this table; may be given several times",
-        ))?
-        .arg(repeated(
-            alloc,
-            "exclude-table",
-            "DATABASE.TABLE",
-            "no changes of this table",
-        ))
-}
-
-/// An option without a value.
-fn flag<'a>(alloc: Global, name: &'a str, help: &'a str) -> Arg<'a> {
-    Arg::new(alloc, name)
-        .long(name)
-        .action(ArgAction::SetTrue)
-        .help(help)
-}
-
-/// The command `json`.
-fn json<'a>(alloc: Global) -> Result<Command<'a>, AllocError> {
-    let command = Command::new(alloc, "json")
-        .about("Prints a JSON object a line for each changed row")
-        .arg(flag(alloc, "transactions", "print a line for each transaction"))?;
-    let command = with_range(
-        alloc,
-        command,
-        "begin after the transaction of the first log that ends here",
-        "end with the transaction of the last log that ends here, or before",
-    )?;
-    with_tables(alloc, command)?.arg(files(alloc))
-}
-
-/// The command `check`.
-fn check<'a>(alloc: Global) -> Result<Command<'a>, AllocError> {
-    Command::new(alloc, "check")
-        .about("Says whether logs are whole, and where they end")
-        .arg(flag(alloc, "json", "print a JSON object for each log"))?
-        .arg(files(alloc))
-}
-
-/// The command `events`.
-fn events<'a>(alloc: Global) -> Result<Command<'a>, AllocError> {
-    let command = Command::new(alloc, "events").about(
-        "Prints a line for each event: position, type, size, time, server, contents",
-    );
-    let command = with_range(
-        alloc,
-        command,
-        "begin with the first event of the first log at this position or after it",
-        "end before the first event of the last log at this position or after it",
-    )?;
+    let mut command = Command::new(alloc, name).about(about);
+    for known in options {
+        command = command.arg(argument(alloc, *known))?;
+    }
     command.arg(files(alloc))
 }
 
 /// The command line of the program.
 fn command<'a>(alloc: Global) -> Result<Command<'a>, AllocError> {
-    Command::new(alloc, "binlog-changes")
+    let json = subcommand(
+        alloc,
+        "json",
+        "Prints a JSON object a line for each changed row",
+        &OF_JSON,
+    )?;
+    let command = Command::new(alloc, "binlog-changes")
         .version("0.1.0")
         .about("Prints the committed changes of MySQL binary logs")
         .subcommand_required(true)
         .arg_required_else_help(true)
-        .subcommand(json(alloc)?)?
-        .subcommand(check(alloc)?)?
-        .subcommand(events(alloc)?)
+        .subcommand(json)?;
+    let check = subcommand(
+        alloc,
+        "check",
+        "Says whether logs are whole, and where they end",
+        &OF_CHECK,
+    )?;
+    let command = command.subcommand(check)?;
+    let events = subcommand(
+        alloc,
+        "events",
+        "Prints a line for each event: position, type, size, time, server, contents",
+        &OF_EVENTS,
+    )?;
+    command.subcommand(events)
 }
 
 /// Why the command line can't be used.
@@ -189,19 +249,18 @@ impl Refused {
     }
 }
 
-/// The values of an option.
-fn values_of(
-    alloc: Global,
-    matches: &ArgMatches<'_>,
-    name: &str,
-) -> Result<Vec<String>, AllocError> {
-    let mut values = Vec::new(alloc);
-    if let Some(texts) = matches.get_strs(name) {
-        for text in texts {
-            values.push(String::from_str(alloc, *text)?)?;
+/// Adds the names that an option gives.
+fn add_names<'w>(
+    matches: &ArgMatches<'w>,
+    option: &str,
+    names: &mut Vec<&'w [u8]>,
+) -> Result<(), AllocError> {
+    if let Some(values) = matches.get_strs(option) {
+        for name in values {
+            names.push(name.as_bytes())?;
         }
     }
-    Ok(values)
+    Ok(())
 }
 
 /// The seconds since 1970 of a time as the options give it, in UTC: `2026-11-27 10:00:00`, or a date alone; 0 for an earlier one.
@@ -217,14 +276,24 @@ fn seconds_of(text: &str) -> Option<u64> {
 }
 
 /// The time that an option has, if it is given.
-fn time_of(matches: &ArgMatches<'_>, name: &'static str) -> Result<Option<u64>, Refused> {
-    let Some(text) = matches.get_str(name) else {
+fn time_of(matches: &ArgMatches<'_>, option: &'static str) -> Result<Option<u64>, Refused> {
+    let Some(text) = matches.get_str(option) else {
         return Ok(None);
     };
     match seconds_of(text) {
         Some(seconds) => Ok(Some(seconds)),
-        None => Err(Refused::Value(name)),
+        None => Err(Refused::Value(option)),
     }
+}
+
+/// Where to begin, and where to end.
+fn range_of(matches: &ArgMatches<'_>) -> Result<Range, Refused> {
+    Ok(Range {
+        start: matches.get_one("start-position"),
+        stop: matches.get_one("stop-position"),
+        from_time: time_of(matches, "start-datetime")?,
+        to_time: time_of(matches, "stop-datetime")?,
+    })
 }
 
 /// Whether the name of a table has a database and a table.
@@ -235,50 +304,92 @@ fn is_table(name: &str) -> bool {
     }
 }
 
-/// The tables that an option names.
-fn tables_of(
-    alloc: Global,
-    matches: &ArgMatches<'_>,
-    option: &'static str,
-) -> Result<Vec<String>, Refused> {
-    let names = values_of(alloc, matches, option)?;
-    for name in &names {
-        if !is_table(name.as_str()) {
-            return Err(Refused::Value(option));
+/// Whether all values of an option are names of tables.
+fn are_tables(matches: &ArgMatches<'_>, option: &str) -> bool {
+    if let Some(names) = matches.get_strs(option) {
+        for name in names {
+            if !is_table(name) {
+                return false;
+            }
         }
     }
-    Ok(names)
+    true
+}
+
+/// Adds the tables that an option names.
+fn add_tables<'w>(
+    matches: &ArgMatches<'w>,
+    option: &'static str,
+    tables: &mut Vec<&'w [u8]>,
+) -> Result<(), Refused> {
+    if are_tables(matches, option) {
+        Ok(add_names(matches, option, tables)?)
+    } else {
+        Err(Refused::Value(option))
+    }
+}
+
+/// Adds the files that a command names.
+fn add_files<'w>(matches: &ArgMatches<'w>, files: &mut Vec<&'w str>) -> Result<(), AllocError> {
+    match matches.get_strs("file") {
+        Some(values) => files.extend_from_slice(values),
+        None => Ok(()),
+    }
+}
+
+impl<'w> Options<'w> {
+    /// What a command is to do on standard input, with all tables.
+    fn new(alloc: Global, task: Task, matches: &ArgMatches<'w>, range: Range) -> Options<'w> {
+        Options {
+            task,
+            by_transaction: matches!(task, Task::Json) && matches.get_flag("transactions"),
+            is_json: matches!(task, Task::Check) && matches.get_flag("json"),
+            range,
+            databases: Vec::new(alloc),
+            tables: Vec::new(alloc),
+            excluded: Vec::new(alloc),
+            files: Vec::new(alloc),
+        }
+    }
+
+    /// What the options select by names and by times.
+    pub(crate) fn filter(&self) -> Filter<'_> {
+        Filter {
+            databases: &self.databases,
+            tables: &self.tables,
+            excluded: &self.excluded,
+            after: None,
+            up_to: None,
+            from_time: self.range.from_time,
+            to_time: self.range.to_time,
+        }
+    }
+
+    /// Adds the names and the files that a command has.
+    fn add(&mut self, matches: &ArgMatches<'w>) -> Result<(), Refused> {
+        add_names(matches, "database", &mut self.databases)?;
+        add_tables(matches, "table", &mut self.tables)?;
+        add_tables(matches, "exclude-table", &mut self.excluded)?;
+        Ok(add_files(matches, &mut self.files)?)
+    }
 }
 
 /// What a command is to do.
-fn options_of(alloc: Global, task: Task, matches: &ArgMatches<'_>) -> Result<Options, Refused> {
-    let from_time = time_of(matches, "start-datetime")?;
-    let to_time = time_of(matches, "stop-datetime")?;
-    let databases = values_of(alloc, matches, "database")?;
-    let tables = tables_of(alloc, matches, "table")?;
-    let excluded = tables_of(alloc, matches, "exclude-table")?;
-    let files = values_of(alloc, matches, "file")?;
-    Ok(Options {
-        task,
-        files,
-        shape: if task == Task::Json && matches.get_flag("transactions") {
-            Shape::Transaction
-        } else {
-            Shape::Change
-        },
-        is_json: task == Task::Check && matches.get_flag("json"),
-        start: matches.get_one::<u32>("start-position"),
-        stop: matches.get_one::<u32>("stop-position"),
-        databases,
-        tables,
-        excluded,
-        from_time,
-        to_time,
-    })
+fn options_of<'w>(
+    alloc: Global,
+    task: Task,
+    matches: &ArgMatches<'w>,
+) -> Result<Options<'w>, Refused> {
+    let range = range_of(matches)?;
+    let mut options = Options::new(alloc, task, matches, range);
+    match options.add(matches) {
+        Ok(()) => Ok(options),
+        Err(refused) => Err(refused),
+    }
 }
 
 /// What the command that was given is to do.
-fn options_in(alloc: Global, matches: &ArgMatches<'_>) -> Result<Options, Refused> {
+fn options_in<'w>(alloc: Global, matches: &ArgMatches<'w>) -> Result<Options<'w>, Refused> {
     match matches.subcommand() {
         Some(("check", matches)) => options_of(alloc, Task::Check, matches),
         Some(("events", matches)) => options_of(alloc, Task::Events, matches),
@@ -288,7 +399,7 @@ fn options_in(alloc: Global, matches: &ArgMatches<'_>) -> Result<Options, Refuse
 }
 
 /// Reads the command line.
-pub(crate) fn parse(alloc: Global, words: &[String]) -> Result<Options, Refused> {
+pub(crate) fn parse<'w>(alloc: Global, words: &'w [String]) -> Result<Options<'w>, Refused> {
     match command(alloc)?.try_get_matches_from(words) {
         Ok(matches) => options_in(alloc, &matches),
         Err(error) => Err(Refused::Words(error)),

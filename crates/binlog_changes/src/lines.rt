@@ -7,19 +7,11 @@ use feed_kinds::{Gtid, QueryTexts};
 use rows_values::RowsError;
 use std::alloc::{AllocError, Global};
 
-/// What a line is.
-#[derive(Clone, Copy, PartialEq, Eq)]
-pub(crate) enum Shape {
-    /// A changed row, or a statement.
-    Change,
-    /// A transaction.
-    Transaction,
-}
-
 /// The lines so far that aren't written yet.
 #[derive(Drop)]
 pub(crate) struct Lines {
-    shape: Shape,
+    /// Whether a line is a transaction, and not a changed row or a statement.
+    by_transaction: bool,
     tables: ShownTables,
     row: RowText,
     /// The members that all lines of a transaction have.
@@ -70,9 +62,9 @@ fn put_header(header: BinlogEventHeader, out: &mut Text) {
 
 impl Lines {
     /// No lines.
-    pub(crate) fn new(alloc: Global, shape: Shape) -> Lines {
+    pub(crate) fn new(alloc: Global, by_transaction: bool) -> Lines {
         Lines {
-            shape,
+            by_transaction,
             tables: ShownTables::new(alloc),
             row: RowText::new(alloc),
             origin: Text::new(alloc),
@@ -129,7 +121,7 @@ impl Lines {
         origin.unsigned(u64::from(transaction.log_pos()));
         self.begun = self.text.len();
         self.newest = None;
-        if self.shape == Shape::Transaction {
+        if self.by_transaction {
             self.newest = Some(self.begun);
             self.text.push(b'{');
             put_header(transaction.header(), &mut self.text);
@@ -142,14 +134,14 @@ impl Lines {
     /// Appends where a change comes from, if its line is its own.
     fn put_origin(&mut self, header: BinlogEventHeader) {
         put_header(header, &mut self.text);
-        if self.shape == Shape::Change {
+        if !self.by_transaction {
             self.text.append(&self.origin);
         }
     }
 
     /// Begins the object of a change; returns where.
     fn begin_object(&mut self) -> usize {
-        if self.shape == Shape::Transaction {
+        if self.by_transaction {
             self.text.comma();
         }
         self.text.len()
@@ -158,7 +150,7 @@ impl Lines {
     /// Ends the object of a change that begins here.
     fn end_object(&mut self, start: usize) {
         self.text.push(b'}');
-        if self.shape == Shape::Change {
+        if !self.by_transaction {
             self.text.push(b'\n');
             self.newest = Some(start);
         }
@@ -200,7 +192,7 @@ impl Lines {
         head.string(change_name(rows.images()));
         head.append(&table.names);
         put_header(header, head);
-        if self.shape == Shape::Change {
+        if !self.by_transaction {
             head.append(&self.origin);
         }
         head.append(&table.key);
@@ -244,13 +236,13 @@ impl Lines {
         let Some(newest) = self.newest else {
             return Ok(());
         };
-        match self.shape {
-            Shape::Change => {
-                self.text.truncate(self.text.len().saturating_sub(2));
-                self.text.words(",\"commit\":true}\n");
-            }
-            Shape::Transaction if self.text.ends_with(b'[') => self.text.truncate(newest),
-            Shape::Transaction => self.text.words("]}\n"),
+        if !self.by_transaction {
+            self.text.truncate(self.text.len().saturating_sub(2));
+            self.text.words(",\"commit\":true}\n");
+        } else if self.text.ends_with(b'[') {
+            self.text.truncate(newest);
+        } else {
+            self.text.words("]}\n");
         }
         self.newest = None;
         self.text.ended()

@@ -10,7 +10,6 @@ mod changes;
 mod command_line;
 mod events;
 mod lines;
-mod names;
 mod output;
 mod progress;
 mod run;

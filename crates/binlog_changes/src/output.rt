@@ -1,9 +1,9 @@
 //! The output: text in large pieces.
 
-use std::io::{ErrorKind, Write};
+use std::io::{self, ErrorKind, Write};
 
 /// How writing ended.
-#[derive(Clone, Copy, PartialEq, Eq)]
+#[derive(Clone, Copy)]
 pub(crate) enum Written {
     All,
     /// Whoever read the output has gone.
@@ -11,12 +11,12 @@ pub(crate) enum Written {
     Failed,
 }
 
-/// Writes bytes.
-pub(crate) fn write<W: Write>(writer: &mut W, bytes: &[u8]) -> Written {
+/// Writes bytes on standard output.
+pub(crate) fn write(rt: &HostRuntime, bytes: &[u8]) -> Written {
     if bytes.is_empty() {
         return Written::All;
     }
-    match writer.write_all(bytes) {
+    match io::writer(rt).write_all(bytes) {
         Ok(()) => Written::All,
         Err(error) if error.kind() == ErrorKind::BrokenPipe => Written::Closed,
         Err(_) => Written::Failed,

@@ -111,6 +111,62 @@ pub(crate) fn put_stop(path: &str, stop: Stop, out: &mut Text) {
     out.push(b'\n');
 }
 
+/// Whether its server closed a log that ended so: the last event is a rotate or a stop.
+pub(crate) fn is_closed(stop: Stop) -> bool {
+    match stop.newest_type {
+        Some(number) => {
+            number == EventType::ROTATE_EVENT as u8 || number == EventType::STOP_EVENT as u8
+        }
+        None => false,
+    }
+}
+
+/// Appends that a log before another isn't closed.
+pub(crate) fn put_unclosed(path: &str, stop: Stop, out: &mut Text) {
+    out.words("binlog-changes: ");
+    out.words(path);
+    out.words(": the log ends at ");
+    out.unsigned(stop.offset);
+    out.words(
+        " without a rotate or stop event, so transactions may be missing; compare its size with SHOW BINARY LOGS, \
+and give the logs after it in a run of their own\n",
+    );
+}
+
+/// Appends that no transaction ends at the start position, and the positions nearest to it.
+pub(crate) fn put_no_start(path: &str, before: Option<u32>, after: Option<u32>, out: &mut Text) {
+    out.words("binlog-changes: ");
+    out.words(path);
+    out.words(": no transaction ends at the start position; ");
+    match (before, after) {
+        (Some(before), Some(after)) => {
+            out.words("the nearest end at ");
+            out.unsigned(u64::from(before));
+            out.words(" and ");
+            out.unsigned(u64::from(after));
+        }
+        (None, Some(after)) => {
+            out.words("the nearest are 4 and ");
+            out.unsigned(u64::from(after));
+        }
+        (Some(before), None) => {
+            out.words("the last ends at ");
+            out.unsigned(u64::from(before));
+        }
+        (None, None) => out.words("the log has none"),
+    }
+    out.push(b'\n');
+}
+
+/// Appends that a log ends within an event, of which it has this many bytes.
+pub(crate) fn put_remaining(path: &str, remaining: usize, out: &mut Text) {
+    out.words("binlog-changes: ");
+    out.words(path);
+    out.words(": the log ends within an event, of which there are ");
+    out.unsigned(remaining as u64);
+    out.words(" bytes\n");
+}
+
 /// Appends the event at which a log ended, as members of an object.
 fn put_event_json(stop: Stop, out: &mut Text) {
     if let Some(header) = stop.header {
@@ -146,5 +202,10 @@ pub(crate) fn put_stop_json(path: &str, stop: Stop, out: &mut Text) {
     out.boolean(stop.is_cut);
     out.key("remaining");
     out.unsigned(stop.remaining as u64);
+    out.key("next_offset");
+    match stop.next_offset() {
+        Some(offset) => out.unsigned(offset),
+        None => out.null(),
+    }
     out.words("}\n");
 }

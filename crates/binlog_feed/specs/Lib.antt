@@ -38,8 +38,12 @@ pub use Rattle.feed_streams.specs.Acknowledgements
 pub use Rattle.feed_streams.specs.ResumePositions
 pub use Rattle.feed_payloads.specs.Requests
 pub use Rattle.feed_payloads.specs.RequestErrors
+pub use Rattle.feed_streams.specs.AnswerReaders
+pub use Rattle.feed_streams.specs.AnswerSteps
 pub use Rattle.feed_streams.specs.Following
 pub use Rattle.feed_streams.specs.FollowingSteps
+pub use Rattle.feed_follower.specs.StreamCommits
+pub use Rattle.feed_follower.specs.ChangeFollowing
 pub mod WorkedStreams
 pub use Rattle.feed_serving.specs.Requests as ServedRequests
 pub use Rattle.feed_serving.specs.RequestedPackets

@@ -3,10 +3,10 @@
 //!
 //! Each part is a crate of its own: `feed_kinds` has what an event is to the feed, `feed_checks` whether it is damaged, `feed_rows`
 //! the lines of rows, and `feed_rules` the rules that judge an event given the events before it, and the transactions that events
-//! show; `feed_reports` has the report of a file; `feed_changes` its transactions as values; `feed_payloads` the request for a log; `feed_streams` the follower of a stream;
-//! `feed_serving` the server of a file; `feed_runs` follower and server together, through connections that drop; `feed_kept` the
-//! complete transactions of a truncated text; `feed_text` the text of values. They build on `mysql_binlog_events`,
-//! `mysql_binlog_rows` and `mysql_wire`.
+//! show; `feed_reports` has the report of a file; `feed_changes` its transactions as values; `feed_payloads` the request for a log;
+//! `feed_streams` the follower of a stream, and `feed_follower` the one that lends transactions as values; `feed_serving` the server
+//! of a file; `feed_runs` follower and server together, through connections that drop; `feed_kept` the complete transactions of a
+//! truncated text; `feed_text` the text of values. They build on `mysql_binlog_events`, `mysql_binlog_rows` and `mysql_wire`.
 #![tactic(auto)]
 
 mod check_laws;
@@ -26,6 +26,7 @@ pub use feed_changes::{
     Change, ChangeLog, Changes, CommittedTransaction, Filter, NoLog, OwnedTransaction, Stop,
     TableRows, TakenChanges, What,
 };
+pub use feed_follower::ChangeFollower;
 pub use feed_kept::{Keeper, kept};
 pub use feed_kinds::{Gtid, QueryTexts, Verdict, name_of, status};
 pub use feed_payloads::{RequestError, request};

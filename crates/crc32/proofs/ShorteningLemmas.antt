@@ -1,5 +1,5 @@
 -- Bytes that are removed from a message and added to later ones.
-use Rattle.std.proofs.Common.{◌≡◌, ℕ, zero, suc, ◌+◌, ◌-◌, ◌*◌, ◌^◌, ◌<◌, ◌≤◌, List, [], ◌∷◌, ◌++◌, bit_xor, length, get_or, take, drop, replicate, refl, sym, subst, ap, ◌∙◌, arith}
+use Rattle.std.proofs.Common.{◌≡◌, ℕ, zero, suc, ◌+◌, ◌-◌, ◌*◌, ◌^◌, ◌<◌, ◌≤◌, List, [], ◌∷◌, ◌++◌, bit_xor, length, get_or, take, drop, replicate, refl, sym, ap, ◌∙◌, arith}
 use Rattle.std.proofs.lemmas.Nat.{pow-add}
 use Rattle.std.proofs.lemmas.List.{length-drop, length-take-le, drop-drop, take_all, get_or-drop, get_or-take, get_or-append_right, get_or-replicate}
 use Rattle.std.proofs.Math.ListN.{get_or-append}
@@ -7,7 +7,7 @@ use Rattle.std.proofs.Math.Nat.{mul_assoc}
 use Rattle.std.proofs.lemmas.Simd.{length-replicate, get_or-zip2, length-zip2, get_or-put_chunk_at, length-put_chunk}
 use lib.Bits.{xor_block, xor_lt, xor_comm, xor_zero_l, xor_zero_r}
 use lib.Lanes.{zip2, put_chunk}
-use borrow.Rule.Slice.PartMut.{mid_of, post_of, put_mid, same_len_mid}
+use borrow.Rule.Slice.PartMut.{mid_of, post_of, put_mid}
 use Rattle.byteorder.specs.Endian.{little_from, little_number}
 use Rattle.crc32.specs.Checksums.{after_bytes}
 use Rattle.crc32.specs.Division.{message_number}
@@ -306,12 +306,17 @@ lanes_written a k v xs ys f room wide =
     ∙ ap (λ (z : ℕ). get_or zs z 0) (let y : i ≡ 0 + i = omega arith in y) ∙ get_or-put_chunk_at 0 (mid_of a k xs) ys i 0 (omega (arith, o, n)) (omega (arith, o, m, wide)) ∙ ap (λ (z : ℕ). get_or ys z 0) (sym s)))
     ∙ f.2
 
+pub lanes_stored : (a v : ℕ) (xs ys : List ℕ) → AreLanes ys v → a + 16 ≤ length xs → number_at a 16 (put_chunk a xs ys) ≡ v
+lanes_stored a v xs ys f room =
+    let o : length ys ≡ 16 = f.0 in
+    number_at-same 16 a 0 (put_chunk a xs ys) ys
+    (λ i p q n d e. (let s : q ≡ i = omega (arith, e) in
+    ap (λ (z : ℕ). get_or (put_chunk a xs ys) z 0) d ∙ get_or-put_chunk_at a xs ys i 0 (omega (arith, o, n)) (omega (arith, o, room)) ∙ ap (λ (z : ℕ). get_or ys z 0) (sym s)))
+    ∙ f.2
+
 pub small_lanes_written : (a k v : ℕ) (xs ys : List ℕ) → AreByteValues xs → AreLanes ys v → AreByteValues (put_mid a k xs (put_chunk 0 (mid_of a k xs) ys))
 small_lanes_written a k v xs ys h f =
     small_written a k xs (put_chunk 0 (mid_of a k xs) ys) h (small_put (mid_of a k xs) ys (small_prefix k (drop a xs) (small_rest a xs h)) f.1)
-
-pub length_lanes_written : (a k : ℕ) (xs ys : List ℕ) → length (put_mid a k xs (put_chunk 0 (mid_of a k xs) ys)) ≡ length xs
-length_lanes_written a k xs ys = same_len_mid a k xs (put_chunk 0 (mid_of a k xs) ys) (length-put_chunk 0 (mid_of a k xs) ys)
 
 -- ---- the remaining bytes
 
@@ -321,9 +326,6 @@ small_zeros (suc n) zero = omega arith
 small_zeros (suc n) (suc i) = small_zeros n i
 
 -- zeros at the m offsets from a on
-pub small_filled : (a m : ℕ) (xs ys : List ℕ) → AreByteValues xs → ys ≡ replicate (length (mid_of a m xs)) 0 → AreByteValues (put_mid a m xs ys)
-small_filled a m xs ys h e = small_written a m xs ys h (subst AreByteValues (sym e) (small_zeros (length (mid_of a m xs))))
-
 pub filled : (a m k : ℕ) (xs ys : List ℕ) → ys ≡ replicate (length (mid_of a m xs)) 0 → a + m ≤ length xs → a ≤ k → k < a + m → get_or (put_mid a m xs ys) k 0 ≡ 0
 filled a m k xs ys e room from to =
     let l : length (drop a xs) ≡ length xs - a = length-drop a xs in

@@ -7,7 +7,7 @@
 
 ghost use Rattle.std.specs.Prelude.{◌≡◌, ◌≤◌, ◌<◌, ◌+◌, ◌%◌, List, length, bit_xor, drop};
 ghost use Rattle.crc32.specs.Checksums.{initial_register, after_bytes};
-ghost use Rattle.crc32.specs.Shortening.{AreLanes, added, number_at, pending};
+ghost use Rattle.crc32.specs.Shortening.{AreByteValues, AreLanes, added, number_at, pending};
 
 use crate::register::register_after;
 use std::simd::prelude::*;
@@ -15,17 +15,25 @@ use std::simd::prelude::*;
 /// The number of removed bytes that are kept, because they are added to later bytes.
 const KEPT_LEN: usize = 304;
 
-/// The number of bytes that are removed before the last of them are moved to the start of the buffer.
-const BLOCK: usize = 1024;
+/// The number of bytes that one turn of the loop removes.
+const STEP: usize = 32;
 
-/// The removed bytes: those that are kept, followed by a block.
+/// The removed bytes of a long message: those that are kept, followed by a block of 1,024 bytes.
 const REMOVED_LEN: usize = 1328;
 
+/// Those of a very long message: the block has 1,728 bytes, so that the kept bytes are moved less often.
+const MORE_REMOVED_LEN: usize = 2032;
+
+/// Each of the first four bytes of a message is inverted if this is added to it.
+const INVERTING: u8 = 255;
+
 /// Returns sixteen bytes of the message from offset `from` on, with all that the removed bytes add to them.
+#[inline(always)]
 fn removed_sums(bytes: &[u8], from: usize, taken: &[u8], at: usize) -> u8x16
     requires in_message { from + 16 ≤ length bytes.now }
     requires in_block { at + 304 ≤ length taken.now }
-    ensures { AreLanes result (bit_xor (added at 16 taken.now) (number_at from 16 bytes.now)) }
+    ensures sums { AreLanes result (bit_xor (added at 16 taken.now) (number_at from 16 bytes.now)) }
+    ensures small { AreByteValues taken.now }
 {
     u8x16::from_slice(&taken[at + 4..])
         ^ u8x16::from_slice(&taken[at + 93..])
@@ -34,24 +42,38 @@ fn removed_sums(bytes: &[u8], from: usize, taken: &[u8], at: usize) -> u8x16
         ^ u8x16::from_slice(&bytes[from..])
 }
 
-/// Removes `len` bytes, a multiple of sixteen, from the message at offset `from`.
-fn remove_bytes(taken: &mut [u8; REMOVED_LEN], bytes: &[u8], from: usize, len: usize)
-    requires in_block { len ≤ 1024 }
-    requires whole { len % 16 ≡ 0 }
+/// Removes sixteen bytes from the message at offset `from`. The bytes that were removed before are kept at offset `at`.
+#[inline(always)]
+fn remove_sixteen(taken: &mut [u8], at: usize, bytes: &[u8], from: usize)
+    requires in_block { at + 320 ≤ length taken.old }
+    requires in_message { from + 320 ≤ length bytes.now }
+    ensures { after_bytes (pending (at + 16) taken.new) (drop (from + 16) bytes.now) ≡ after_bytes (pending at taken.old) (drop from bytes.now) }
+{
+    removed_sums(bytes, from, taken, at).copy_to_slice(&mut taken[at + KEPT_LEN..]);
+}
+
+/// Removes `len` bytes, a multiple of 32, from the message at offset `from`.
+#[inline(always)]
+fn remove_bytes(taken: &mut [u8], bytes: &[u8], from: usize, len: usize)
+    requires in_block { len + 304 ≤ length taken.old }
+    requires whole { len % 32 ≡ 0 }
     requires in_message { from + len + 304 ≤ length bytes.now }
     ensures { after_bytes (pending 0 taken.new) (drop (from + len) bytes.now) ≡ after_bytes (pending 0 taken.old) (drop from bytes.now) }
 {
     let mut at = 0;
     while at < len {
-        removed_sums(bytes, from + at, taken, at).copy_to_slice(&mut taken[at + KEPT_LEN..]);
-        at += 16;
+        remove_sixteen(taken, at, bytes, from + at);
+        remove_sixteen(taken, at + 16, bytes, from + at + 16);
+        at += STEP;
     }
     taken.copy_within(len..len + KEPT_LEN, 0);
 }
 
 /// Returns the register after the bytes that aren't removed, with the removed ones added to them.
-fn register_after_last(taken: &mut [u8; REMOVED_LEN], last: &[u8]) -> u32
-    requires { length last.now ≡ 304 }
+#[inline(always)]
+fn register_after_last(taken: &mut [u8], last: &[u8]) -> u32
+    requires room { 608 ≤ length taken.old }
+    requires last { length last.now ≡ 304 }
     ensures { result ≡ after_bytes (pending 0 taken.old) last.now }
 {
     taken[KEPT_LEN..KEPT_LEN + KEPT_LEN].fill(0);
@@ -64,24 +86,51 @@ fn register_after_last(taken: &mut [u8; REMOVED_LEN], last: &[u8]) -> u32
     register_after(0, &bytes)
 }
 
+/// Returns the register after a message, with the bytes that are kept in `taken` added to it. The rest of `taken` is room for
+/// the bytes that are removed.
+#[inline(always)]
+fn register_after_removed(taken: &mut [u8], bytes: &[u8]) -> u32
+    requires room { 608 ≤ length taken.old }
+    requires long { 304 ≤ length bytes.now }
+    ensures { result ≡ after_bytes (pending 0 taken.old) bytes.now }
+{
+    let block = (taken.len() - KEPT_LEN) / STEP * STEP;
+    let mut at = 0;
+    while bytes.len() - at >= KEPT_LEN + STEP {
+        let len = ((bytes.len() - at - KEPT_LEN) / STEP * STEP).min(block);
+        remove_bytes(taken, bytes, at, len);
+        at += len;
+    }
+    let register = register_after_last(taken, &bytes[at..at + KEPT_LEN]);
+    register_after(register, &bytes[at + KEPT_LEN..])
+}
+
 /// Returns the register after a long message.
 #[cold]
+#[inline(never)]
 pub(crate) fn register_after_long(bytes: &[u8]) -> u32
     requires { 304 ≤ length bytes.now }
     ensures { result ≡ after_bytes initial_register bytes.now }
 {
     let mut taken = [0; REMOVED_LEN];
-    // Inverts the first 32 bits of the message.
-    taken[4] = 255;
-    taken[5] = 255;
-    taken[6] = 255;
-    taken[7] = 255;
-    let mut at = 0;
-    while bytes.len() - at >= KEPT_LEN + 16 {
-        let len = ((bytes.len() - at - KEPT_LEN) / 16 * 16).min(BLOCK);
-        remove_bytes(&mut taken, bytes, at, len);
-        at += len;
-    }
-    let register = register_after_last(&mut taken, &bytes[at..at + KEPT_LEN]);
-    register_after(register, &bytes[at + KEPT_LEN..])
+    taken[4] = INVERTING;
+    taken[5] = INVERTING;
+    taken[6] = INVERTING;
+    taken[7] = INVERTING;
+    register_after_removed(&mut taken, bytes)
+}
+
+/// Does what [`register_after_long`] does. It is faster for very long messages.
+#[cold]
+#[inline(never)]
+pub(crate) fn register_after_very_long(bytes: &[u8]) -> u32
+    requires { 304 ≤ length bytes.now }
+    ensures { result ≡ after_bytes initial_register bytes.now }
+{
+    let mut taken = [0; MORE_REMOVED_LEN];
+    taken[4] = INVERTING;
+    taken[5] = INVERTING;
+    taken[6] = INVERTING;
+    taken[7] = INVERTING;
+    register_after_removed(&mut taken, bytes)
 }

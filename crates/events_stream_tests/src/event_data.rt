@@ -123,43 +123,45 @@ fn is_kept(alloc: Global, event_type: EventType, start: &str, body: &[u8]) -> bo
     }
 }
 
+/// Whether each body is kept, with its type and the start of its `Debug` text.
+fn are_kept(alloc: Global, bodies: &[(EventType, &str, &[u8])]) -> bool {
+    let mut are_kept = true;
+    for (event_type, start, body) in bodies {
+        are_kept = are_kept && is_kept(alloc, *event_type, *start, *body);
+    }
+    are_kept
+}
+
 fn events_of_plain_types(alloc: Global) -> bool {
-    is_kept(
+    are_kept(
         alloc,
-        EventType::ROTATE_EVENT,
-        "RotateEvent(RotateEvent {",
-        ROTATE,
-    ) && is_kept(
-        alloc,
-        EventType::INTVAR_EVENT,
-        "IntvarEvent(IntvarEvent {",
-        INTVAR,
-    ) && is_kept(alloc, EventType::RAND_EVENT, "RandEvent(RandEvent {", RAND)
-        && is_kept(
-            alloc,
-            EventType::USER_VAR_EVENT,
-            "UserVarEvent(UserVarEvent {",
-            UNSIGNED,
-        )
-        && is_kept(alloc, EventType::XID_EVENT, "XidEvent(XidEvent {", XID)
-        && is_kept(
-            alloc,
-            EventType::BEGIN_LOAD_QUERY_EVENT,
-            "BeginLoadQueryEvent(BeginLoadQueryEvent {",
-            BEGIN_LOAD,
-        )
-        && is_kept(
-            alloc,
-            EventType::INCIDENT_EVENT,
-            "IncidentEvent(IncidentEvent {",
-            INCIDENT,
-        )
-        && is_kept(
-            alloc,
-            EventType::ROWS_QUERY_EVENT,
-            "RowsQueryEvent(RowsQueryEvent {",
-            b"\0select 1",
-        )
+        &[
+            (EventType::ROTATE_EVENT, "RotateEvent(RotateEvent {", ROTATE),
+            (EventType::INTVAR_EVENT, "IntvarEvent(IntvarEvent {", INTVAR),
+            (EventType::RAND_EVENT, "RandEvent(RandEvent {", RAND),
+            (
+                EventType::USER_VAR_EVENT,
+                "UserVarEvent(UserVarEvent {",
+                UNSIGNED,
+            ),
+            (EventType::XID_EVENT, "XidEvent(XidEvent {", XID),
+            (
+                EventType::BEGIN_LOAD_QUERY_EVENT,
+                "BeginLoadQueryEvent(BeginLoadQueryEvent {",
+                BEGIN_LOAD,
+            ),
+            (
+                EventType::INCIDENT_EVENT,
+                "IncidentEvent(IncidentEvent {",
+                INCIDENT,
+            ),
+            (
+                EventType::ROWS_QUERY_EVENT,
+                "RowsQueryEvent(RowsQueryEvent {",
+                b"\0select 1",
+            ),
+        ],
+    )
 }
 
 /// A rotate event for a file whose name has 100 bytes.
@@ -199,74 +201,78 @@ fn longer_events(alloc: Global) -> bool {
 }
 
 fn events_of_other_types(alloc: Global) -> bool {
-    is_kept(
+    are_kept(
         alloc,
-        EventType::FORMAT_DESCRIPTION_EVENT,
-        "FormatDescriptionEvent(FormatDescriptionEvent {",
-        &DESCRIPTION[19..76],
-    ) && is_kept(
-        alloc,
-        EventType::QUERY_EVENT,
-        "QueryEvent(QueryEvent {",
-        QUERY,
-    ) && is_kept(
-        alloc,
-        EventType::EXECUTE_LOAD_QUERY_EVENT,
-        "ExecuteLoadQueryEvent(ExecuteLoadQueryEvent {",
-        LOAD,
-    ) && is_kept(
-        alloc,
-        EventType::TABLE_MAP_EVENT,
-        "TableMapEvent(TableMapEvent {",
-        &TABLE_MAP[19..],
-    ) && is_kept(alloc, EventType::GTID_EVENT, "GtidEvent(GtidEvent {", FULL)
-        && is_kept(
-            alloc,
-            EventType::ANONYMOUS_GTID_EVENT,
-            "AnonymousGtidEvent(AnonymousGtidEvent(GtidEvent {",
-            FULL,
-        )
+        &[
+            (
+                EventType::FORMAT_DESCRIPTION_EVENT,
+                "FormatDescriptionEvent(FormatDescriptionEvent {",
+                &DESCRIPTION[19..76],
+            ),
+            (EventType::QUERY_EVENT, "QueryEvent(QueryEvent {", QUERY),
+            (
+                EventType::EXECUTE_LOAD_QUERY_EVENT,
+                "ExecuteLoadQueryEvent(ExecuteLoadQueryEvent {",
+                LOAD,
+            ),
+            (
+                EventType::TABLE_MAP_EVENT,
+                "TableMapEvent(TableMapEvent {",
+                &TABLE_MAP[19..],
+            ),
+            (EventType::GTID_EVENT, "GtidEvent(GtidEvent {", FULL),
+            (
+                EventType::ANONYMOUS_GTID_EVENT,
+                "AnonymousGtidEvent(AnonymousGtidEvent(GtidEvent {",
+                FULL,
+            ),
+        ],
+    )
 }
 
 // An event of version 1 has no extra data.
 fn events_of_rows_types(alloc: Global) -> bool {
     let one = b"\x07\0\0\0\0\0\x01\0\x01\x01row";
     let two = b"\x07\0\0\0\0\0\x01\0\x01\x01\x01rows";
-    is_kept(
+    are_kept(
         alloc,
-        EventType::WRITE_ROWS_EVENT,
-        "RowsEvent(WriteRowsEvent(",
-        &INSERT[19..],
-    ) && is_kept(
-        alloc,
-        EventType::UPDATE_ROWS_EVENT,
-        "RowsEvent(UpdateRowsEvent(",
-        UPDATE,
-    ) && is_kept(
-        alloc,
-        EventType::DELETE_ROWS_EVENT,
-        "RowsEvent(DeleteRowsEvent(",
-        &INSERT[19..],
-    ) && is_kept(
-        alloc,
-        EventType::PARTIAL_UPDATE_ROWS_EVENT,
-        "RowsEvent(PartialUpdateRowsEvent(",
-        UPDATE,
-    ) && is_kept(
-        alloc,
-        EventType::WRITE_ROWS_EVENT_V1,
-        "RowsEvent(WriteRowsEventV1(",
-        one,
-    ) && is_kept(
-        alloc,
-        EventType::UPDATE_ROWS_EVENT_V1,
-        "RowsEvent(UpdateRowsEventV1(",
-        two,
-    ) && is_kept(
-        alloc,
-        EventType::DELETE_ROWS_EVENT_V1,
-        "RowsEvent(DeleteRowsEventV1(",
-        one,
+        &[
+            (
+                EventType::WRITE_ROWS_EVENT,
+                "RowsEvent(WriteRowsEvent(",
+                &INSERT[19..],
+            ),
+            (
+                EventType::UPDATE_ROWS_EVENT,
+                "RowsEvent(UpdateRowsEvent(",
+                UPDATE,
+            ),
+            (
+                EventType::DELETE_ROWS_EVENT,
+                "RowsEvent(DeleteRowsEvent(",
+                &INSERT[19..],
+            ),
+            (
+                EventType::PARTIAL_UPDATE_ROWS_EVENT,
+                "RowsEvent(PartialUpdateRowsEvent(",
+                UPDATE,
+            ),
+            (
+                EventType::WRITE_ROWS_EVENT_V1,
+                "RowsEvent(WriteRowsEventV1(",
+                one,
+            ),
+            (
+                EventType::UPDATE_ROWS_EVENT_V1,
+                "RowsEvent(UpdateRowsEventV1(",
+                two,
+            ),
+            (
+                EventType::DELETE_ROWS_EVENT_V1,
+                "RowsEvent(DeleteRowsEventV1(",
+                one,
+            ),
+        ],
     )
 }
 
@@ -321,13 +327,26 @@ fn read_error(alloc: Global, event_type: EventType, body: &[u8]) -> Option<Event
 }
 
 fn events_failed_by_their_type(alloc: Global) -> bool {
-    read_error(alloc, EventType::XID_EVENT, &XID[..7]) == Some(EventError::EndOfBody)
-        && read_error(alloc, EventType::XID_EVENT, &[0; 9]) == Some(EventError::RemainingBytes)
-        && read_error(alloc, EventType::GTID_EVENT, &FULL[..24]) == Some(EventError::EndOfBody)
-        && read_error(alloc, EventType::FORMAT_DESCRIPTION_EVENT, &[0; 57])
-            == Some(EventError::Invalid)
-        && read_error(alloc, EventType::DELETE_ROWS_EVENT, &UPDATE[..10])
-            == Some(EventError::EndOfBody)
+    let bodies: [(EventType, &[u8], EventError); 5] = [
+        (EventType::XID_EVENT, &XID[..7], EventError::EndOfBody),
+        (EventType::XID_EVENT, &[0; 9], EventError::RemainingBytes),
+        (EventType::GTID_EVENT, &FULL[..24], EventError::EndOfBody),
+        (
+            EventType::FORMAT_DESCRIPTION_EVENT,
+            &[0; 57],
+            EventError::Invalid,
+        ),
+        (
+            EventType::DELETE_ROWS_EVENT,
+            &UPDATE[..10],
+            EventError::EndOfBody,
+        ),
+    ];
+    let mut are_failed = true;
+    for (event_type, body, fault) in bodies {
+        are_failed = are_failed && read_error(alloc, event_type, body) == Some(fault);
+    }
+    are_failed
 }
 
 #[test]

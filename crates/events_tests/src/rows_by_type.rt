@@ -176,17 +176,48 @@ fn types_and_errors(alloc: Global) -> bool {
     let Ok(uncounted) = changed(alloc, UPDATE, 10, 251) else {
         return false;
     };
-    columns(alloc, RowsEventType::WriteRows, UPDATE) == Ok((EventType::WRITE_ROWS_EVENT, 2))
-        && columns(alloc, RowsEventType::DeleteRows, UPDATE)
-            == Ok((EventType::DELETE_ROWS_EVENT, 2))
-        && columns(alloc, RowsEventType::UpdateRowsV1, UPDATE)
-            == Ok((EventType::UPDATE_ROWS_EVENT_V1, 2))
-        && columns(alloc, RowsEventType::WriteRowsV1, &INSERT[19..])
-            == Ok((EventType::WRITE_ROWS_EVENT_V1, 2))
-        && columns(alloc, RowsEventType::DeleteRowsV1, UPDATE)
-            == Ok((EventType::DELETE_ROWS_EVENT_V1, 2))
-        && columns(alloc, RowsEventType::UpdateRows, &UPDATE[..12]) == Err(EventError::EndOfBody)
-        && columns(alloc, RowsEventType::UpdateRows, &uncounted) == Err(EventError::Invalid)
+    let events: [(RowsEventType, &[u8], Result<(EventType, u64), EventError>); 7] = [
+        (
+            RowsEventType::WriteRows,
+            UPDATE,
+            Ok((EventType::WRITE_ROWS_EVENT, 2)),
+        ),
+        (
+            RowsEventType::DeleteRows,
+            UPDATE,
+            Ok((EventType::DELETE_ROWS_EVENT, 2)),
+        ),
+        (
+            RowsEventType::UpdateRowsV1,
+            UPDATE,
+            Ok((EventType::UPDATE_ROWS_EVENT_V1, 2)),
+        ),
+        (
+            RowsEventType::WriteRowsV1,
+            &INSERT[19..],
+            Ok((EventType::WRITE_ROWS_EVENT_V1, 2)),
+        ),
+        (
+            RowsEventType::DeleteRowsV1,
+            UPDATE,
+            Ok((EventType::DELETE_ROWS_EVENT_V1, 2)),
+        ),
+        (
+            RowsEventType::UpdateRows,
+            &UPDATE[..12],
+            Err(EventError::EndOfBody),
+        ),
+        (
+            RowsEventType::UpdateRows,
+            &uncounted,
+            Err(EventError::Invalid),
+        ),
+    ];
+    let mut are_read = true;
+    for (event_type, body, wanted) in events {
+        are_read = are_read && columns(alloc, event_type, body) == wanted;
+    }
+    are_read
 }
 
 /// Whether the row was inserted and has one column.

@@ -116,7 +116,8 @@ fn has_two_of(alloc: Global, size: u32) -> Result<bool, AllocError> {
     )
 }
 
-// The first buffer has 131,072 bytes: both events fit; the second is moved to its start; the first doubles it.
+// The first buffer has 131,072 bytes: both events fit; the second is moved to its start; 41,072 bytes of it are moved, so the buffer
+// doubles; the first doubles it.
 fn events_longer_than_the_buffer(alloc: Global) -> bool {
     let Ok(fit) = has_two_of(alloc, 65_536) else {
         return false;
@@ -124,10 +125,13 @@ fn events_longer_than_the_buffer(alloc: Global) -> bool {
     let Ok(moved) = has_two_of(alloc, 100_000) else {
         return false;
     };
+    let Ok(doubled) = has_two_of(alloc, 90_000) else {
+        return false;
+    };
     let Ok(longer) = has_two_of(alloc, 150_000) else {
         return false;
     };
-    fit && moved && longer
+    fit && moved && doubled && longer
 }
 
 #[test]

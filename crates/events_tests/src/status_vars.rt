@@ -38,6 +38,15 @@ fn has_value(alloc: Global, block: &[u8], key: Key, text: &str) -> bool {
     }
 }
 
+/// Whether each block has a variable with the key and the `Debug` text beside it.
+fn have_values(alloc: Global, blocks: &[(&[u8], Key, &str)]) -> bool {
+    let mut have_values = true;
+    for (block, key, text) in blocks {
+        have_values = have_values && has_value(alloc, *block, *key, *text);
+    }
+    have_values
+}
+
 /// Whether the next variable has this key and these bytes.
 fn returns_event(vars: &mut StatusVarsIterator<'_>, key: Key, bytes: &[u8]) -> bool {
     match vars.next() {
@@ -76,116 +85,119 @@ fn variables_found_by_key() -> bool {
 }
 
 fn options_and_settings(alloc: Global) -> bool {
-    has_value(
+    have_values(
         alloc,
-        b"\0\0\x40\0\x08",
-        Key::Flags2,
-        "Flags2(RawFlags(134234112, PhantomData<_>))",
-    ) && has_value(
-        alloc,
-        b"\x01\0\0\x20\x54\x01\0\0\0",
-        Key::SqlMode,
-        "SqlMode(RawFlags(5706350592, PhantomData<_>))",
-    ) && has_value(
-        alloc,
-        b"\x10\x01",
-        Key::ExplicitDefaultsForTimestamp,
-        "ExplicitDefaultsForTimestamp(1)",
-    ) && has_value(
-        alloc,
-        b"\x13\x02",
-        Key::SqlRequirePrimaryKey,
-        "SqlRequirePrimaryKey(2)",
-    ) && has_value(
-        alloc,
-        b"\x14\x03",
-        Key::DefaultTableEncryption,
-        "DefaultTableEncryption(3)",
+        &[
+            (
+                b"\0\0\x40\0\x08",
+                Key::Flags2,
+                "Flags2(RawFlags(134234112, PhantomData<_>))",
+            ),
+            (
+                b"\x01\0\0\x20\x54\x01\0\0\0",
+                Key::SqlMode,
+                "SqlMode(RawFlags(5706350592, PhantomData<_>))",
+            ),
+            (
+                b"\x10\x01",
+                Key::ExplicitDefaultsForTimestamp,
+                "ExplicitDefaultsForTimestamp(1)",
+            ),
+            (
+                b"\x13\x02",
+                Key::SqlRequirePrimaryKey,
+                "SqlRequirePrimaryKey(2)",
+            ),
+            (
+                b"\x14\x03",
+                Key::DefaultTableEncryption,
+                "DefaultTableEncryption(3)",
+            ),
+        ],
     )
 }
 
 fn texts(alloc: Global) -> bool {
-    has_value(
+    have_values(
         alloc,
-        b"\x02\x03std\0",
-        Key::Catalog,
-        "Catalog([115, 116, 100])",
-    ) && has_value(
-        alloc,
-        b"\x05\x06SYSTEM",
-        Key::TimeZone,
-        "TimeZone([83, 89, 83, 84, 69, 77])",
-    ) && has_value(
-        alloc,
-        b"\x06\x03std",
-        Key::CatalogNz,
-        "CatalogNz([115, 116, 100])",
-    ) && has_value(
-        alloc,
-        b"\x0b\x04root\x09localhost",
-        Key::Invoker,
-        "Invoker { username: [114, 111, 111, 116], hostname: [108, 111, 99, 97, 108, 104, 111, 115, 116] }",
-    ) && has_value(
-        alloc,
-        b"\x0c\x02test\0db\0",
-        Key::UpdatedDbNames,
-        "UpdatedDbNames(Some(Seq([RawBytes([116, 101, 115, 116], PhantomData<_>), \
+        &[
+            (b"\x02\x03std\0", Key::Catalog, "Catalog([115, 116, 100])"),
+            (
+                b"\x05\x06SYSTEM",
+                Key::TimeZone,
+                "TimeZone([83, 89, 83, 84, 69, 77])",
+            ),
+            (b"\x06\x03std", Key::CatalogNz, "CatalogNz([115, 116, 100])"),
+            (
+                b"\x0b\x04root\x09localhost",
+                Key::Invoker,
+                "Invoker { username: [114, 111, 111, 116], hostname: [108, 111, 99, 97, 108, 104, 111, 115, 116] }",
+            ),
+            (
+                b"\x0c\x02test\0db\0",
+                Key::UpdatedDbNames,
+                "UpdatedDbNames(Some(Seq([RawBytes([116, 101, 115, 116], PhantomData<_>), \
 RawBytes([100, 98], PhantomData<_>)], PhantomData<_>)))",
-    ) && has_value(
-        alloc,
-        b"\x0c\xfe",
-        Key::UpdatedDbNames,
-        "UpdatedDbNames(None)",
+            ),
+            (b"\x0c\xfe", Key::UpdatedDbNames, "UpdatedDbNames(None)"),
+        ],
     )
 }
 
 fn counters_and_character_sets(alloc: Global) -> bool {
-    has_value(
+    have_values(
         alloc,
-        b"\x03\x0a\0\x02\x01",
-        Key::AutoIncrement,
-        "AutoIncrement { increment: 10, offset: 258 }",
-    ) && has_value(
-        alloc,
-        b"\x04\x21\0\xff\0\x08\0",
-        Key::Charset,
-        "Charset { charset_client: 33, collation_connection: 255, collation_server: 8 }",
-    ) && has_value(alloc, b"\x07\x05\x01", Key::LcTimeNames, "LcTimeNames(261)")
-        && has_value(
-            alloc,
-            b"\x08\xff\x01",
-            Key::CharsetDatabase,
-            "CharsetDatabase(511)",
-        )
-        && has_value(
-            alloc,
-            b"\x12\xff\x02",
-            Key::DefaultCollationForUtf8mb4,
-            "DefaultCollationForUtf8mb4(767)",
-        )
+        &[
+            (
+                b"\x03\x0a\0\x02\x01",
+                Key::AutoIncrement,
+                "AutoIncrement { increment: 10, offset: 258 }",
+            ),
+            (
+                b"\x04\x21\0\xff\0\x08\0",
+                Key::Charset,
+                "Charset { charset_client: 33, collation_connection: 255, collation_server: 8 }",
+            ),
+            (b"\x07\x05\x01", Key::LcTimeNames, "LcTimeNames(261)"),
+            (
+                b"\x08\xff\x01",
+                Key::CharsetDatabase,
+                "CharsetDatabase(511)",
+            ),
+            (
+                b"\x12\xff\x02",
+                Key::DefaultCollationForUtf8mb4,
+                "DefaultCollationForUtf8mb4(767)",
+            ),
+        ],
+    )
 }
 
 fn longer_numbers(alloc: Global) -> bool {
-    has_value(
+    have_values(
         alloc,
-        b"\x09\x03\0\0\0\0\0\0\x80",
-        Key::TableMapForUpdate,
-        "TableMapForUpdate(9223372036854775811)",
-    ) && has_value(
-        alloc,
-        b"\x0a\x7c\0\0\x01",
-        Key::MasterDataWritten,
-        "MasterDataWritten(16777340)",
-    ) && has_value(
-        alloc,
-        b"\x0d\x3f\x42\x0f",
-        Key::Microseconds,
-        "Microseconds(999999)",
-    ) && has_value(
-        alloc,
-        b"\x11\x34\x12\0\0\0\0\0\x01",
-        Key::DdlLoggedWithXid,
-        "DdlLoggedWithXid(72057594037932596)",
+        &[
+            (
+                b"\x09\x03\0\0\0\0\0\0\x80",
+                Key::TableMapForUpdate,
+                "TableMapForUpdate(9223372036854775811)",
+            ),
+            (
+                b"\x0a\x7c\0\0\x01",
+                Key::MasterDataWritten,
+                "MasterDataWritten(16777340)",
+            ),
+            (
+                b"\x0d\x3f\x42\x0f",
+                Key::Microseconds,
+                "Microseconds(999999)",
+            ),
+            (
+                b"\x11\x34\x12\0\0\0\0\0\x01",
+                Key::DdlLoggedWithXid,
+                "DdlLoggedWithXid(72057594037932596)",
+            ),
+        ],
     )
 }
 
@@ -195,17 +207,24 @@ fn has_none(block: &[u8]) -> bool {
 }
 
 fn variables_cut_off() -> bool {
-    has_none(b"")
-        && has_none(b"\0\0\0\0")
-        && has_none(b"\x04\x21\0\x21\0\x08")
-        && has_none(b"\x05\x06SYSTE")
-        && has_none(b"\x02\x03std")
-        && has_none(b"\x02\x03std!")
-        && has_none(b"\x0b\x04root\x09localhos")
-        && has_none(b"\x0c\x02test\0db")
-        && has_none(b"\x0d\x3f\x42")
-        && has_none(b"\x0f\0\0\0\0\0\0\0\0")
-        && has_none(b"\x15\0")
+    let blocks: [&[u8]; 11] = [
+        b"",
+        b"\0\0\0\0",
+        b"\x04\x21\0\x21\0\x08",
+        b"\x05\x06SYSTE",
+        b"\x02\x03std",
+        b"\x02\x03std!",
+        b"\x0b\x04root\x09localhos",
+        b"\x0c\x02test\0db",
+        b"\x0d\x3f\x42",
+        b"\x0f\0\0\0\0\0\0\0\0",
+        b"\x15\0",
+    ];
+    let mut have_none = true;
+    for block in blocks {
+        have_none = have_none && has_none(block);
+    }
+    have_none
 }
 
 /// Whether the block is read from the start of the bytes, made owned, and written unchanged.

@@ -1,13 +1,10 @@
 //! Acknowledgements for a semi-synchronous source.
 
-ghost use Rattle.std.specs.Prelude.{◌≡◌, ◌%◌, ◌==◌, ◌++◌, ◌≤◌, ◌+◌, List, ℕ, [], ◌∷◌, OnOk, OnErr, length};
+ghost use Rattle.std.specs.Prelude.{◌≡◌, false, if◌then◌else◌, ◌%◌, ◌==◌, ◌++◌, ◌≤◌, ◌+◌, List, ℕ, [], ◌∷◌, OnOk, OnErr, length};
 ghost use Rattle.std.specs.Int.{w64, to_le_bytes};
 ghost use Rattle.wire_packets.specs.Framing.{max_chunk_len, chunk, framing};
-ghost use Rattle.feed_kinds.specs.Events.{log_pos_of};
 ghost use Rattle.feed_reports.specs.Events.{joined};
-ghost use Rattle.feed_streams.specs.Acknowledgements.{is_ack_requested, requested_acks};
-ghost use Rattle.feed_payloads.specs.declared.format.PayloadFormat.TheVariants.{Plain};
-ghost use Rattle.feed_payloads.specs.Streams.{event_in};
+ghost use Rattle.feed_streams.specs.Acknowledgements.{is_ack_requested};
 
 use bitflags::Flags;
 use feed_payloads::{LogName, PayloadFormat};
@@ -51,7 +48,7 @@ fn is_ack_flag_set(bits: u8) -> bool
 
 /// Whether a payload asks for an acknowledgement of its event.
 #[inline(always)]
-fn is_ack_requested(format: PayloadFormat, payload: &[u8]) -> bool
+pub(crate) fn is_ack_requested(format: PayloadFormat, payload: &[u8]) -> bool
     ensures { result ≡ is_ack_requested format payload.now }
 {
     match format {
@@ -60,22 +57,20 @@ fn is_ack_requested(format: PayloadFormat, payload: &[u8]) -> bool
     }
 }
 
-/// If the payload asks for an acknowledgement, appends that of its event; `position` is the position after the event in its log.
-/// An error changes nothing.
+/// Appends the acknowledgement of an event if it is requested; `position` is the position after the event in its log. An error changes
+/// nothing.
 #[inline(always)]
 pub(crate) fn put_requested_acknowledgement(
-    format: PayloadFormat,
-    payload: &[u8],
+    is_requested: bool,
     position: u32,
     name: &LogName,
     due_acks: &mut Vec<u8>,
 ) -> Result<(), AllocError>
-    requires { position ≡ log_pos_of (event_in format payload.now) }
-    ensures ok { OnOk result (due_acks.new.items ≡ due_acks.old.items ++ joined (requested_acks format name.now.bytes.items (payload.now ∷ []))) }
+    ensures ok { OnOk result (due_acks.new.items ≡ due_acks.old.items ++ joined (if is_requested then framing 0 (239 ∷ to_le_bytes w64 position ++ name.now.bytes.items) ∷ [] else [])) }
     ensures err { OnErr result (due_acks.new.items ≡ due_acks.old.items) }
-    ensures plain { format ≡ Plain → due_acks.new.items ≡ due_acks.old.items }
+    ensures plain { is_requested ≡ false → due_acks.new.items ≡ due_acks.old.items }
 {
-    if !is_ack_requested(format, payload) {
+    if !is_requested {
         return Ok(());
     }
     put_acknowledgement(position, name, due_acks)

@@ -2,7 +2,9 @@
 #![tactic(auto)]
 
 mod acknowledgements;
+mod answer_reader;
 mod follower;
 mod incoming;
 
+pub use answer_reader::{AnswerReader, TakenEvent};
 pub use follower::Follower;

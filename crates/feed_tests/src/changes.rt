@@ -45,7 +45,7 @@ fn are_five(alloc: Global, rows: TableRows<'_>) -> bool {
 }
 
 /// Whether a transaction has only such an insert, and ends at this position.
-fn is_insert(alloc: Global, transaction: CommittedTransaction<'_>, position: u32) -> bool {
+pub fn is_insert(alloc: Global, transaction: CommittedTransaction<'_>, position: u32) -> bool {
     let mut changes = transaction.changes();
     let is_five = match changes.next() {
         Some(change) => match change.what {

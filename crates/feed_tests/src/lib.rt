@@ -8,6 +8,8 @@ mod again;
 #[cfg(test)]
 mod answers;
 #[cfg(test)]
+mod change_following;
+#[cfg(test)]
 mod changes;
 #[cfg(test)]
 mod checksums;

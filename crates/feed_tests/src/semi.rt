@@ -15,10 +15,10 @@ use std::alloc::{AllocError, Global};
 use wire_buf::Watched;
 
 /// The name of the binary log.
-const NAME: &[u8] = b"m";
+pub const NAME: &[u8] = b"m";
 
 /// The answer for the small binary log with these flag bytes, and this sequence number for the last event's packet.
-fn answer_with(alloc: Global, flags: [u8; 2], number: u8) -> Result<Vec<u8>, AllocError> {
+pub fn answer_with(alloc: Global, flags: [u8; 2], number: u8) -> Result<Vec<u8>, AllocError> {
     let mut answer = Vec::from_slice(alloc, &[0x29, 0, 0, 1, 0, 0xef, flags[0]])?;
     answer.extend_from_slice(&BEGIN)?;
     answer.extend_from_slice(&[0x28, 0, 0, 2, 0, 0xef, 0])?;

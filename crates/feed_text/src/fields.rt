@@ -2,7 +2,7 @@
 //!
 //! These functions return `None` for a cell that can't be read, and for one whose text may be long; others write those.
 
-ghost use Rattle.std.specs.Prelude.{◌≡◌, ◌≤◌, ◌+◌, ◌++◌, ◌∷◌, IfNone, IfSome, length, take, false};
+ghost use Rattle.std.specs.Prelude.{◌≡◌, ◌≤◌, ◌+◌, ◌*◌, ◌++◌, ◌∷◌, IfNone, IfSome, length, take, false};
 ghost use Rattle.std.specs.Fmt.{decimal, signed_decimal};
 ghost use Rattle.rows_cells.specs.CellValues.{cell_date, cell_time};
 ghost use Rattle.rows_cells.specs.declared.format.Width.TheVariants.{One, Four};
@@ -13,7 +13,7 @@ ghost use Rattle.feed_text.specs.FieldText.{Advances, WritesField, WritesNext, W
 use crate::parts::{datetime_parts, time_parts};
 use crate::short::{put_date, put_span};
 use crate::short_decimals::put_short_decimal;
-use feed_writers::{put_byte, put_bytes, put_number, put_plain_quoted, put_quoted, put_signed};
+use feed_writers::{put_byte, put_bytes, put_few_quoted, put_number, put_quoted, put_signed};
 use rows_cells::{
     CellFormat, CellRef, Width, read_bytes, read_datetime, read_few_bytes, read_signed, read_time,
     read_unsigned, split_decimal,
@@ -196,7 +196,8 @@ fn put_string_field<'a>(text: &mut [u8], at: usize, bytes: &'a [u8]) -> Option<(
     }
 }
 
-/// Writes the text of at most 16 plain bytes after a length of one byte; else leaves the text unchanged.
+/// Writes the text of at most 16 bytes after a length of one byte, if sixteen bytes follow the length; else leaves the text
+/// unchanged.
 #[inline(always)]
 #[tactic(auto, unfolding(crate::specs::CellText::cell_value_text))]
 fn put_few_field<'a>(text: &mut [u8], at: usize, bytes: &'a [u8]) -> Option<(usize, &'a [u8])>
@@ -205,25 +206,21 @@ fn put_few_field<'a>(text: &mut [u8], at: usize, bytes: &'a [u8]) -> Option<(usi
     ensures some { IfSome result (λ r. WritesField false (Counted One) bytes.now at text.old text.new r.0 r.1.now) }
 {
     match read_few_bytes(bytes) {
-        Some((window, len, rest)) => match put_few_plain(text, at, window, len) {
-            Some(end) => Some((end, rest)),
-            None => None,
-        },
+        Some((window, len, rest)) => Some((put_few_bytes(text, at, window, len), rest)),
         None => None,
     }
 }
 
-/// The same as [`put_plain_quoted`], as a call.
+/// The same as [`put_few_quoted`], as a call.
 #[inline(never)]
-fn put_few_plain(text: &mut [u8], at: usize, bytes: &[u8], len: usize) -> Option<usize>
+fn put_few_bytes(text: &mut [u8], at: usize, bytes: &[u8], len: usize) -> usize
     requires few { len ≤ 16 }
     requires sixteen { 16 ≤ length bytes.now }
-    requires room { at + 18 ≤ length text.old }
-    ensures none { IfNone result (text.new ≡ text.old) }
-    ensures end { IfSome result (λ end. end ≡ at + len + 2) }
-    ensures text { IfSome result (λ end. take end text.new ≡ take at text.old ++ quoted (take len bytes.now)) }
+    requires room { at + 66 ≤ length text.old }
+    ensures most { result ≤ at + (3 * len + 2) }
+    ensures text { take result text.new ≡ take at text.old ++ quoted (take len bytes.now) }
 {
-    put_plain_quoted(text, at, bytes, len)
+    put_few_quoted(text, at, bytes, len)
 }
 
 /// Writes the text of bytes, if there are few.

@@ -3,7 +3,7 @@ use Rattle.std.proofs.Common.{◌≡◌, ℕ, zero, suc, ◌+◌, ◌-◌, ◌*�
 use Rattle.std.specs.Prelude.{⊤, if◌then◌else◌, take_while}
 use Rattle.std.proofs.lemmas.Bool.{cases_lt}
 use Rattle.std.specs.List.{flat_map, range_with_len}
-use Rattle.std.proofs.lemmas.List.{get_or-map, length-map, ext_get_or, take-take, take_all, length-append, length-replicate, length-take-le, length-drop, drop-drop, take-append-drop}
+use Rattle.std.proofs.lemmas.List.{get_or-map, length-map, ext_get_or, take-take, take_all, take_at, length-append, length-replicate, length-take-le, length-drop, drop-drop, take-append-drop}
 use Rattle.std.proofs.lemmas.List.FromFn.{length-map-range_with_len, get_or-map-range_with_len}
 use Rattle.std.proofs.lemmas.Nat.{and_le_r, and_mask, ones-le}
 use Rattle.std.proofs.lemmas.Simd.{Each1-all, Each1-weaker, Each1-zip2, Each2-splat, below_from_Fits, length-zip2, zip2_splat, swz_l, SwzOk, SwzOk-from_below, length-swz_l, get_or-swz_l_below, length-chunk, take_more_put_chunk, mask_l-mod, trailing_mask_l}
@@ -317,6 +317,27 @@ last_moved len bytes few long =
     let from : i + (16 - len) ≡ length bytes - len = omega arith in
     moves len few (chunk i 16 bytes) (length-chunk i 16 bytes (omega arith))
     ∙ ap (λ (t : List ℕ). t ++ replicate (16 - len) 32) (ap (drop (16 - len)) all ∙ drop-drop (16 - len) i bytes ∙ ap (λ (k : ℕ). drop k bytes) from)
+
+abbrev pub kept_of : List ℕ → ℕ → List ℕ
+kept_of first len = sel_l (map (top 7) (zip2 below OFFSETS (replicate 16 len))) first (replicate 16 32)
+
+abbrev Keeps : List ℕ → ℕ → Type 0
+Keeps first len = kept_of first len ≡ take len first ++ replicate (16 - len) 32
+
+keeps : (len : ℕ) → len ≤ 16 → (first : List ℕ) → length first ≡ 16 → Keeps first len
+keeps len few = spelled (λ first. Keeps first len) 16 (λ g. each (Keeps (listed g 16)) 17 len
+    (refl, (refl, (refl, (refl, (refl, (refl, (refl, (refl, (refl, (refl, (refl, (refl, (refl, (refl, (refl, (refl, (refl, tt))))))))))))))))) (omega arith))
+
+pub first_kept : (len : ℕ) (bytes : List ℕ) → len ≤ 16 → 16 ≤ length bytes → kept_of (take 16 bytes) len ≡ take len bytes ++ replicate (16 - len) 32
+first_kept len bytes few long = keeps len few (take 16 bytes) (length-take-le 16 bytes long) ∙ ap (λ (t : List ℕ). t ++ replicate (16 - len) 32) (take-take len 16 bytes few)
+
+-- some of the first bytes
+pub kept_prefix : (n len k : ℕ) (v bytes : List ℕ) → n ≤ len → len ≤ length bytes → v ≡ take len bytes ++ replicate k 32 → take n v ≡ take n bytes
+kept_prefix n len k v bytes few room e =
+    let long : length (take len bytes) ≡ len = length-take-le len bytes room in
+    ap (take {A = ℕ} n) e
+    ∙ sym (take-take n len (take len bytes ++ replicate k 32) few) ∙ ap (take {A = ℕ} n) (take_at (take len bytes) (replicate k 32) len long)
+    ∙ take-take n len bytes few
 
 quoted_most : (d : List ℕ) → length (flat_map quoted_byte d) ≤ 3 * length d
 quoted_most [] = omega arith

@@ -1,9 +1,10 @@
 -- Bytes between quotes, some at a time.
-use Rattle.std.proofs.Common.{◌≡◌, ℕ, zero, suc, ◌+◌, ◌≤◌, ◌/◌, ◌%◌, true, false, List, [], ◌∷◌, ◌++◌, length, take, drop, refl, sym, ap, ap₂, ◌∙◌, append_assoc, arith}
+use Rattle.std.proofs.Common.{◌≡◌, ℕ, zero, suc, ◌+◌, ◌-◌, ◌≤◌, ◌/◌, ◌%◌, true, false, List, [], ◌∷◌, ◌++◌, length, take, drop, refl, sym, ap, ap₂, ◌∙◌, append_assoc, arith}
 use Rattle.std.specs.Prelude.{if◌then◌else◌}
 use Rattle.std.specs.Fmt.{digit_glyph}
-use Rattle.std.proofs.lemmas.List.{append-nil, take_all, take_at, take-take, length-take-le}
+use Rattle.std.proofs.lemmas.List.{append-nil, take_all, take_at, take-take, length-take, length-take-le, length-append}
 use Rattle.std.proofs.Math.Seq.{take-add, take-append_seam, drop-append_seam}
+use Rattle.std.proofs.lemmas.List.Concat.{flat_map-append}
 use Rattle.std.specs.List.{flat_map}
 use Rattle.feed_writers.specs.Quoting.{is_plain_byte, quoted_byte, quoted}
 use Rattle.feed_writers.specs.PlainBytes.{IsPlainPrefix}
@@ -59,6 +60,24 @@ plain_quoted s r len base one two new d few plain long first end second fits thi
 -- a write at an offset leaves the text before it unchanged
 prefix_stays : (n k : ℕ) (one two more : List ℕ) → n ≤ length one → take (n + k) two ≡ take n one ++ more → take n two ≡ take n one
 prefix_stays n k one two more fits is = sym (take-take n (n + k) two (omega arith)) ∙ ap (take n) is ∙ take_at (take n one) more n (length-take-le n one fits)
+
+pub text_before : (m n : ℕ) (one two more : List ℕ) → m ≤ length one → take n two ≡ take m one ++ more → take m two ≡ take m one
+text_before m n one two more fits is =
+    let l : length (take m one) ≡ m = length-take-le m one fits in
+    let e : length (take n two) ≡ length (take m one) + length more = ap length is ∙ length-append (take m one) more in
+    let le : m ≤ n = omega (arith, l, e, length-take n two) in
+    sym (take-take m n two le) ∙ ap (take m) is ∙ take_at (take m one) more m l
+
+-- n of the first len bytes were written, and then the others
+pub run_then_rest : (n len : ℕ) (base one new d after : List ℕ) → n ≤ len → one ≡ base ++ flat_map quoted_byte (take n d) → after ≡ take (len - n) (drop n d) → new ≡ one ++ flat_map quoted_byte after → new ≡ base ++ flat_map quoted_byte (take len d)
+run_then_rest n len base one new d after few first e is =
+    let all : n + (len - n) ≡ len = omega (arith, few) in
+    let q = flat_map quoted_byte in
+    is ∙ ap (λ (t : List ℕ). t ++ q after) first ∙ append_assoc base (q (take n d)) (q after)
+    ∙ ap (λ (t : List ℕ). base ++ t)
+    (ap (λ (t : List ℕ). q (take n d) ++ q t) e
+    ∙ sym (flat_map-append quoted_byte (take n d) (take (len - n) (drop n d)))
+    ∙ ap q (sym (take-add n (len - n) d) ∙ ap (λ (k : ℕ). take k d) all))
 
 -- a plain byte was written, and digits after it that don't count
 pub plain_counts : (n k b x : ℕ) (base one two more : List ℕ) → is_plain_byte b ≡ true → x ≡ (if is_plain_byte b then b else 92) → n ≤ length one → take n one ≡ base ++ x ∷ [] → take (n + k) two ≡ take n one ++ more → take n two ≡ base ++ quoted_byte b

@@ -59,6 +59,18 @@ pub(crate) fn last_bytes(bytes: &[u8], len: usize) -> u8x16
         .select(moved, u8x16::splat(b' '))
 }
 
+/// The first `len` of sixteen bytes, and spaces after them.
+#[inline(always)]
+pub(crate) fn first_bytes(bytes: &[u8], len: usize) -> u8x16
+    requires sixteen { 16 ≤ length bytes.now }
+    requires few { len ≤ 16 }
+    ensures { result ≡ take len bytes.now ++ replicate (16 - len) 32 }
+{
+    u8x16::from_array(OFFSETS)
+        .simd_lt(u8x16::splat(len as u8))
+        .select(u8x16::from_slice(bytes), u8x16::splat(b' '))
+}
+
 /// Writes sixteen bytes as they are written between quotes, or, if one or two of them need an escape, those up to the first that
 /// does. Returns the end of the text and how many bytes were written. It may overwrite up to 52 bytes.
 #[inline(always)]

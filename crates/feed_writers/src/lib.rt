@@ -18,5 +18,5 @@ pub use digits::{put_byte, put_bytes, put_fixed_digits, put_number, put_padded, 
 pub use escapes::put_escapes;
 pub use hexadecimal::put_hexadecimal;
 pub use plain::{is_plain, plain_len};
-pub use quoted::{put_plain_quoted, put_quoted, put_quoted_content};
+pub use quoted::{put_few_quoted, put_plain_quoted, put_quoted, put_quoted_content};
 pub use times::{Clock, Day, put_clock, put_day};

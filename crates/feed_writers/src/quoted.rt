@@ -4,7 +4,7 @@ ghost use Rattle.std.specs.Prelude.{◌≡◌, ◌≤◌, ◌<◌, ◌+◌, ◌-
 ghost use Rattle.std.specs.List.{flat_map};
 ghost use Rattle.feed_writers.specs.Quoting.{is_plain_byte, quoted, quoted_byte};
 
-use crate::blocks::{last_bytes, put_run};
+use crate::blocks::{first_bytes, last_bytes, put_run};
 use crate::digits::{put_byte, put_bytes};
 use crate::escapes::{put_escape, put_hex};
 use crate::plain::{are_eight_plain, are_four_plain, is_plain, sixteen_plain_len};
@@ -40,6 +40,54 @@ pub fn put_plain_quoted(text: &mut [u8], at: usize, bytes: &[u8], len: usize) ->
     let start = put_byte(text, at, b'\'');
     put_bytes(text, start, &bytes[..16]);
     Some(put_byte(text, start + len, b'\''))
+}
+
+/// Writes the first `len` of sixteen bytes in single quotes. It is fast if none of them needs an escape, or one.
+#[inline(always)]
+pub fn put_few_quoted(text: &mut [u8], at: usize, bytes: &[u8], len: usize) -> usize
+    requires few { len ≤ 16 }
+    requires sixteen { 16 ≤ length bytes.now }
+    requires room { at + 66 ≤ length text.old }
+    ensures most { result ≤ at + (3 * len + 2) }
+    ensures text { take result text.new ≡ take at text.old ++ quoted (take len bytes.now) }
+{
+    match put_plain_quoted(text, at, bytes, len) {
+        Some(end) => end,
+        None => put_escaped_quoted(text, at, bytes, len),
+    }
+}
+
+/// Does the same if some of the bytes need an escape.
+#[inline(never)]
+fn put_escaped_quoted(text: &mut [u8], at: usize, bytes: &[u8], len: usize) -> usize
+    requires few { len ≤ 16 }
+    requires sixteen { 16 ≤ length bytes.now }
+    requires room { at + 66 ≤ length text.old }
+    ensures most { result ≤ at + (3 * len + 2) }
+    ensures text { take result text.new ≡ take at text.old ++ quoted (take len bytes.now) }
+{
+    let start = put_byte(text, at, b'\'');
+    let (next, written) = put_run_within(text, start, bytes, len);
+    let end = put_short(text, next, &bytes[written..len]);
+    put_byte(text, end, b'\'')
+}
+
+/// Writes some of the first `len` of sixteen bytes as they are written between quotes: up to the first that needs an escape, if one
+/// or two of them do. Returns the end of the text and how many bytes were written.
+#[inline(always)]
+fn put_run_within(text: &mut [u8], at: usize, bytes: &[u8], len: usize) -> (usize, usize)
+    requires few { len ≤ 16 }
+    requires sixteen { 16 ≤ length bytes.now }
+    requires room { at + 52 ≤ length text.old }
+    ensures few { result.1 ≤ len }
+    ensures most { result.0 ≤ at + 3 * result.1 }
+    ensures text { take result.0 text.new ≡ take at text.old ++ flat_map quoted_byte (take result.1 bytes.now) }
+{
+    let (next, written) = put_run(text, at, first_bytes(bytes, len));
+    if written > len {
+        return (at, 0);
+    }
+    (next, written)
 }
 
 /// Writes bytes as they are written between quotes.

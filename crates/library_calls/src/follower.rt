@@ -10,20 +10,20 @@ use std::io::{self, Write};
 use wire_buf::Watched;
 
 /// The maximum length of a payload in bytes.
-const PACKET_LIMIT: usize = 1_073_741_824;
+pub(crate) const PACKET_LIMIT: usize = 1_073_741_824;
 
 /// The position of the first event, after the magic number.
-const FIRST_OFFSET: u32 = 4;
+pub(crate) const FIRST_OFFSET: u32 = 4;
 
 /// The name of the requested log.
-const NAME: &[u8] = b"master-bin.000002";
+pub(crate) const NAME: &[u8] = b"master-bin.000002";
 
 /// How many bytes of the answer arrive before the connection drops.
 const COUNT: usize = 200;
 
 /// More bytes than the text of the transactions has: the writer allocates nothing for it, since running out of memory would be
 /// `Write`.
-const TEXT_LEN: usize = 512;
+pub(crate) const TEXT_LEN: usize = 512;
 
 /// The hexadecimal digit of a number below 16.
 fn digit_of(number: u8) -> u8 {
@@ -35,7 +35,7 @@ fn digit_of(number: u8) -> u8 {
 }
 
 /// Appends a line of bytes in hexadecimal.
-fn put_line(bytes: &[u8], text: &mut Vec<u8>) -> Result<(), AllocError> {
+pub(crate) fn put_line(bytes: &[u8], text: &mut Vec<u8>) -> Result<(), AllocError> {
     for byte in bytes {
         text.push(digit_of(*byte >> 4))?;
         text.push(digit_of(*byte & 15))?;

@@ -3,6 +3,8 @@
 //! - `events` lists the events of the binary log on standard input with `EventStreamReader`.
 //! - `follower` follows the first bytes of the answer on standard input, and then asks with `Follower::again` for what follows
 //!   them; `follower rest` feeds the rest of the answer before it asks once more.
+//! - `transactions` follows the answer on standard input with `ChangeFollower`: the positions after its transactions, and the next
+//!   request.
 //! - `checksums FILE LEN` computes the checksums of a file's pieces.
 //!
 //! Without arguments it prints checksums and the events of built-in bytes, and then follows. A fault is named on standard
@@ -16,6 +18,7 @@
 mod checksums;
 mod events;
 mod follower;
+mod transactions;
 
 use std::alloc::Global;
 use std::env;
@@ -74,6 +77,13 @@ fn follow(rt: &HostRuntime, takes_rest: bool) -> Result<Option<&'static str>, &'
     Ok(follower::print_request(rt, &answer, takes_rest)?.then_some("Refused"))
 }
 
+/// Follows an answer transaction by transaction.
+fn lend(rt: &HostRuntime) -> Result<Option<&'static str>, &'static str> {
+    let answer = whole(rt.alloc(), rt.reader())?;
+    transactions::print_transactions(rt, &answer)?;
+    Ok(None)
+}
+
 /// Prints checksums and events of built-in bytes, and follows the answer on standard input.
 fn show_all(rt: &HostRuntime) -> Result<Option<&'static str>, &'static str> {
     printed(checksums::print_samples(rt).is_ok())?;
@@ -91,6 +101,7 @@ fn run(rt: &HostRuntime) -> Result<Option<&'static str>, &'static str> {
         ("events", []) => list(rt, &whole(rt.alloc(), rt.reader())?),
         ("follower", []) => follow(rt, false),
         ("follower", [rest]) if rest.as_str() == "rest" => follow(rt, true),
+        ("transactions", []) => lend(rt),
         ("checksums", [path, len]) => {
             printed(checksums::print_file(rt, path.as_str(), len.as_str()).is_ok())
         }

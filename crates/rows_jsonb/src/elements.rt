@@ -13,6 +13,7 @@ use crate::storage_format::{ComplexType, Object, StorageFormat};
 use crate::text::ObjectKey;
 use crate::types::JsonbType;
 use crate::value::Value;
+use rows_json_rules::check_place;
 use rows_values::{JsonbError, RowsError};
 use std::borrow::CowSlice;
 use wire_buf::ParseBuf;
@@ -51,9 +52,12 @@ impl<'a, T: StorageFormat, U: ComplexType> ComplexValue<'a, T, U> {
             );
         }
         let offset = T::eat_offset(&mut ParseBuf(entry)) as usize;
-        if self.bytes.len() < offset || offset < at + usize::from(T::VALUE_ENTRY_SIZE) {
-            return Err(RowsError::Jsonb(Some(JsonbError::InvalidValueOffsetPointer)));
-        }
+        check_place(
+            offset..offset,
+            at + usize::from(T::VALUE_ENTRY_SIZE),
+            self.bytes.len(),
+            JsonbError::InvalidValueOffsetPointer,
+        )?;
         Value::read(value_type, &mut ParseBuf(&self.bytes[offset..]))
     }
 }
@@ -91,11 +95,12 @@ impl<'a, T: StorageFormat> ComplexValue<'a, T, Object> {
         let mut entry = ParseBuf(&self.bytes[at..]);
         let offset = T::eat_offset(&mut entry) as usize;
         let len = usize::from(entry.eat_u16_le());
-        if offset < Object::header_size::<T>(self.element_count)
-            || self.bytes.len() < offset + len
-        {
-            return Err(RowsError::Jsonb(Some(JsonbError::InvalidKeyOffsetPointer)));
-        }
+        check_place(
+            offset..offset + len,
+            Object::header_size::<T>(self.element_count),
+            self.bytes.len(),
+            JsonbError::InvalidKeyOffsetPointer,
+        )?;
         Ok(&self.bytes[offset..offset + len])
     }
 }

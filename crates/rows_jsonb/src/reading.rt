@@ -13,6 +13,7 @@ use crate::storage_format::{ComplexType, StorageFormat};
 use crate::text::{JsonbString, OpaqueValue};
 use crate::types::{JsonbType, LiteralType};
 use crate::value::Value;
+use rows_json_rules::check_place;
 use rows_values::{JsonbError, RowsError};
 use std::borrow::CowSlice;
 use std::marker::PhantomData;
@@ -134,9 +135,12 @@ impl<'a, T: StorageFormat, U: ComplexType> ComplexValue<'a, T, U> {
         let mut header = ParseBuf(bytes);
         let element_count = T::eat_offset(&mut header);
         let size = T::eat_offset(&mut header) as usize;
-        if bytes.len() < size || size < U::header_size::<T>(element_count) {
-            return Err(RowsError::Jsonb(Some(JsonbError::SizeOverflow)));
-        }
+        check_place(
+            size..size,
+            U::header_size::<T>(element_count),
+            bytes.len(),
+            JsonbError::SizeOverflow,
+        )?;
         Ok(ComplexValue {
             element_count,
             bytes: CowSlice::Borrowed(buf.eat(size)),

@@ -1,7 +1,7 @@
 use Rattle.std.proofs.Common.{◌≡◌, ◌-◌, ℕ, bit_xor, refl, subst, ap, ◌∙◌, get_or, List, arith}
 use borrow.Rule.Slice.PartMut.{put_mid}
 use Rattle.crc32.specs.Shortening.{added, number_at}
-use Rattle.crc32.proofs.ShorteningLemmas.{filled, kept_below, last_left, lanes_written, number_at-same, sixteen_left, small_filled, small_lanes_written, small_zeros}
+use Rattle.crc32.proofs.ShorteningLemmas.{filled, kept_below, last_left, lanes_written, number_at-same, sixteen_left, small_lanes_written, small_zeros}
 use Rattle.crc32.proofs.shorten.register_after_last.Goals as goal
 
 pub loop-at-init : goal.loop-at-init
@@ -14,13 +14,13 @@ loop-at-preserved c =
     record {
       in_range = omega arith;
       whole = omega arith;
-      bytes = small_lanes_written at (304 - at) _ c.loop-at.bytes c.removed_sums.result c.loop-at.invariant.bytes c.removed_sums.ensures;
+      bytes = small_lanes_written at (304 - at) _ c.loop-at.bytes c.removed_sums.result c.loop-at.invariant.bytes c.removed_sums.ensures.sums;
       same =
           sixteen_left
           at _ _ _ c.args.last.now
-          (small_filled 304 304 c.args.taken.now c.fill.new.self c.fits-taken (c.fill.ensures.after (λ y e. e)))
+          c.removed_sums.ensures.small
           (λ i. omega (arith, c.type_inv.last i)) refl
-          (lanes_written at (304 - at) _ c.loop-at.bytes c.removed_sums.result c.removed_sums.ensures (omega arith) (omega arith))
+          (lanes_written at (304 - at) _ c.loop-at.bytes c.removed_sums.result c.removed_sums.ensures.sums (omega arith) (omega arith))
           (number_at-same
           at 0 0 _ c.loop-at.bytes
           (λ k a b l p q. kept_below at (304 - at) a c.loop-at.bytes _ (omega arith) (omega arith) ∙ ap (λ (z : ℕ). get_or c.loop-at.bytes z 0) (omega arith))
@@ -35,7 +35,7 @@ returns c =
     c.register_after.ensures
     ∙ last_left
     c.loop-at.bytes c.args.taken.now ts c.args.last.now
-    c.loop-at.invariant.bytes (λ i. omega (arith, c.type_inv.last i)) c.loop-at-test.array_long c.requires
-    (λ k l. kept_below 304 304 k c.args.taken.now c.fill.new.self l (omega arith))
-    (λ k l m. filled 304 304 k c.args.taken.now c.fill.new.self zeros (omega arith) l m)
+    c.loop-at.invariant.bytes (λ i. omega (arith, c.type_inv.last i)) c.loop-at-test.array_long c.requires.last
+    (λ k l. kept_below 304 304 k c.args.taken.now c.fill.new.self l (omega (arith, c.requires.room)))
+    (λ k l m. filled 304 304 k c.args.taken.now c.fill.new.self zeros (omega (arith, c.requires.room)) l m)
     (subst Same (omega arith) c.loop-at.invariant.same)

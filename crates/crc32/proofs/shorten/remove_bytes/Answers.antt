@@ -1,34 +1,30 @@
-use Rattle.std.proofs.Common.{◌+◌, ◌≡◌, ◌≤◌, ◌-◌, ℕ, refl, sym, ap, ◌∙◌, drop, get_or, arith}
+use Rattle.std.proofs.Common.{◌+◌, ◌≡◌, ℕ, List, refl, sym, ap, ◌∙◌, drop, get_or, arith}
 use Rattle.crc32.specs.Checksums.{after_bytes}
 use Rattle.crc32.specs.Shortening.{pending}
-use Rattle.crc32.proofs.ShorteningLemmas.{sixteen_out, kept_below, lanes_written, small_lanes_written, length_lanes_written, pending_moved}
+use Rattle.crc32.proofs.ShorteningLemmas.{pending_moved}
 use Rattle.crc32.proofs.shorten.remove_bytes.Goals as goal
 
 pub loop-at-init : goal.loop-at-init
 loop-at-init c = record {
   in_range = omega arith;
   whole = refl;
-  len = c.told-taken;
-  bytes = c.fits-taken;
   same = ap (λ (z : ℕ). after_bytes (pending 0 c.args.taken.now) (drop z c.args.bytes.now)) (omega arith);
 }
 
+-- the same register at the same offsets
+at_offsets : (a b i j : ℕ) (taken bytes : List ℕ) → a ≡ b → i ≡ j → after_bytes (pending a taken) (drop i bytes) ≡ after_bytes (pending b taken) (drop j bytes)
+at_offsets a b i j taken bytes e f = ap (λ (z : ℕ). after_bytes (pending z taken) (drop i bytes)) e ∙ ap (λ (z : ℕ). after_bytes (pending b taken) (drop z bytes)) f
+
 pub loop-at-preserved : goal.loop-at-preserved
 loop-at-preserved c =
-    let room : c.loop-at.at + 304 ≤ 1328 = omega arith in
+    let at : ℕ = c.loop-at.at in
+    let from : ℕ = c.args.from in
     record {
       in_range = omega arith;
       whole = omega arith;
-      len = length_lanes_written (c.loop-at.at + 304) (1328 - (c.loop-at.at + 304)) c.loop-at.taken c.removed_sums.result ∙ c.loop-at.invariant.len;
-      bytes = small_lanes_written (c.loop-at.at + 304) (1328 - (c.loop-at.at + 304)) _ c.loop-at.taken c.removed_sums.result c.loop-at.invariant.bytes c.removed_sums.ensures;
       same =
-          sixteen_out
-          c.args.bytes.now c.loop-at.taken _ (c.args.from + c.loop-at.at) c.loop-at.at (c.loop-at.at + 16) (c.args.from + (c.loop-at.at + 16)) _
-          (λ i. omega (arith, c.type_inv.bytes i)) c.loop-at.invariant.bytes (omega arith) refl (omega arith)
-          (λ k l. kept_below (c.loop-at.at + 304) (1328 - (c.loop-at.at + 304)) k c.loop-at.taken _ l (omega arith))
-          (lanes_written (c.loop-at.at + 304) (1328 - (c.loop-at.at + 304)) _ c.loop-at.taken c.removed_sums.result c.removed_sums.ensures (omega arith) (omega arith))
-          refl
-          ∙ c.loop-at.invariant.same;
+          at_offsets _ (at + 16 + 16) _ (from + at + 16 + 16) _ c.args.bytes.now (omega arith) (omega arith)
+          ∙ c.remove_sixteen-in-loop-at.ensures ∙ c.remove_sixteen.ensures ∙ c.loop-at.invariant.same;
     }
 
 pub returns : goal.returns

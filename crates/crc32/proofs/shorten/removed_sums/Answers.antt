@@ -3,9 +3,9 @@ use Rattle.crc32.specs.Shortening.{added, number_at}
 use Rattle.crc32.proofs.ShorteningLemmas.{lanes_prefix, lanes_xor}
 use Rattle.crc32.proofs.shorten.removed_sums.Goals as goal
 
-pub returns : goal.returns
+pub returns-clause-sums : goal.returns-clause-sums
 unfolding added number_at
-returns c =
+returns-clause-sums c =
     lanes_xor _ _ _ _
     (lanes_xor _ _ _ _
     (lanes_xor _ _ _ _

@@ -1,0 +1,2 @@
+pub mod StreamCommits
+pub mod ChangeFollowing
