@@ -1,9 +1,10 @@
 //! Transactions as lines of JSON.
 
+use changes_commands::put_gtid;
 use events_frames::BinlogEventHeader;
 use feed_changes::{Change, CommittedTransaction, TableRows, What};
 use feed_json::{RowReader, RowText, ShownTables, Text, change_name};
-use feed_kinds::{Gtid, QueryTexts};
+use feed_kinds::QueryTexts;
 use rows_values::RowsError;
 use std::alloc::{AllocError, Global};
 
@@ -25,31 +26,6 @@ pub(crate) struct Lines {
     begun: usize,
     /// Where the newest line of the transaction begins, if it has one.
     newest: Option<usize>,
-}
-
-/// Appends a UUID.
-fn put_uuid(uuid: &[u8; 16], out: &mut Text) {
-    for (index, byte) in uuid.iter().enumerate() {
-        if matches!(index, 4 | 6 | 8 | 10) {
-            out.push(b'-');
-        }
-        out.hexadecimal(*byte);
-    }
-}
-
-/// Appends a GTID: `uuid:number`, or null. That of a tagged one isn't parsed.
-pub(crate) fn put_gtid(gtid: Option<Gtid<'_>>, out: &mut Text) {
-    match gtid {
-        Some(Gtid::Numbered { uuid, number }) => {
-            out.push(b'"');
-            put_uuid(&uuid, out);
-            out.push(b':');
-            out.unsigned(number);
-            out.push(b'"');
-        }
-        Some(Gtid::Tagged(_)) => out.string("tagged"),
-        Some(Gtid::Anonymous) | None => out.null(),
-    }
 }
 
 /// Appends the time of an event and the id of its server.

@@ -5,17 +5,14 @@
 //! failed or memory ran out. It ends quietly if whoever reads its output has gone.
 #![tactic(auto)]
 
-mod brief;
 mod changes;
-mod command_line;
-mod events;
+mod check;
 mod lines;
-mod output;
-mod progress;
+mod part;
 mod run;
 mod words;
 
-use crate::command_line::{Refused, parse};
+use changes_commands::{Refused, parse};
 use std::env;
 use std::process::ExitCode;
 use std::rt::Env;

@@ -3,7 +3,7 @@ use Rattle.std.proofs.Common.{ℕ, Bool, true, false, List, []}
 use Rattle.feed_rules.specs.Laws.{Each, IsCompleteAtEvent}
 use Rattle.feed_rules.specs.Rules.{good, rules, shown}
 use Rattle.binlog_feed.proofs.WholeLemmas.{all-whole}
-use Rattle.feed_reports.specs.Events.{has_magic_number}
+use Rattle.feed_checks.specs.Events.{has_magic_number}
 use Rattle.feed_reports.specs.Reports.{file_events, file_transactions}
 
 -- a file without its magic number shows nothing

@@ -9,9 +9,9 @@ use Rattle.feed_rules.specs.Rules.{rules, up_to_fault, fault_after, shown_after,
 use Rattle.feed_rules.specs.Transactions.{Transaction}
 use Rattle.feed_rules.proofs.RuleLemmas.{AreGood, fault_after-seen}
 use Rattle.feed_rules.proofs.BetweenLemmas.{AreLike, between-like, faults-like, shows-like}
-use Rattle.feed_reports.specs.Events.{AreEvents, EventsEnd, events, events_end, end_of, joined, remaining_bytes}
+use Rattle.feed_checks.specs.Events.{AreEvents, EventsEnd, events, events_end, end_of, joined, remaining_bytes}
 use Rattle.feed_reports.specs.Reports.{Report, file_events, file_end, end_verdict, verdict_or}
-use Rattle.feed_reports.proofs.EventLemmas.{events-law, events-seen, joined-append}
+use Rattle.feed_checks.proofs.EventLemmas.{events-law, events-seen, joined-append}
 use Rattle.feed_serving.specs.Positions.{events_before, past_at, events_from}
 use Rattle.feed_runs.proofs.RunLemmas.{good-all, shows-prefix, with_magic-transactions}
 use Rattle.binlog_feed.specs.Rests.{IsUndamagedUpTo, HasRest}

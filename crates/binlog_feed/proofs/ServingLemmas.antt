@@ -18,9 +18,9 @@ use Rattle.feed_rules.specs.Checks.{context_fault, rows_fault, inner_fault, faul
 use Rattle.feed_rules.specs.Laws.{Each}
 use Rattle.feed_rules.specs.Rules.{Rules, Judge, rules, up_to_fault, fault_after, shown_after, shown, first_fault}
 use Rattle.feed_rules.specs.Transactions.{Transaction}
-use Rattle.feed_reports.specs.Events.{AreEvents, EventsEnd, NoBytes, BadFrame, PartOfEvent, magic_number, has_magic_number}
+use Rattle.feed_checks.specs.Events.{AreEvents, EventsEnd, NoBytes, BadFrame, PartOfEvent, magic_number, has_magic_number}
 use Rattle.feed_reports.specs.Reports.{Report, file_events, file_end, end_verdict, verdict_or, file_transactions, file_verdict}
-use Rattle.feed_reports.proofs.EventLemmas.{events-law}
+use Rattle.feed_checks.proofs.EventLemmas.{events-law}
 use Rattle.feed_payloads.specs.Words.{prefix_while, from_first_failing}
 use Rattle.feed_payloads.specs.declared.format.PayloadFormat.{PayloadFormat as Format}
 use Rattle.feed_payloads.specs.declared.format.PayloadFormat.TheVariants.{Plain, SemiSync}

@@ -17,9 +17,11 @@ pub use Rattle.feed_checks.specs.SplitEvents
 pub use Rattle.feed_rules.specs.Laws
 pub mod WorkedEvents
 pub use Rattle.feed_kinds.specs.Verdicts
-pub use Rattle.feed_reports.specs.Events as FileEvents
+pub use Rattle.feed_checks.specs.Events as FileEvents
 pub use Rattle.feed_reports.specs.Writing
-pub use Rattle.feed_reports.specs.MagicNumbers
+pub use Rattle.feed_checks.specs.MagicNumbers
+pub use Rattle.feed_checks.specs.ReadVerdicts
+pub use Rattle.feed_rules.specs.Logs
 pub use Rattle.feed_reports.specs.Reports
 pub use Rattle.feed_reports.specs.ReportSteps
 pub mod WorkedReports

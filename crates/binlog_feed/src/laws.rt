@@ -17,7 +17,7 @@ ghost use Rattle.feed_kinds.specs.Events.{Event, in_force};
 ghost use Rattle.feed_rules.specs.Rules.{rules, good, shown, Rules};
 ghost use Rattle.feed_rules.specs.Texts.{line_text, begin_line, commit_line};
 ghost use Rattle.feed_rules.specs.Laws.{IsOpen, IsBetween, IsCompleteAtEvent, Each};
-ghost use Rattle.feed_reports.specs.Events.{events};
+ghost use Rattle.feed_checks.specs.Events.{events};
 ghost use Rattle.feed_reports.specs.Reports.{Report, file_events, file_transactions};
 ghost use Rattle.feed_kinds.specs.declared.verdict.Verdict.{Verdict};
 ghost use Rattle.feed_payloads.specs.Requests.{dump_request};

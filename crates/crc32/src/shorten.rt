@@ -2,8 +2,8 @@
 //!
 //! The register is the same if a byte is removed (set to zero) and added to the bytes 145, 183, 211 and 300
 //! offsets after it. All bytes but about the last three hundred are removed this way from the start, sixteen
-//! at a time: none of the sixteen is added to another of them. (K. Russell, "Chorba: A novel CRC32
-//! implementation", arXiv 2412.16398.)
+//! at a time and twice a turn: none of the sixteen is added to another of them. (K. Russell, "Chorba: A novel
+//! CRC32 implementation", arXiv 2412.16398.)
 
 ghost use Rattle.std.specs.Prelude.{◌≡◌, ◌≤◌, ◌<◌, ◌+◌, ◌%◌, List, length, bit_xor, drop};
 ghost use Rattle.crc32.specs.Checksums.{initial_register, after_bytes};

@@ -1,37 +1,16 @@
-//! Tests of frames, descriptions and the bodies of events: a file for each subject, and `devices` and `written` for what they
-//! share. Tests of bodies of any type, owned events, files and streams are in `events_stream_tests`; both use the
-//! bytes in `samples` and `worked`.
+//! Tests of events that no table can say: the example of the documentation, and values that constructors and setters make. Cases
+//! of bytes with their results are in `checks/data/events_cases.txt`.
 #![tactic(auto)]
 
 #[cfg(test)]
-mod bodies;
+mod built;
 #[cfg(test)]
-mod descriptions;
+mod built_statements;
 #[cfg(test)]
-mod devices;
-#[cfg(test)]
-mod event_types;
-#[cfg(test)]
-mod footers_and_bodies;
-#[cfg(test)]
-mod frames;
-#[cfg(test)]
-mod gtids;
+mod example;
 #[cfg(test)]
 mod headers;
 #[cfg(test)]
-mod parts;
-#[cfg(test)]
-mod queries;
-#[cfg(test)]
-mod rows_by_type;
-pub mod samples;
-#[cfg(test)]
-mod sources;
-#[cfg(test)]
-mod status_vars;
-#[cfg(test)]
-mod user_vars;
-pub mod worked;
+mod worked;
 #[cfg(test)]
 mod written;

@@ -6,7 +6,7 @@ ghost use Rattle.feed_kinds.specs.Words.{onto};
 ghost use Rattle.feed_rules.specs.Changes.{transaction_of};
 ghost use Rattle.feed_rules.specs.Checks.{fault_of};
 ghost use Rattle.feed_rules.specs.Rules.{rules, shown, up_to_fault};
-ghost use Rattle.feed_reports.specs.Reports.{file_transactions};
+ghost use Rattle.feed_rules.specs.Logs.{file_transactions};
 ghost use Rattle.feed_changes.specs.CommittedLists.{committed_after};
 ghost use Rattle.feed_changes.specs.Stops.{last_commit, last_log_pos};
 ghost use Rattle.feed_changes.specs.Laws.{file_committed};

@@ -5,3 +5,6 @@ pub mod CheckedBodyLemmas
 pub mod InForceLemmas
 pub mod DamageLemmas
 pub mod AcceptedLemmas
+pub mod EventLemmas
+pub mod MagicNumberLemmas
+pub mod LoopLemmas

@@ -4,3 +4,6 @@ pub mod SplitEvents
 pub mod UsualDescriptions
 pub mod HeldDescriptions
 pub mod EventCheckers
+pub mod Events
+pub mod MagicNumbers
+pub mod ReadVerdicts

@@ -7,9 +7,9 @@ use Rattle.wire_packets.specs.CodecState as codec
 use Rattle.feed_kinds.specs.declared.verdict.Verdict.{Verdict}
 use Rattle.feed_kinds.specs.declared.verdict.Verdict.TheVariants as verdicts
 use Rattle.feed_kinds.specs.Events.{Event}
-use Rattle.feed_reports.specs.Events.{joined}
-use Rattle.feed_reports.proofs.ReportLemmas.{up_to_fault-stop}
-use Rattle.feed_rules.proofs.RecordedTextLemmas.{committed_are_shown}
+use Rattle.feed_checks.specs.Events.{joined}
+use Rattle.feed_rules.proofs.RuleLemmas.{up_to_fault-stop}
+use Rattle.feed_rules.proofs.CommittedLemmas.{committed_are_shown}
 use Rattle.feed_rules.specs.Changes.{Committed, committed_by, transaction_of}
 use Rattle.feed_rules.specs.Checks.{fault_of}
 use Rattle.feed_rules.specs.FeedSteps.{HasShown}

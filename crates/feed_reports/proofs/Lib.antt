@@ -1,4 +1,3 @@
-pub mod EventLemmas
 pub mod WritingLemmas
 pub mod WaitingLemmas
 pub mod ReportLemmas

@@ -4,9 +4,9 @@ use Rattle.std.specs.Prelude.{◌&&◌}
 use Rattle.feed_rules.specs.Rules.{Rules, shown}
 use Rattle.feed_rules.specs.Transactions.{Transaction}
 use Rattle.feed_rules.proofs.RuleLemmas.{shown-append}
-use Rattle.feed_reports.specs.Events.{events, has_magic_number}
+use Rattle.feed_checks.specs.Events.{events, has_magic_number}
 use Rattle.feed_reports.specs.Reports.{file_events, file_transactions}
-use Rattle.feed_reports.proofs.EventLemmas.{events-append}
+use Rattle.feed_checks.proofs.EventLemmas.{events-append}
 
 -- the magic number stays, and so do the bytes after it
 pub with_magic-append : (b c : List ℕ) → has_magic_number b ≡ true → (has_magic_number (b ++ c) ≡ true) × (drop 4 (b ++ c) ≡ drop 4 b ++ c)

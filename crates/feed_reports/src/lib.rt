@@ -5,6 +5,6 @@ mod reporting;
 mod waiting;
 mod writing;
 
-pub use reporting::{read_magic_number, report, verdict_of};
+pub use reporting::report;
 pub use waiting::{MAX_WAITING_LEN, WaitingBytes};
 pub use writing::{put_all, put_shown};

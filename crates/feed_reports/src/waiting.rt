@@ -3,8 +3,8 @@
 ghost use Rattle.std.specs.Prelude.{◌≡◌, ◌≤◌, ◌<◌, ◌+◌, ◌-◌, ◌++◌, [], length, OnOk, IfOk, IfErr, true, false};
 ghost use Rattle.std.specs.Io.KnownBytes.{Appends};
 ghost use Rattle.wire_buf.specs.Watched.{inner_of, has_failed};
-ghost use Rattle.feed_rules.specs.FeedSteps.{text_if_shown};
-ghost use Rattle.feed_reports.specs.Events.{joined};
+ghost use Rattle.feed_rules.specs.TextStates.{text_if_shown};
+ghost use Rattle.feed_checks.specs.Events.{joined};
 ghost use Rattle.feed_reports.specs.Writing.{IsInterruptedWrite};
 ghost use Rattle.feed_reports.specs.declared.waiting.TheConstants.{MAX_WAITING_LEN};
 

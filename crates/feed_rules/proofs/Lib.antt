@@ -1,8 +1,9 @@
 pub mod RuleLemmas
 pub mod BetweenLemmas
-pub mod TextLemmas
 pub mod FeedStateLemmas
 pub mod KnownEventLemmas
 pub mod TakingLemmas
 pub mod UsualLemmas
+pub mod CommittedLemmas
+pub mod TextLemmas
 pub mod RecordedTextLemmas

@@ -8,5 +8,7 @@ pub mod RecordedTexts
 pub mod KeptGtids
 pub mod FeedStates
 pub mod FeedSteps
+pub mod TextStates
 pub mod KnownEvents
 pub mod Laws
+pub mod Logs

@@ -5,7 +5,7 @@ use Rattle.byteorder.specs.Endian.{little_number}
 use Rattle.wire_packets.proofs.PacketLemmas.{framings_apart}
 use Rattle.feed_kinds.specs.declared.verdict.Verdict.{Verdict}
 use Rattle.feed_rules.specs.Rules.{Rules}
-use Rattle.feed_reports.specs.Events.{has_magic_number}
+use Rattle.feed_checks.specs.Events.{has_magic_number}
 use Rattle.feed_payloads.specs.Requests.{dump_payload, dump_request}
 use Rattle.feed_payloads.specs.declared.format.PayloadFormat.{PayloadFormat as Format}
 use Rattle.feed_serving.specs.declared.served.Refusal.{Refusal}

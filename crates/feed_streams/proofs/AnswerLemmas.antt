@@ -14,7 +14,7 @@ use Rattle.feed_checks.specs.Damage.{IsCore}
 use Rattle.feed_kinds.specs.declared.verdict.Verdict.{Verdict}
 use Rattle.feed_kinds.specs.declared.verdict.Verdict.TheVariants as verdicts
 use Rattle.feed_kinds.specs.Events.{Event, log_pos_of}
-use Rattle.feed_reports.specs.Events.{joined}
+use Rattle.feed_checks.specs.Events.{joined}
 use Rattle.feed_rules.specs.FeedStates.{RepresentsRecorded, IsErrorFor}
 use Rattle.feed_rules.specs.FeedSteps.{IsRecorded}
 use Rattle.feed_rules.specs.Recorders.{HasOpen, HasDone}

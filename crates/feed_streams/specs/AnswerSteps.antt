@@ -4,7 +4,7 @@ use Rattle.wire_packets.specs.CodecState as codec
 use Rattle.feed_kinds.specs.declared.verdict.Verdict.{Verdict}
 use Rattle.feed_kinds.specs.declared.verdict.Verdict.TheVariants as verdicts
 use Rattle.feed_kinds.specs.Events.{Event, log_pos_of}
-use Rattle.feed_reports.specs.Events.{joined}
+use Rattle.feed_checks.specs.Events.{joined}
 use Rattle.feed_rules.specs.Changes.{committed_by}
 use Rattle.feed_rules.specs.FeedSteps.{HasShown}
 use Rattle.feed_rules.specs.Laws.{in_log_order}

@@ -3,7 +3,7 @@
 ghost use Rattle.std.specs.Prelude.{◌≡◌, false, if◌then◌else◌, ◌%◌, ◌==◌, ◌++◌, ◌≤◌, ◌+◌, List, ℕ, [], ◌∷◌, OnOk, OnErr, length};
 ghost use Rattle.std.specs.Int.{w64, to_le_bytes};
 ghost use Rattle.wire_packets.specs.Framing.{max_chunk_len, chunk, framing};
-ghost use Rattle.feed_reports.specs.Events.{joined};
+ghost use Rattle.feed_checks.specs.Events.{joined};
 ghost use Rattle.feed_streams.specs.Acknowledgements.{is_ack_requested};
 
 use bitflags::Flags;

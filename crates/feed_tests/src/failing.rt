@@ -1,10 +1,9 @@
 //! Readers and writers that fail, and the order in which they are called.
 
-use crate::again::answered;
 use crate::answers::Pieces;
-use crate::following::LIMIT;
-use crate::samples::{BEGIN, Full, MAP, ROWS, TEXT, XID, file_of, one_insert};
-use crate::serving::NAME;
+use crate::samples::{
+    BEGIN, Full, LIMIT, MAP, NAME, ROWS, TEXT, XID, answered, file_of, one_insert,
+};
 use crc32::crc32;
 use feed_kept::kept;
 use feed_kinds::Verdict;

@@ -1,6 +1,6 @@
-//! Tests of the change feed through its public interface, for what the table of cases (`checks/feed_cases`) can't express: what a
-//! follower returns after each piece, readers and writers that fail, limits, two connections that drop, logs that grow,
-//! acknowledgements, requests that resume, truncated texts, and checksums.
+//! Tests of the change feed through its public interface, for what tables of cases (`checks/feed_cases`, `checks/layer_cases`) can't
+//! express: readers and writers that fail, answers that break off at any byte, truncated texts, checksums, and each call with enough
+//! memory.
 #![tactic(auto)]
 
 #[cfg(test)]
@@ -8,15 +8,9 @@ mod again;
 #[cfg(test)]
 mod answers;
 #[cfg(test)]
-mod change_following;
-#[cfg(test)]
-mod changes;
-#[cfg(test)]
 mod checksums;
 #[cfg(test)]
 mod failing;
-#[cfg(test)]
-mod following;
 #[cfg(test)]
 mod keeping;
 #[cfg(test)]

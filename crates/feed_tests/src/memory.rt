@@ -1,10 +1,8 @@
 //! Each call with enough memory.
 
 use crate::answers::answer_of;
-use crate::following::LIMIT;
 use crate::reporting::is_reported;
-use crate::samples::{BEGIN, MAP, ROWS, TEXT, XID, one_insert};
-use crate::serving::NAME;
+use crate::samples::{BEGIN, LIMIT, MAP, NAME, ROWS, TEXT, XID, one_insert};
 use crc32::crc32;
 use feed_kinds::Verdict;
 use feed_payloads::request;

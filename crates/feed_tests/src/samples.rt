@@ -1,7 +1,16 @@
-//! A small binary log and its report, the acknowledgements of its events, and a writer with limited room.
+//! A small binary log and its report, the acknowledgements of its events, a server's answers, and a writer with limited room.
 
+use crc32::crc32;
+use feed_serving::serve;
 use std::alloc::{AllocError, Global};
 use std::io::{self, ErrorKind, Write};
+use wire_buf::Watched;
+
+/// The program's maximum length of a payload.
+pub const LIMIT: usize = 1_073_741_824;
+
+/// The name of the binary log that is served.
+pub const NAME: &[u8] = b"master-bin.000002";
 
 /// The magic number, `fe 62 69 6e`.
 pub const MAGIC_NUMBER: [u8; 4] = [0xfe, 0x62, 0x69, 0x6e];
@@ -76,6 +85,14 @@ pub fn two_inserts(alloc: Global) -> Result<Vec<u8>, AllocError> {
         alloc,
         &[&BEGIN, &MAP, &ROWS, &XID, &begin, &map, &rows, &xid],
     )
+}
+
+/// The answer to a request for a log.
+pub fn answered(alloc: Global, asked: &[u8], log: &[u8]) -> Vec<u8> {
+    let mut reader = Watched::new(log);
+    let mut writer = Watched::new(Vec::new(alloc));
+    let _served = serve(alloc, asked, NAME, LIMIT, &mut reader, &crc32, &mut writer);
+    writer.into_inner()
 }
 
 /// A writer that takes a number of bytes, and then fails.

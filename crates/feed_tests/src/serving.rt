@@ -1,8 +1,7 @@
-//! Answers to requests for a binary log: the limit of a payload, and readers and writers that fail.
+//! Answers to requests for a binary log, with readers and writers that fail.
 
 use crate::answers::{Pieces, answer_of};
-use crate::following::LIMIT;
-use crate::samples::{BEGIN, Full, MAP, ROWS, XID, one_insert};
+use crate::samples::{BEGIN, Full, LIMIT, MAP, NAME, ROWS, XID, one_insert};
 use crc32::crc32;
 use feed_kinds::Verdict;
 use feed_payloads::{RequestError, request};
@@ -11,41 +10,9 @@ use std::alloc::{AllocError, Global};
 use std::test::*;
 use wire_buf::Watched;
 
-/// The name of the binary log that is served.
-pub const NAME: &[u8] = b"master-bin.000002";
-
-/// What is written in answer to a request for the whole of a log, and the result.
-fn served(alloc: Global, log: &[u8], limit: usize) -> Result<(Vec<u8>, Served), RequestError> {
-    let asked = request(alloc, 4, 1, NAME)?;
-    let mut reader = Watched::new(log);
-    let mut writer = Watched::new(Vec::new(alloc));
-    let served = serve(alloc, &asked, NAME, limit, &mut reader, &crc32, &mut writer);
-    Ok((writer.into_inner(), served))
-}
-
-/// Whether a log has this answer within a limit.
-fn gives(alloc: Global, log: &[u8], limit: usize, answer: &[u8], outcome: Served) -> bool {
-    match served(alloc, log, limit) {
-        Ok((written, found)) => found == outcome && written.as_slice() == answer,
-        Err(_) => false,
-    }
-}
-
 /// The packets of the small log's events, 158 bytes, without a closing packet or with it.
 fn packets(alloc: Global, is_whole: bool) -> Result<Vec<u8>, AllocError> {
     answer_of(alloc, &[&BEGIN, &MAP, &ROWS, &XID], is_whole)
-}
-
-// The first payload has 39 bytes.
-fn serve_limit(alloc: Global) -> bool {
-    let Ok(log) = one_insert(alloc) else {
-        return false;
-    };
-    let Ok(answer) = packets(alloc, true) else {
-        return false;
-    };
-    gives(alloc, &log, 38, b"", Served::Fault(Verdict::TooLarge))
-        && gives(alloc, &log, 39, &answer, Served::Whole)
 }
 
 /// What is written of a log whose reader gives all of it or fails after it, into a writer with this room, and the result of the
@@ -162,7 +129,6 @@ fn serve_with_failing_devices(rt: HostRuntime) -> Result<(), Fail> {
 #[test]
 fn serving(rt: HostRuntime) {
     let alloc = rt.alloc();
-    assert!(rt; serve_limit(alloc));
     assert!(rt; serve_with_a_failing_writer(alloc));
     assert!(rt; serve_with_a_failing_reader(alloc));
 }

@@ -14,10 +14,10 @@ pub(crate) fn append_all<A: Allocator>(
 {
     let start = out.len();
     for piece in pieces {
-        if let Err(_) = out.extend_from_slice(piece) {
+        let Ok(()) = out.extend_from_slice(piece) else {
             out.truncate(start);
             return Err(RowsError::Memory);
-        }
+        };
     }
     Ok(())
 }

@@ -1,12 +1,13 @@
-//! Shared by the tests: readers and writers that fail, and the comparison of texts.
+//! Readers and writers that fail. The values that are read and written are cases of `rows_cases`.
 
-use std::alloc::{AllocError, Global};
-use std::borrow::CowStr;
+use rows_values::{Decimal, RowsError, my_timestamp_from_binary};
+use std::alloc::Global;
 use std::io::{self, Error, ErrorKind, Read, Write};
+use wire_buf::WireFault;
 
 /// A reader that fails.
 #[derive(Drop)]
-pub(crate) struct FailingReader;
+struct FailingReader;
 
 impl Read for FailingReader {
     fn read(&mut self, _buf: &mut [u8]) -> io::Result<usize> {
@@ -16,8 +17,8 @@ impl Read for FailingReader {
 
 /// A writer that accepts a number of bytes, and then fails.
 #[derive(Drop)]
-pub(crate) struct NarrowWriter {
-    pub(crate) room: usize,
+struct NarrowWriter {
+    room: usize,
 }
 
 impl Write for NarrowWriter {
@@ -35,18 +36,34 @@ impl Write for NarrowWriter {
     }
 }
 
-/// Whether a text is created and equals this one.
-pub(crate) fn is_text(text: Result<String, AllocError>, wanted: &str) -> bool {
-    match text {
-        Ok(text) => text.as_str() == wanted,
-        Err(_) => false,
+fn writers_that_fail(alloc: Global) -> bool {
+    let mut narrow = NarrowWriter { room: 1 };
+    let Ok(decimal) = Decimal::from_str(alloc, "0.50") else {
+        return false;
+    };
+    decimal.write_bin(alloc, &mut narrow) == Err(WireFault::Write) && narrow.room == 0
+}
+
+/// Whether reading the decimal failed because of the reader.
+fn is_unread(decimal: Result<Decimal, RowsError>) -> bool {
+    match decimal {
+        Ok(_) => false,
+        Err(fault) => fault == RowsError::Read,
     }
 }
 
-/// Whether a text that may be borrowed is created and equals this one.
-pub(crate) fn is_borrowed_text(text: Result<CowStr<'_, Global>, AllocError>, wanted: &str) -> bool {
-    match text {
-        Ok(text) => text.as_str() == wanted,
-        Err(_) => false,
-    }
+fn readers_that_fail(alloc: Global) -> bool {
+    is_unread(Decimal::read_bin(alloc, &mut FailingReader, 4, 0, false))
+}
+
+fn reader_that_fails() -> bool {
+    my_timestamp_from_binary(&mut FailingReader, 0) == Err(RowsError::Read)
+}
+
+#[test]
+fn devices(rt: HostRuntime) {
+    let alloc = rt.alloc();
+    assert!(rt; writers_that_fail(alloc));
+    assert!(rt; readers_that_fail(alloc));
+    assert!(rt; reader_that_fails());
 }

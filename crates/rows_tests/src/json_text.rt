@@ -1,21 +1,16 @@
-//! Documents without a text, and running out of memory.
+//! The text of a document, and running out of memory.
 
-use crate::jsonb::tree;
 use crate::texts::Outcome;
-use feed_text::{TextBuffer, put_json};
+use feed_text::put_json;
 use linked_list_allocator::LocalHeap;
-use rows_cells::CellRef;
-use rows_jsonb::JsonDom;
+use rows_jsonb::{JsonDom, Value};
 use rows_values::RowsError;
 use std::alloc::Global;
+use wire_buf::ParseBuf;
 
-// If a key isn't UTF-8, nothing is appended.
-fn a_key_that_is_no_text_is_not_put(alloc: Global) -> bool {
-    let bytes = b"\x00\x01\x00\x0c\x00\x0b\x00\x01\x00\x04\x00\x00\xff";
-    let mut out = TextBuffer::new(alloc);
-    out.put(b'a') == Ok(())
-        && out.put_cell(alloc, 7, CellRef::Json(bytes)) == Err(RowsError::Jsonb(None))
-        && out.as_slice() == b"a".as_slice()
+/// The tree of a document.
+fn tree(alloc: Global, bytes: &[u8]) -> Result<JsonDom, RowsError> {
+    ParseBuf(bytes).parse::<Value<'_>>(alloc, ())?.parse(alloc)
 }
 
 /// The result of writing a document's text with this much memory.
@@ -60,6 +55,5 @@ fn out_of_memory_for_a_document(alloc: Global) -> bool {
 #[test]
 fn json_text(rt: HostRuntime) {
     let alloc = rt.alloc();
-    assert!(rt; a_key_that_is_no_text_is_not_put(alloc));
     assert!(rt; out_of_memory_for_a_document(alloc));
 }

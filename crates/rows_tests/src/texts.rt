@@ -1,35 +1,9 @@
-//! The texts of values that no cell has, and running out of memory.
+//! Running out of memory for the texts of values. The texts are cases of `rows_cases`.
 
 use feed_text::{put_decimal, put_value, quote};
 use linked_list_allocator::LocalHeap;
 use rows_values::{RowsError, Value};
 use std::alloc::Global;
-
-/// Whether the value has this text.
-fn has_text(alloc: Global, value: Value, wanted: &[u8]) -> bool {
-    let mut out = Vec::new(alloc);
-    let Ok(()) = put_value(&value, &mut out) else {
-        return false;
-    };
-    out.as_slice() == wanted
-}
-
-// A text of each kind of value.
-fn values_as_text(alloc: Global) -> bool {
-    let Ok(bytes) = Vec::from_slice(alloc, b"it's") else {
-        return false;
-    };
-    has_text(alloc, Value::Bytes(bytes), br"'it\27s'") && has_text(alloc, Value::NULL, b"NULL")
-}
-
-fn dates_and_times_as_text(alloc: Global) -> bool {
-    let date = Value::Date(2009, 9, 24, 9, 3, 57, 0);
-    let date_without_a_month = Value::Date(10_000, 0, 31, 0, 0, 0, 1_000_000);
-    let time = Value::Time(false, 34, 22, 59, 59, 45);
-    has_text(alloc, date, b"2009-09-24T09:03:57.000000")
-        && has_text(alloc, date_without_a_month, b"10000-00-31T00:00:00.1000000")
-        && has_text(alloc, time, b"34d22:59:59.000045")
-}
 
 /// The result of writing a text with limited memory.
 #[derive(Clone, Copy)]
@@ -113,8 +87,6 @@ fn out_of_memory_for_decimals(alloc: Global) -> bool {
 #[test]
 fn texts(rt: HostRuntime) {
     let alloc = rt.alloc();
-    assert!(rt; values_as_text(alloc));
-    assert!(rt; dates_and_times_as_text(alloc));
     assert!(rt; out_of_memory(alloc));
     assert!(rt; out_of_memory_for_numbers_and_times(alloc));
     assert!(rt; out_of_memory_for_bytes(alloc));

@@ -1,28 +1,14 @@
-//! Tests of the wire layer: worked values from MySQL's manual, each call once with enough memory, each
-//! generic call at a concrete type, and readers and writers that end, fail or are interrupted.
+//! Tests of the wire layer that no table of cases can have: laws, readers and writers that end, fail or are interrupted, out of
+//! memory, payloads of several chunks, and the examples of the documentation. The cases are in `wire_cases`.
 #![tactic(auto)]
 
 #[cfg(test)]
-mod buffers;
-#[cfg(test)]
-mod constants;
-#[cfg(test)]
-mod fields;
-#[cfg(test)]
-mod fixed_widths;
-#[cfg(test)]
-mod helpers;
+mod faults;
 #[cfg(test)]
 mod laws_hold;
 #[cfg(test)]
 mod memory;
 #[cfg(test)]
-mod numbers;
-#[cfg(test)]
 mod packets;
 #[cfg(test)]
-mod sequences;
-#[cfg(test)]
 mod streams;
-#[cfg(test)]
-mod texts;

@@ -1,4 +1,4 @@
-//! Readers and writers that move few bytes at once, are interrupted, end and fail.
+//! Readers and writers that move few bytes at once, are interrupted, end and fail. Whole streams are cases of `wire_cases`.
 
 use std::alloc::Global;
 use std::io::{Error, ErrorKind, Read, Result as IoResult, Write};
@@ -121,17 +121,6 @@ fn string_read<R: Read>(alloc: Global, reader: &mut R, text: &[u8]) -> Result<bo
     Ok(read.as_slice() == text)
 }
 
-fn streams_that_end(alloc: Global) -> bool {
-    let mut whole = b"\xfc\x2c\x01\x02ab".as_slice();
-    // a length of 2^64 - 1 reserves nothing
-    let mut cut = b"\xfe\xff\xff\xff\xff\xff\xff\xff\xffab".as_slice();
-    whole.read_lenenc_int() == Ok(300)
-        && string_read(alloc, &mut whole, b"ab") == Ok(true)
-        && whole.read_lenenc_int() == Err(WireFault::Eof)
-        && b"\xff".as_slice().read_lenenc_int() == Err(WireFault::BadNumber)
-        && cut.read_lenenc_str(alloc).err() == Some(WireFault::Eof)
-}
-
 fn streams_that_fail(alloc: Global) -> bool {
     let at_third = [None, None, Some(ErrorKind::Other)];
     let at_fourth = [None, None, None, Some(ErrorKind::Other)];
@@ -236,7 +225,6 @@ fn streams(rt: HostRuntime) {
     assert!(rt; bytes_after_others(alloc));
     assert!(rt; ends_and_failures(alloc));
     assert!(rt; writers_that_fail_or_are_full());
-    assert!(rt; streams_that_end(alloc));
     assert!(rt; streams_that_fail(alloc));
     assert!(rt; numbers_to_a_writer(alloc));
     assert!(rt; watched_reader());

@@ -25,7 +25,7 @@ use Rattle.feed_rules.specs.Checks.{fault_of}
 use Rattle.feed_rules.specs.Transactions.{lines_of, shown_by}
 use Rattle.feed_rules.specs.Rules.{up_to_fault, fault_after, shown_after}
 use Rattle.feed_rules.specs.Texts.{gtid_text, line_text, transaction_text}
-use Rattle.feed_reports.specs.Events.{events_in}
+use Rattle.feed_checks.specs.Events.{events_in}
 use Rattle.feed_reports.specs.Reports.{file_transactions, file_verdict}
 use Rattle.binlog_feed.proofs.worked_reports.worked_reports.Goals as goal
 

@@ -8,7 +8,7 @@ use Rattle.feed_kinds.specs.Events.{parts, description_of, in_force}
 use Rattle.feed_kinds.specs.Kinds.{kind_by}
 use Rattle.feed_checks.specs.Damage.{frame_fault, algorithm_fault, checksum_fault, size_fault, damage_of}
 use Rattle.feed_rules.specs.Rules.{up_to_fault, fault_after}
-use Rattle.feed_reports.specs.Events.{events_in}
+use Rattle.feed_checks.specs.Events.{events_in}
 use Rattle.feed_serving.specs.RequestedPackets.{payload_of_packet}
 use Rattle.feed_serving.specs.Positions.{events_within, is_event_boundary}
 use Rattle.feed_serving.specs.Serving.{damage_before, rejection_or_fault, answer}

@@ -1,0 +1,442 @@
+//! The words of the command line.
+
+use clap::{Arg, ArgAction, ArgMatches, Command, Error};
+use jiff::civil::DateTime;
+use jiff::tz::Offset;
+use std::alloc::{AllocError, Global};
+
+/// A command of the program.
+#[derive(Clone, Copy)]
+pub enum Task {
+    /// Prints the changes.
+    Json,
+    /// Says whether logs are whole.
+    Check,
+    /// Prints the events.
+    Events,
+}
+
+/// Where to begin, and where to end.
+#[derive(Clone, Copy)]
+pub struct Range {
+    /// Positions, in the first log and in the last one.
+    pub start: Option<u32>,
+    pub stop: Option<u32>,
+    /// Seconds since 1970: from this time on, and before that.
+    pub from_time: Option<u64>,
+    pub to_time: Option<u64>,
+}
+
+/// What the program is to do.
+#[derive(Drop)]
+pub struct Options<'w> {
+    pub task: Task,
+    /// Whether changes are printed by transaction.
+    pub by_transaction: bool,
+    pub is_json: bool,
+    pub range: Range,
+    pub databases: Vec<&'w [u8]>,
+    /// Tables as `database.table`.
+    pub tables: Vec<&'w [u8]>,
+    pub excluded: Vec<&'w [u8]>,
+    pub files: Vec<&'w str>,
+}
+
+/// What an option takes.
+#[derive(Clone, Copy)]
+enum Takes {
+    Nothing,
+    Position,
+    Value,
+    /// A value, and the option may be given several times.
+    Values,
+    /// It has no name: it is the words after the options.
+    Words,
+}
+
+/// An option of a command: its name, what its value is called, and what it is for.
+#[derive(Clone, Copy)]
+struct Known {
+    takes: Takes,
+    name: &'static str,
+    value: &'static str,
+    help: &'static str,
+}
+
+const TRANSACTIONS: Known = Known {
+    takes: Takes::Nothing,
+    name: "transactions",
+    value: "",
+    help: "print a line for each transaction",
+};
+
+const AS_JSON: Known = Known {
+    takes: Takes::Nothing,
+    name: "json",
+    value: "",
+    help: "print a JSON object for each log",
+};
+
+const START: Known = Known {
+    takes: Takes::Position,
+    name: "start-position",
+    value: "POSITION",
+    help: "begin after the transaction of the first log that ends here",
+};
+
+const STOP: Known = Known {
+    takes: Takes::Position,
+    name: "stop-position",
+    value: "POSITION",
+    help: "end with the transaction of the last log that ends here, or before",
+};
+
+const FIRST_EVENT: Known = Known {
+    takes: Takes::Position,
+    name: "start-position",
+    value: "POSITION",
+    help: "begin with the first event of the first log at this position or after it",
+};
+
+const LAST_EVENT: Known = Known {
+    takes: Takes::Position,
+    name: "stop-position",
+    value: "POSITION",
+    help: "end before the first event of the last log at this position or after it",
+};
+
+const FROM_TIME: Known = Known {
+    takes: Takes::Value,
+    name: "start-datetime",
+    value: "TIME",
+    help: "only from this time on, in UTC: '2026-11-27 10:00:00'",
+};
+
+const TO_TIME: Known = Known {
+    takes: Takes::Value,
+    name: "stop-datetime",
+    value: "TIME",
+    help: "only before this time, in UTC",
+};
+
+const DATABASE: Known = Known {
+    takes: Takes::Values,
+    name: "database",
+    value: "NAME",
+    help: "only changes of this database",
+};
+
+const TABLE: Known = Known {
+    takes: Takes::Values,
+    name: "table",
+    value: "DATABASE.TABLE",
+    help: "only changes of this table; may be given several times",
+};
+
+const EXCLUDED: Known = Known {
+    takes: Takes::Values,
+    name: "exclude-table",
+    value: "DATABASE.TABLE",
+    help: "no changes of this table",
+};
+
+/// The logs, as the last words of a command.
+const FILES: Known = Known {
+    takes: Takes::Words,
+    name: "file",
+    value: "FILE",
+    help: "binary logs, in their order; - or none is standard input",
+};
+
+/// A command: its name, what it does, and its options.
+#[derive(Clone, Copy)]
+struct KnownCommand {
+    name: &'static str,
+    about: &'static str,
+    options: &'static [Known],
+}
+
+const JSON: KnownCommand = KnownCommand {
+    name: "json",
+    about: "Prints a JSON object a line for each changed row",
+    options: &[
+        TRANSACTIONS,
+        START,
+        STOP,
+        FROM_TIME,
+        TO_TIME,
+        DATABASE,
+        TABLE,
+        EXCLUDED,
+        FILES,
+    ],
+};
+
+const CHECK: KnownCommand = KnownCommand {
+    name: "check",
+    about: "Says whether logs are whole, and where they end; counts the transactions that options select",
+    options: &[
+        AS_JSON, START, STOP, FROM_TIME, TO_TIME, DATABASE, TABLE, EXCLUDED, FILES,
+    ],
+};
+
+const EVENTS: KnownCommand = KnownCommand {
+    name: "events",
+    about: "Prints a line for each event: position, type, size, time, server, contents",
+    options: &[
+        FIRST_EVENT,
+        LAST_EVENT,
+        FROM_TIME,
+        TO_TIME,
+        DATABASE,
+        TABLE,
+        EXCLUDED,
+        FILES,
+    ],
+};
+
+/// An option, or the last words.
+fn argument<'a>(alloc: Global, known: Known) -> Arg<'a> {
+    let argument = Arg::new(alloc, known.name).help(known.help);
+    match known.takes {
+        Takes::Nothing => argument.long(known.name).action(ArgAction::SetTrue),
+        Takes::Position => argument
+            .long(known.name)
+            .value_name(known.value)
+            .action(ArgAction::Set)
+            .value_parser(clap::value_parser!(u32)),
+        Takes::Value => argument
+            .long(known.name)
+            .value_name(known.value)
+            .action(ArgAction::Set),
+        Takes::Values => argument
+            .long(known.name)
+            .value_name(known.value)
+            .action(ArgAction::Append),
+        Takes::Words => argument.value_name(known.value).action(ArgAction::Append),
+    }
+}
+
+/// A command with its options and the logs.
+fn subcommand<'a>(alloc: Global, known: KnownCommand) -> Result<Command<'a>, AllocError> {
+    let mut command = Command::new(alloc, known.name).about(known.about);
+    for option in known.options {
+        command = command.arg(argument(alloc, *option))?;
+    }
+    Ok(command)
+}
+
+/// The program: its name, its version, and what it does.
+#[derive(Clone, Copy)]
+struct KnownProgram {
+    name: &'static str,
+    version: &'static str,
+    about: &'static str,
+}
+
+const PROGRAM: KnownProgram = KnownProgram {
+    name: "binlog-changes",
+    version: "0.1.0",
+    about: "Prints the committed changes of MySQL binary logs",
+};
+
+/// The command line of a program, without its commands.
+fn program<'a>(alloc: Global, known: KnownProgram) -> Command<'a> {
+    Command::new(alloc, known.name)
+        .version(known.version)
+        .about(known.about)
+        .subcommand_required(true)
+        .arg_required_else_help(true)
+}
+
+/// The command line of the program.
+fn command<'a>(alloc: Global) -> Result<Command<'a>, AllocError> {
+    let mut command = program(alloc, PROGRAM);
+    for known in &[JSON, CHECK, EVENTS] {
+        command = command.subcommand(subcommand(alloc, *known)?)?;
+    }
+    Ok(command)
+}
+
+/// Why the command line can't be used.
+#[derive(Drop)]
+pub enum Refused {
+    /// By the words; help and version are here too.
+    Words(Error),
+    /// The value of this option can't be used.
+    Value(&'static str),
+    /// There is no command.
+    NoCommand,
+}
+
+impl From<AllocError> for Refused {
+    fn from(error: AllocError) -> Refused {
+        Refused::Words(Error::from(error))
+    }
+}
+
+impl Refused {
+    /// A value that this option takes.
+    pub fn example(option: &str) -> &'static str {
+        if option == "table" || option == "exclude-table" {
+            "shop.orders"
+        } else {
+            "'2026-11-27 10:00:00'"
+        }
+    }
+}
+
+/// Adds the names that an option gives.
+fn add_names<'w>(
+    matches: &ArgMatches<'w>,
+    option: &str,
+    names: &mut Vec<&'w [u8]>,
+) -> Result<(), AllocError> {
+    if let Some(values) = matches.get_strs(option) {
+        for name in values {
+            names.push(name.as_bytes())?;
+        }
+    }
+    Ok(())
+}
+
+/// The seconds since 1970 of a time as the options give it, in UTC: `2026-11-27 10:00:00`, or a date alone; 0 for an earlier one.
+fn seconds_of(text: &str) -> Option<u64> {
+    let time: DateTime = match text.parse() {
+        Ok(time) => time,
+        Err(_) => return None,
+    };
+    match Offset::UTC.to_timestamp(time) {
+        Ok(timestamp) => Some(u64::try_from(timestamp.as_second()).unwrap_or(0)),
+        Err(_) => None,
+    }
+}
+
+/// The time that an option has, if it is given.
+fn time_of(matches: &ArgMatches<'_>, option: &'static str) -> Result<Option<u64>, Refused> {
+    let Some(text) = matches.get_str(option) else {
+        return Ok(None);
+    };
+    match seconds_of(text) {
+        Some(seconds) => Ok(Some(seconds)),
+        None => Err(Refused::Value(option)),
+    }
+}
+
+/// Where to begin, and where to end.
+fn range_of(matches: &ArgMatches<'_>) -> Result<Range, Refused> {
+    Ok(Range {
+        start: matches.get_one("start-position"),
+        stop: matches.get_one("stop-position"),
+        from_time: time_of(matches, "start-datetime")?,
+        to_time: time_of(matches, "stop-datetime")?,
+    })
+}
+
+/// Whether the name of a table has a database and a table.
+fn is_table(name: &str) -> bool {
+    match name.as_bytes().iter().position(|byte| *byte == b'.') {
+        Some(at) => 0 < at && at + 1 < name.len(),
+        None => false,
+    }
+}
+
+/// Whether all values of an option are names of tables.
+fn are_tables(matches: &ArgMatches<'_>, option: &str) -> bool {
+    if let Some(names) = matches.get_strs(option) {
+        for name in names {
+            if !is_table(name) {
+                return false;
+            }
+        }
+    }
+    true
+}
+
+/// Adds the tables that an option names.
+fn add_tables<'w>(
+    matches: &ArgMatches<'w>,
+    option: &'static str,
+    tables: &mut Vec<&'w [u8]>,
+) -> Result<(), Refused> {
+    if are_tables(matches, option) {
+        Ok(add_names(matches, option, tables)?)
+    } else {
+        Err(Refused::Value(option))
+    }
+}
+
+/// Adds the files that a command names.
+fn add_files<'w>(matches: &ArgMatches<'w>, files: &mut Vec<&'w str>) -> Result<(), AllocError> {
+    match matches.get_strs("file") {
+        Some(values) => files.extend_from_slice(values),
+        None => Ok(()),
+    }
+}
+
+impl<'w> Options<'w> {
+    /// What a command is to do on standard input, with all tables.
+    fn new(alloc: Global, task: Task, matches: &ArgMatches<'w>, range: Range) -> Options<'w> {
+        Options {
+            task,
+            by_transaction: matches!(task, Task::Json) && matches.get_flag("transactions"),
+            is_json: matches!(task, Task::Check) && matches.get_flag("json"),
+            range,
+            databases: Vec::new(alloc),
+            tables: Vec::new(alloc),
+            excluded: Vec::new(alloc),
+            files: Vec::new(alloc),
+        }
+    }
+
+    /// Whether options select transactions.
+    pub fn selects(&self) -> bool {
+        let range = self.range;
+        let has_place = range.start.is_some() || range.stop.is_some();
+        let has_time = range.from_time.is_some() || range.to_time.is_some();
+        let has_name = !self.databases.is_empty()
+            || !self.tables.is_empty()
+            || !self.excluded.is_empty();
+        has_place || has_time || has_name
+    }
+
+    /// Adds the names and the files that a command has.
+    fn add(&mut self, matches: &ArgMatches<'w>) -> Result<(), Refused> {
+        add_names(matches, "database", &mut self.databases)?;
+        add_tables(matches, "table", &mut self.tables)?;
+        add_tables(matches, "exclude-table", &mut self.excluded)?;
+        Ok(add_files(matches, &mut self.files)?)
+    }
+}
+
+/// What a command is to do.
+fn options_of<'w>(
+    alloc: Global,
+    task: Task,
+    matches: &ArgMatches<'w>,
+) -> Result<Options<'w>, Refused> {
+    let range = range_of(matches)?;
+    let mut options = Options::new(alloc, task, matches, range);
+    match options.add(matches) {
+        Ok(()) => Ok(options),
+        Err(refused) => Err(refused),
+    }
+}
+
+/// What the command that was given is to do.
+fn options_in<'w>(alloc: Global, matches: &ArgMatches<'w>) -> Result<Options<'w>, Refused> {
+    match matches.subcommand() {
+        Some(("check", matches)) => options_of(alloc, Task::Check, matches),
+        Some(("events", matches)) => options_of(alloc, Task::Events, matches),
+        Some((_, matches)) => options_of(alloc, Task::Json, matches),
+        None => Err(Refused::NoCommand),
+    }
+}
+
+/// Reads the command line.
+pub fn parse<'w>(alloc: Global, words: &'w [String]) -> Result<Options<'w>, Refused> {
+    match command(alloc)?.try_get_matches_from(words) {
+        Ok(matches) => options_in(alloc, &matches),
+        Err(error) => Err(Refused::Words(error)),
+    }
+}

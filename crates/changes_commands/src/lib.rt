@@ -1,0 +1,22 @@
+//! What the commands of `binlog-changes` share that doesn't depend on transactions: the command line, logs and their order, output,
+//! progress, and the command `events`.
+#![tactic(auto)]
+
+mod brief;
+mod command_line;
+mod events;
+mod logs;
+mod messages;
+mod output;
+mod progress;
+mod rotation;
+mod shown;
+
+pub use command_line::{Options, Range, Refused, Task, parse};
+pub use events::{Listed, Names, list};
+pub use logs::{Log, are_in_order, are_of_one_server};
+pub use messages::{advice, meaning, put_led_astray, put_no_start, put_remaining};
+pub use output::{Written, write};
+pub use progress::Progress;
+pub use rotation::leads_to;
+pub use shown::{put_gtid, put_type};

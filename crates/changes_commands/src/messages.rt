@@ -1,0 +1,92 @@
+//! What is said to people about verdicts, and about logs and positions that don't fit.
+
+use feed_json::Text;
+use feed_kinds::Verdict;
+
+/// What a verdict means.
+pub fn meaning(verdict: Verdict) -> &'static str {
+    match verdict {
+        Verdict::End => "the log is whole",
+        Verdict::Mark => "this is no binary log: it doesn't begin with fe 62 69 6e",
+        Verdict::Frame => "an event is shorter than its header and checksum: the log is damaged",
+        Verdict::Algorithm => "the checksum algorithm is unknown",
+        Verdict::Checksum => "an event's checksum is wrong: the log is damaged",
+        Verdict::Size => "an event is too long",
+        Verdict::Body => "an event's body isn't in its format: the log is damaged",
+        Verdict::NoTableMap => "rows without the table map of their table",
+        Verdict::Row => "a row can't be read",
+        Verdict::Outside => "a commit, a rollback or rows outside a transaction",
+        Verdict::Inside => "a begin, a GTID or a rotate within a transaction",
+        Verdict::Unshown =>
+            "an event that isn't shown: a compressed or XA transaction, or an incident",
+        Verdict::UnknownKind => "an event of an unknown type, perhaps of another server than MySQL",
+        Verdict::Memory => "out of memory",
+        Verdict::Read => "reading failed",
+        Verdict::Write => "writing failed",
+        _ => "the stream is damaged",
+    }
+}
+
+/// What can be done about a verdict.
+pub fn advice(verdict: Verdict) -> &'static str {
+    match verdict {
+        Verdict::Mark => "name a file that a server wrote, such as binlog.000001",
+        Verdict::Frame | Verdict::Checksum | Verdict::Body | Verdict::Size => {
+            "fetch the log again from its server"
+        }
+        Verdict::Unshown | Verdict::UnknownKind => {
+            "convert a MariaDB server's log with recipes/mariadb_log, or leave the event out with recipes/past_stop"
+        }
+        Verdict::Memory => "free memory, and run again",
+        Verdict::Read | Verdict::Write => "check the file and the device, and run again",
+        _ => "recipes/past_stop leaves the transaction out",
+    }
+}
+
+/// Appends that a log leads to another than the next that was given.
+pub fn put_led_astray(path: &str, name: &Text, next: &str, out: &mut Text) {
+    out.words("binlog-changes: ");
+    out.words(path);
+    out.words(": the log leads to ");
+    out.append(name);
+    out.words(", but ");
+    out.words(next);
+    out.words(
+        " was given after it; give all logs in their order, under the names that their server gave them: \
+names of copies that don't end with a number aren't compared\n",
+    );
+}
+
+/// Appends that no transaction ends at the start position, and the positions nearest to it.
+pub fn put_no_start(path: &str, before: Option<u32>, after: Option<u32>, out: &mut Text) {
+    out.words("binlog-changes: ");
+    out.words(path);
+    out.words(": no transaction ends at the start position; ");
+    match (before, after) {
+        (Some(before), Some(after)) => {
+            out.words("the nearest end at ");
+            out.unsigned(u64::from(before));
+            out.words(" and ");
+            out.unsigned(u64::from(after));
+        }
+        (None, Some(after)) => {
+            out.words("the nearest are 4 and ");
+            out.unsigned(u64::from(after));
+        }
+        (Some(before), None) => {
+            out.words("the last ends at ");
+            out.unsigned(u64::from(before));
+        }
+        (None, None) => out.words("the log has none"),
+    }
+    out.push(b'\n');
+}
+
+/// Appends that a log ends within an event, of which it has this many bytes.
+pub fn put_remaining(path: &str, remaining: usize, out: &mut Text) {
+    out.words("binlog-changes: ");
+    out.words(path);
+    out.words(": the log ends within an event, of which there are ");
+    out.unsigned(remaining as u64);
+    out.words(" bytes\n");
+}

@@ -1,0 +1,24 @@
+//! The output: text in large pieces.
+
+use std::io::{self, ErrorKind, Write};
+
+/// How writing ended.
+#[derive(Clone, Copy)]
+pub enum Written {
+    All,
+    /// Whoever read the output has gone.
+    Closed,
+    Failed,
+}
+
+/// Writes bytes on standard output.
+pub fn write(rt: &HostRuntime, bytes: &[u8]) -> Written {
+    if bytes.is_empty() {
+        return Written::All;
+    }
+    match io::writer(rt).write_all(bytes) {
+        Ok(()) => Written::All,
+        Err(error) if error.kind() == ErrorKind::BrokenPipe => Written::Closed,
+        Err(_) => Written::Failed,
+    }
+}
