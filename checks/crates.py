@@ -1,4 +1,7 @@
 """The crates of the repository, as crates.txt lists them."""
+import functools
+import importlib.machinery
+import importlib.util
 import os
 import subprocess
 import sys
@@ -23,6 +26,19 @@ def known(names):
     if unknown:
         sys.exit(f"crates.txt has no crate {', '.join(unknown)}")
     return list(dict.fromkeys(names))
+
+
+def toolchain():
+    """The program `rt` as a module: it reads edits, and starts proofs and checks."""
+    page = subprocess.run(["rt", "doc"], stdout=subprocess.PIPE, text=True, check=True).stdout.strip()
+    loader = importlib.machinery.SourceFileLoader("rt", str(Path(page).parent / "bin/rt"))
+    module = importlib.util.module_from_spec(importlib.util.spec_from_loader("rt", loader))
+    loader.exec_module(module)
+    # Its first call must be in the main thread.
+    module.rtlib.guarded()
+    # It computes the sum of a crate's files anew for each way to it in the graph of crates, which takes minutes in all.
+    module.rtlib.Crate.stamp = functools.cache(module.rtlib.Crate.stamp)
+    return module
 
 
 def at_once(memory):

@@ -1,6 +1,7 @@
 //! Event bodies, each read as the struct of its type.
 
 use crate::event_memory::{put_value_written, written};
+use crate::event_queries::has_its_texts;
 use crate::event_words::{body_of, description_with, put_debug, put_unless};
 use crate::words::{Fault, put_bytes, put_text};
 use events_bodies::{
@@ -121,7 +122,10 @@ fn put_named<'a>(
         "IncidentEvent" => put_body::<IncidentEvent<'_>>(alloc, ctx, bytes, out),
         "RowsQueryEvent" => put_body::<RowsQueryEvent<'_>>(alloc, ctx, bytes, out),
         "UserVarEvent" => put_body::<UserVarEvent<'_>>(alloc, ctx, bytes, out),
-        "QueryEvent" => put_body::<QueryEvent<'_>>(alloc, ctx, bytes, out),
+        "QueryEvent" => {
+            put_unless(has_its_texts(alloc, bytes), "with other texts", out)?;
+            put_body::<QueryEvent<'_>>(alloc, ctx, bytes, out)
+        }
         "GtidEvent" => put_body::<GtidEvent<'_>>(alloc, ctx, bytes, out),
         "AnonymousGtidEvent" => put_body::<AnonymousGtidEvent<'_>>(alloc, ctx, bytes, out),
         "FormatDescriptionEvent" => put_body::<FormatDescriptionEvent<'_>>(alloc, ctx, bytes, out),

@@ -5,10 +5,9 @@ use crate::event_memory::written;
 use crate::event_words::{put_bytes_field, put_debug, put_field, put_text_field, put_unless};
 use crate::words::{Fault, bytes_of, only_bytes_of, put_bytes, put_rest, put_text};
 use events_bodies::ExecuteLoadQueryEvent;
-use events_frames::read_body;
+use events_frames::{QueryTexts, read_body};
 use events_queries::{QueryEvent, StatusVar, StatusVars, StatusVarsIterator};
-use rows_consts::StatusVarKey;
-use rows_more_consts::LoadDuplicateHandling;
+use rows_more_consts::{LoadDuplicateHandling, StatusVarKey};
 use std::alloc::{AllocError, Global};
 use std::borrow::CowSlice;
 use wire_buf::ParseBuf;
@@ -16,6 +15,20 @@ use wire_buf::ParseBuf;
 /// No bytes.
 fn nothing<'a>() -> CowSlice<'a, u8> {
     CowSlice::Borrowed(b"")
+}
+
+/// Whether the texts that are found in the body of a QUERY_EVENT are those of the event, or there is none.
+pub(crate) fn has_its_texts(alloc: Global, bytes: &[u8]) -> bool {
+    match (
+        QueryTexts::read(bytes),
+        read_body::<QueryEvent<'_>>(alloc, (), bytes),
+    ) {
+        (Some(texts), Ok(event)) => {
+            texts.schema == event.schema_raw() && texts.query == event.query_raw()
+        }
+        (None, Err(_)) => true,
+        _ => false,
+    }
 }
 
 impl<'a> Body<'a> for QueryEvent<'a> {

@@ -2,10 +2,11 @@
 
 use crate::words::{Fault, bytes_of, done, number_of, put_number, put_text};
 use crc32::crc32;
+use events_frames::QueryTexts;
 use feed_changes::{
     Change, ChangeLog, CommittedTransaction, Filter, OwnedTransaction, Stop, TableRows, What,
 };
-use feed_kinds::{Gtid, QueryTexts, Verdict};
+use feed_kinds::{Gtid, Verdict};
 use feed_text::{put_cell_ref, quote};
 use rows_images::RowPart;
 use std::alloc::Global;

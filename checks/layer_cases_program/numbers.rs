@@ -2,11 +2,9 @@
 
 use crate::json_values::put_constant as put_constant_of_json;
 use crate::words::{Fault, done, number_of, put_number, put_text};
-use rows_consts::{
-    BinlogChecksumAlg, BinlogVersion, EventType, OptionalMetadataFieldType, StatusVarKey,
-};
+use rows_consts::{BinlogChecksumAlg, BinlogVersion, EventType, OptionalMetadataFieldType};
 use rows_more_consts::{
-    BinlogRowValueOptions, Gno, IncidentType, IntvarEventType, LoadDuplicateHandling,
+    BinlogRowValueOptions, Gno, IncidentType, IntvarEventType, LoadDuplicateHandling, StatusVarKey,
     TransactionPayloadCompressionType, TransactionPayloadFields,
 };
 use std::alloc::Global;

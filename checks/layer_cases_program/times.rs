@@ -2,9 +2,11 @@
 
 use crate::words::{Fault, byte_of, bytes_of, done, put_rest, put_text};
 use feed_text::put_value;
+use mysql_binlog_rows::{
+    my_datetime_packed_from_binary, my_time_packed_from_binary, my_timestamp_from_binary,
+};
 use rows_values::{
-    MysqlTime, datetime_from_packed, datetime_of, my_datetime_packed_from_binary,
-    my_time_packed_from_binary, my_timestamp_from_binary, time_from_packed, time_of, timestamp_of,
+    MysqlTime, datetime_from_packed, datetime_of, time_from_packed, time_of, timestamp_of,
 };
 use std::alloc::Global;
 use std::io::Write;

@@ -8,12 +8,14 @@ use std::alloc::Global;
 use std::fmt::Debug;
 use std::io::Write;
 use wire_buf::{AnySize, FixedSize, MyDeserialize, MySerialize, ParseBuf, WireSize};
-use wire_consts::{ColumnFlags, ColumnType, Constant, GeometryType, ItemResult};
+use wire_consts::{ColumnFlags, ColumnType, Constant, GeometryType};
 use wire_forms::{
-    BareU8Bytes, BytesRepr, Const, FixedLengthText, IntRepr, LeU16, LeU24, RawBytes, RawConst,
-    RawFlags, RawInt, SeqRepr, Skip, Unknown,
+    BareU8Bytes, BytesRepr, FixedLengthText, IntRepr, LeU16, LeU24, RawBytes, RawConst, RawFlags,
+    RawInt, Skip,
 };
-use wire_more_forms::{ConstBytes, ConstBytesValue, ConstU8, ConstU32, Either};
+use wire_more_forms::{
+    Const, ConstBytes, ConstBytesValue, ConstU8, ConstU32, Either, ItemResult, SeqRepr, Unknown,
+};
 
 /// The first bytes of a binlog file.
 #[derive(Drop)]

@@ -8,10 +8,10 @@ use std::borrow::CowSlice;
 use std::io::Write;
 use wire_buf::{MyDeserialize, MySerialize, ParseBuf, WireFault, WireSize};
 use wire_forms::{
-    BareU8Bytes, BareU16Bytes, BufMutExt, BytesRepr, EofBytes, FixedLengthText, LenEnc, NullBytes,
-    RawBytes, U8Bytes, U32Bytes, VarLen, WriteMysqlExt, lenenc_str_len,
+    BareU8Bytes, BareU16Bytes, BufMutExt, BytesRepr, EofBytes, FixedLengthText, LenEnc, RawBytes,
+    U8Bytes, VarLen, lenenc_str_len,
 };
-use wire_more_forms::ReadMysqlExt;
+use wire_more_forms::{NullBytes, ReadMysqlExt, U32Bytes, WriteMysqlExt};
 use wire_more_forms::laws::read_back_bytes;
 
 /// What a case does with a representation.

@@ -1,10 +1,9 @@
 //! Transactions as lines of JSON.
 
 use changes_commands::put_gtid;
-use events_frames::BinlogEventHeader;
+use events_frames::{BinlogEventHeader, QueryTexts};
 use feed_changes::{Change, CommittedTransaction, TableRows, What};
 use feed_json::{RowReader, RowText, ShownTables, Text, change_name};
-use feed_kinds::QueryTexts;
 use rows_values::RowsError;
 use std::alloc::{AllocError, Global};
 

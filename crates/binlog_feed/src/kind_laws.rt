@@ -5,7 +5,7 @@ ghost use Rattle.rows_meta.specs.TableMaps.{IsTableMap};
 ghost use Rattle.rows_events.specs.RowsEvents.{IsRowsEvent};
 ghost use Rattle.rows_events.specs.declared.rows_event_ctx.RowsEventCtx.{RowsEventCtx};
 ghost use Rattle.events_frames.specs.RotateAndXid.{IsRotate, IsXid};
-ghost use Rattle.events_queries.specs.Queries.{IsQuery};
+ghost use Rattle.events_frames.specs.Queries.{IsQuery};
 ghost use Rattle.feed_kinds.specs.Readers.{IsBodyOf};
 ghost use Rattle.feed_kinds.specs.Bodies.{query_in, rotate_in, xid_in, table_map_in, rows_event_in};
 

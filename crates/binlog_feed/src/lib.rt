@@ -22,13 +22,14 @@ mod worked_runs;
 mod worked_serving;
 mod worked_streams;
 
+pub use events_frames::QueryTexts;
 pub use feed_changes::{
     Change, ChangeLog, Changes, CommittedTransaction, Filter, NoLog, OwnedTransaction, Stop,
     TableRows, TakenChanges, What,
 };
 pub use feed_follower::ChangeFollower;
 pub use feed_kept::{Keeper, kept};
-pub use feed_kinds::{Gtid, QueryTexts, Verdict, name_of, status};
+pub use feed_kinds::{Gtid, Verdict, name_of, status};
 pub use feed_payloads::{RequestError, request};
 pub use feed_reports::report;
 pub use feed_runs::{Step, rehearse, rehearse_growing, rehearse_semi};

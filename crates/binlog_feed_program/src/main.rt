@@ -220,22 +220,14 @@ fn write_request<P: Print + Eprint>(
     }
 }
 
-/// Follows the packets of a reader, and writes each transaction as soon as it is committed.
-fn follow_into<R: Read + Drop, W: Write + Drop>(
-    alloc: Global,
-    mut reader: R,
-    mut out: W,
-) -> Verdict {
-    let Ok((mut follower, _request)) = Follower::start(
-        alloc,
-        FIRST_POSITION,
-        1,
-        b"",
-        PACKET_LIMIT,
-        crc32,
-    ) else {
-        return Verdict::Memory;
-    };
+/// Passes what a reader gives to a follower, which writes each transaction as soon as it is committed.
+fn follow_pieces<F: Fn(&[u8]) -> u32, R: Read, W: Write>(
+    follower: &mut Follower<F>,
+    reader: &mut R,
+    out: &mut W,
+) -> Verdict
+    requires callable { (f : _) → F.IsAlwaysCallable f }
+{
     let mut piece = [0u8; PIECE_LEN];
     for _ in 0..u64::MAX {
         let taken = match reader.read(&mut piece) {
@@ -244,7 +236,7 @@ fn follow_into<R: Read + Drop, W: Write + Drop>(
             Err(error) if error.kind() == ErrorKind::Interrupted => continue,
             Err(_) => return Verdict::Read,
         };
-        let verdict = follower.feed(&piece[..taken], &mut Watched::new(&mut out));
+        let verdict = follower.feed(&piece[..taken], &mut Watched::new(&mut *out));
         if out.flush().is_err() {
             return Verdict::Write;
         }
@@ -253,6 +245,18 @@ fn follow_into<R: Read + Drop, W: Write + Drop>(
         }
     }
     Verdict::Read
+}
+
+/// Follows the packets of a reader.
+fn follow_into<R: Read + Drop, W: Write + Drop>(
+    alloc: Global,
+    mut reader: R,
+    mut out: W,
+) -> Verdict {
+    match Follower::start(alloc, FIRST_POSITION, 1, b"", PACKET_LIMIT, crc32) {
+        Ok((mut follower, _request)) => follow_pieces(&mut follower, &mut reader, &mut out),
+        Err(_) => Verdict::Memory,
+    }
 }
 
 /// The same, to standard output.

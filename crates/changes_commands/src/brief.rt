@@ -2,8 +2,7 @@
 
 use crate::events::Names;
 use crate::shown::put_gtid;
-use events_frames::{EventParts, RotateEvent, read_body};
-use events_queries::QueryEvent;
+use events_frames::{EventParts, QueryTexts, RotateEvent, read_body};
 use events_reader::EventStreamReader;
 use feed_json::Text;
 use feed_kinds::EventKind;
@@ -15,14 +14,13 @@ use rows_meta::TableMapEvent;
 const SHOWN_OF_STATEMENT: usize = 60;
 
 /// Appends the beginning of a statement, as a string.
-fn put_statement(query: &QueryEvent<'_>, out: &mut Text) {
-    let statement = query.query_raw();
-    match statement.get(..SHOWN_OF_STATEMENT) {
+fn put_statement(texts: QueryTexts<'_>, out: &mut Text) {
+    match texts.query.get(..SHOWN_OF_STATEMENT) {
         Some(first) => {
             out.name(first);
             out.words("..");
         }
-        None => out.name(statement),
+        None => out.name(texts.query),
     }
 }
 
@@ -60,7 +58,7 @@ fn put_kind(reader: &EventStreamReader, kind: &EventKind<'_>, out: &mut Text) {
         EventKind::Begin => out.words("BEGIN"),
         EventKind::Commit => out.words("COMMIT"),
         EventKind::Rollback => out.words("ROLLBACK"),
-        EventKind::Statement(query) => put_statement(query, out),
+        EventKind::Statement(texts) => put_statement(*texts, out),
         EventKind::Map(map) => put_map(map, out),
         EventKind::Rows(rows) => put_rows(reader, rows, out),
         EventKind::RealRotate | EventKind::Ignored => {}
@@ -82,7 +80,7 @@ fn is_taken<N: Names>(reader: &EventStreamReader, names: &N, kind: &EventKind<'_
             Some(map) => takes_map(names, map),
             None => true,
         },
-        EventKind::Statement(query) => names.takes_database(query.schema_raw()),
+        EventKind::Statement(texts) => names.takes_database(texts.schema),
         _ => true,
     }
 }

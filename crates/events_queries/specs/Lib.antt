@@ -1,4 +1,3 @@
-pub mod Queries
 pub mod QueryViews
 pub mod StatusVars
 pub mod StatusVarsComputed

@@ -1,8 +1,8 @@
 //! The body of QUERY_EVENT, and the status variables of events with statements.
 //!
-//! The body is a sequence of fields (`specs/Queries.antt`); one definition covers reading and writing. `specs/QueryViews.antt` gives
-//! the contents of the event. `specs/StatusVars.antt` defines status variables by a table
-//! of their keys.
+//! The body is a sequence of fields (`Queries` of `events_frames`); one definition covers reading and writing.
+//! `specs/QueryViews.antt` gives the contents of the event. `specs/StatusVars.antt` defines status variables by a table of their
+//! keys.
 #![tactic(auto)]
 
 mod fields;

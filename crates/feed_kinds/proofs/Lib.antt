@@ -4,4 +4,3 @@ pub mod BodyLemmas
 pub mod BodyKindLemmas
 pub mod KindReadLemmas
 pub mod KnownBodyLemmas
-pub mod QueryTextLemmas

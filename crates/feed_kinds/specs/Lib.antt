@@ -3,7 +3,6 @@ pub mod Readers
 pub mod Bodies
 pub mod Events
 pub mod Kinds
-pub mod QueryTexts
 pub mod BodiesOfMaps
 pub mod KindViews
 pub mod Verdicts

@@ -2,7 +2,6 @@
 #![tactic(auto)]
 
 mod event_kind;
-mod query_texts;
 mod verdict;
 
 pub use event_kind::{
@@ -10,5 +9,4 @@ pub use event_kind::{
     TABLE_MAP_EVENT, UPDATE_ROWS_EVENT, WRITE_ROWS_EVENT, XID_EVENT, on_rotate, read_rows,
     read_table_map,
 };
-pub use query_texts::QueryTexts;
 pub use verdict::{Verdict, name_of, status};

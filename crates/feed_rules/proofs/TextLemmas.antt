@@ -6,7 +6,7 @@ use Rattle.std.specs.Prelude.{codes}
 use Rattle.std.specs.Borrow.{Bor}
 use Rattle.std.specs.Fmt.{decimal}
 use Rattle.hex.specs.Hex.{encode_lower}
-use Rattle.events_queries.specs.Queries.{Query}
+use Rattle.events_frames.specs.QueryTexts.{StatementTexts}
 use Rattle.feed_writers.specs.Quoting.{quoted}
 use Rattle.feed_kinds.specs.KindViews.{gtid_view}
 use Rattle.feed_rules.specs.Texts.{gtid_text, line_text, uuid_text}
@@ -43,7 +43,7 @@ uuid_put u old t0 t1 t2 t3 new sixteen a b c d e =
 
 -- ---- statements
 
-pub statement_put : (q : Query) (schema query old one two new : List ℕ) → schema ≡ q.schema → query ≡ q.query → one ≡ old ++ codes "statement " → two ≡ one ++ (quoted schema ++ 32 ∷ quoted query)
+pub statement_put : (q : StatementTexts) (schema query old one two new : List ℕ) → schema ≡ q.schema → query ≡ q.query → one ≡ old ++ codes "statement " → two ≡ one ++ (quoted schema ++ 32 ∷ quoted query)
     → new ≡ two ++ 10 ∷ [] → new ≡ old ++ line_text (Stated q)
 unfolding line_text
 statement_put q schema query old one two new s t a b c =

@@ -2,14 +2,14 @@
 
 ghost use Rattle.std.specs.Prelude.{◌≡◌, ◌++◌, ◌∷◌, OnOk, Some};
 ghost use Rattle.hex.specs.Hex.{encode_lower};
-ghost use Rattle.events_queries.specs.Queries.{Query};
+ghost use Rattle.events_frames.specs.QueryTexts.{StatementTexts, HasTexts};
 ghost use Rattle.feed_text.specs.Buffers.{text_in};
 ghost use Rattle.feed_kinds.specs.KindViews.{gtid_view};
-ghost use Rattle.feed_kinds.specs.QueryTexts.{HasTexts};
 ghost use Rattle.feed_rules.specs.Transactions.{Stated};
 ghost use Rattle.feed_rules.specs.Texts.{commit_line, gtid_text, line_text, uuid_text};
 
-use feed_kinds::{Gtid, QueryTexts};
+use events_frames::QueryTexts;
+use feed_kinds::Gtid;
 use feed_text::TextBuffer;
 use std::alloc::{AllocError, Allocator};
 
@@ -41,7 +41,7 @@ pub(crate) fn put_statement<A: Allocator>(
     texts: QueryTexts<'_>,
     text: &mut TextBuffer<A>,
 ) -> Result<(), AllocError>
-    ensures ok { OnOk result ((q : Query) → HasTexts texts.entry q → text_in text.new ≡ text_in text.old ++ line_text (Stated q)) }
+    ensures ok { OnOk result ((q : StatementTexts) → HasTexts texts.entry q → text_in text.new ≡ text_in text.old ++ line_text (Stated q)) }
 {
     text.put_text(b"statement ")?;
     text.put_two_quoted(texts.schema, texts.query)?;

@@ -22,7 +22,22 @@ pub cut-sooner : (old new : Option (List ℕ)) (a b : List ℕ) (failed : Bool) 
 cut-sooner old new a b failed v h =
     (h.0, record { prefix = h.1.prefix; suffix = h.1.suffix ++ b; parts = sym (append_assoc h.1.prefix h.1.suffix b) ∙ ap (λ (t : List ℕ). t ++ b) h.1.parts; written = h.1.written }, h.2)
 
+-- both parts of these bytes were written, or the write of one was interrupted
+pub both-written : (old mid new : Option (List ℕ)) (a b whole : List ℕ) → a ++ b ≡ whole → Appends old mid a → Appends mid new b → Appends old new whole
+both-written old mid new a b whole is first second = subst (Appends old new) is (Appends-trans old mid new a b first second)
+
+pub first-cut : (old new : Option (List ℕ)) (a b whole : List ℕ) (failed : Bool) (v : Verdict) → a ++ b ≡ whole → IsInterruptedWrite old new a failed v → IsInterruptedWrite old new whole failed v
+first-cut old new a b whole failed v is h = subst (λ (t : List ℕ). IsInterruptedWrite old new t failed v) is (cut-sooner old new a b failed v h)
+
+pub second-cut : (old mid new : Option (List ℕ)) (a b whole : List ℕ) (failed : Bool) (v : Verdict) → a ++ b ≡ whole → Appends old mid a → IsInterruptedWrite mid new b failed v → IsInterruptedWrite old new whole failed v
+second-cut old mid new a b whole failed v is w h = subst (λ (t : List ℕ). IsInterruptedWrite old new t failed v) is (cut-later old mid new a b failed v w h)
+
 -- ---- chunks
+
+-- the header and the bytes that lead the payload were put together, and the other bytes follow
+pub chunk-parts : (number : ℕ) (header first lead slice begun : List ℕ) → first ≡ header → begun ≡ first ++ lead → ((bytes : List ℕ) → length bytes ≡ length lead + length slice → header ++ bytes ≡ chunk number bytes) → begun ++ slice ≡ chunk number (lead ++ slice)
+chunk-parts number header first lead slice begun one two is =
+    ap (λ (t : List ℕ). t ++ slice) (two ∙ ap (λ (t : List ℕ). t ++ lead) one) ∙ append_assoc header lead slice ∙ is (lead ++ slice) (length-append lead slice)
 
 -- The first few chunks of a packet were written; the next has this number, and `rest` are the bytes for it and the chunks after it.
 pub record IsWithin (k : ℕ) (p : List ℕ) (old now : Option (List ℕ)) (number : ℕ) (rest : List ℕ) : Type 0 where

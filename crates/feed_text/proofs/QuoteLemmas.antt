@@ -53,6 +53,25 @@ escaped_run (suc m) (x ∷ xs) = either (is_plain_byte x) refl (escaped_run m xs
         let e : 1 + prefix_len (λ b. not (is_plain_byte b)) (take m xs) ≡ suc (prefix_len (λ b. not (is_plain_byte b)) (take m xs)) = omega arith in
         rw h (simp e (ap (λ (t : List ℕ). escape x ++ t) more))
 
+-- the bytes of a text that are escaped at once
+abbrev escaped_at_once : ℕ → List ℕ → ℕ
+escaped_at_once m xs = length (take_while (λ b. not (is_plain_byte b)) (take m xs))
+
+run_within : (m : ℕ) (xs : List ℕ) → (escaped_at_once m xs ≤ m) × (escaped_at_once m xs ≤ length xs)
+run_within zero xs = (omega arith, omega arith)
+run_within (suc m) [] = (omega arith, omega arith)
+run_within (suc m) (x ∷ xs) = either (is_plain_byte x) refl (run_within m xs)
+  where
+    either : (b : Bool) → is_plain_byte x ≡ b → (escaped_at_once m xs ≤ m) × (escaped_at_once m xs ≤ length xs) → (escaped_at_once (suc m) (x ∷ xs) ≤ suc m) × (escaped_at_once (suc m) (x ∷ xs) ≤ length (x ∷ xs))
+    either true h more = rw h (omega arith, omega arith)
+    either false h more =
+        let e : 1 + prefix_len (λ b. not (is_plain_byte b)) (take m xs) ≡ suc (prefix_len (λ b. not (is_plain_byte b)) (take m xs)) = omega arith in
+        rw h (simp e (omega (arith, more.0), omega (arith, more.1)))
+
+-- at most sixteen bytes are escaped at once
+pub escaped_within : (n : ℕ) (rest : List ℕ) → n ≡ length (take_while (λ b. not (is_plain_byte b)) (take 16 rest)) → (n ≤ 16) × (n ≤ length rest)
+escaped_within n rest is = let within = run_within 16 rest in (omega (arith, is, within.0), omega (arith, is, within.1))
+
 -- a run of bytes was escaped, and the remaining bytes begin after it
 pub escapes_more : (out new others after rest : List ℕ) (n : ℕ) → new ≡ out ++ flat_map escape others → others ≡ take n rest → after ≡ drop n rest
     → n ≡ length (take_while (λ b. not (is_plain_byte b)) (take 16 rest)) → new ++ flat_map quoted_byte after ≡ out ++ flat_map quoted_byte rest

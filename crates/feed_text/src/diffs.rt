@@ -1,15 +1,18 @@
 //! The text of partial updates of JSON documents.
 
-ghost use Rattle.std.specs.Prelude.{◌≡◌, OnOk, IfErr, Err, length, take, map};
+ghost use Rattle.std.specs.Prelude.{◌≡◌, ◌∷◌, ◌++◌, OnOk, IfErr, Err, length, take, map};
 ghost use Rattle.rows_jsonb.specs.JsonDiffViews.{diff_view};
 ghost use Rattle.rows_jsonb.specs.JsonParsing.{Parses};
 ghost use Rattle.feed_text.specs.CellText.{Appends};
 ghost use Rattle.feed_text.specs.DiffText.{operation_text, document_part, diff_text, diffs_text};
 ghost use Rattle.rows_jsonb.specs.JsonbViews.{jsonb_value};
+ghost use Rattle.rows_jsonb.specs.JsonTreeViews.{view};
+ghost use Rattle.rows_values.specs.declared.fault.RowsError.TheVariants.{Memory};
+ghost use Rattle.feed_text.specs.JsonText.{document_text};
 
 use crate::documents::put_json;
 use crate::quoting::quote;
-use rows_jsonb::{JsonDiff, JsonDiffOperation, Value};
+use rows_jsonb::{JsonDiff, JsonDiffOperation, JsonDom, Value};
 use rows_values::RowsError;
 use std::alloc::{Allocator, Global};
 
@@ -83,13 +86,18 @@ fn append_value<A: Allocator>(
     ensures err { IfErr result (λ e. Parses (λ t. t) (Err e) (document_part (jsonb_value value.now))) }
     ensures kept { take (length out.old.items) out.new.items ≡ out.old.items }
 {
-    let tree = match value.tree(alloc) {
-        Ok(tree) => tree,
-        Err(fault) => return Err(fault),
-    };
-    out.push(b' ')?;
-    match put_json(&tree, out) {
-        Ok(()) => Ok(()),
-        Err(_) => Err(RowsError::Memory),
+    match value.tree(alloc) {
+        Ok(tree) => append_tree(&tree, out),
+        Err(fault) => Err(fault),
     }
+}
+
+/// Appends a space and the text of a JSON document's tree. An error may leave a part of it.
+fn append_tree<A: Allocator>(tree: &JsonDom, out: &mut Vec<u8, A>) -> Result<(), RowsError>
+    ensures ok { OnOk result (out.new.items ≡ out.old.items ++ (32 ∷ document_text (view tree.now))) }
+    ensures err { IfErr result (λ e. e ≡ Memory) }
+    ensures kept { take (length out.old.items) out.new.items ≡ out.old.items }
+{
+    out.push(b' ')?;
+    put_json(tree, out)
 }

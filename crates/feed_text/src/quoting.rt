@@ -25,7 +25,6 @@ pub fn quote<A: Allocator>(bytes: &[u8], out: &mut Vec<u8, A>) -> Result<(), Row
 }
 
 /// Appends quoted bytes. An error may leave a part of them.
-#[tactic(auto, using(crate::proofs::QuoteLemmas::kept_more))]
 fn append_quoted<A: Allocator>(bytes: &[u8], out: &mut Vec<u8, A>) -> Result<(), RowsError>
     ensures ok { OnOk result (out.new.items ≡ out.old.items ++ quoted bytes.now) }
     ensures kept { take (length out.old.items) out.new.items ≡ out.old.items }

@@ -2,7 +2,7 @@
 use Rattle.std.proofs.Common.{ℕ, refl}
 use Rattle.wire_buf.specs.Encoding.{Both}
 use Rattle.rows_meta.specs.TableMaps.{little_endian}
-use Rattle.events_queries.specs.Queries.{IsQuery}
+use Rattle.events_frames.specs.Queries.{IsQuery}
 use Rattle.events_bodies.specs.LoadQueries.{IsLoadQuery}
 use Rattle.events_queries.proofs.QueryLemmas as query
 use Rattle.events_bodies.proofs.LoadQueryLemmas as load

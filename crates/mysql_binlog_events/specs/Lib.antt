@@ -28,6 +28,8 @@ pub use Rattle.events_frames.specs.Sources
 pub use Rattle.events_frames.specs.Checksums
 pub use Rattle.events_frames.specs.RotateAndXid
 pub use Rattle.events_frames.specs.RotateAndXidViews
+pub use Rattle.events_frames.specs.Queries
+pub use Rattle.events_frames.specs.QueryTexts
 pub use Rattle.events_gtids.specs.Stamps
 pub use Rattle.events_gtids.specs.OptionalFields
 pub use Rattle.events_gtids.specs.Gtids
@@ -36,7 +38,6 @@ pub use Rattle.events_gtids.specs.GtidSetters
 pub use Rattle.events_gtids.specs.FieldViews
 pub use Rattle.events_gtids.specs.GtidViews
 pub use Rattle.events_gtids.specs.WorkedFields
-pub use Rattle.events_queries.specs.Queries
 pub use Rattle.events_queries.specs.QueryViews
 pub use Rattle.events_queries.specs.StatusVars
 pub use Rattle.events_queries.specs.StatusVarsComputed

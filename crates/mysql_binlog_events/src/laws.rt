@@ -9,7 +9,7 @@ ghost use Rattle.events_frames.specs.Descriptions.{IsDescription, post_header_le
 ghost use Rattle.events_bodies.specs.Bodies.{IsRand, rand_encoded, IsIntvar, intvar_encoded, IsBeginLoadQuery, begin_load_query_encoded, IsIncident, incident_encoded, written_incident, IsRowsQuery, rows_query_encoded};
 ghost use Rattle.events_frames.specs.RotateAndXid.{IsRotate, rotate_encoded, IsXid, xid_encoded};
 ghost use Rattle.events_bodies.specs.UserVars.{IsUserVar, user_var_encoded, written_user_var};
-ghost use Rattle.events_queries.specs.Queries.{IsQuery, query_encoded, written_query};
+ghost use Rattle.events_frames.specs.Queries.{IsQuery, query_encoded, written_query};
 ghost use Rattle.events_bodies.specs.LoadQueries.{IsLoadQuery, load_query_encoded, written_load_query};
 ghost use Rattle.events_gtids.specs.Gtids.{IsGtid, gtid_encoded};
 ghost use Rattle.std.specs.Fn.{FnReturnsAt};

@@ -1,10 +1,11 @@
 //! The events of MySQL's binary logs: frames, headers, checksums and format descriptions, the bodies of events, and the readers
 //! of streams and files.
 //!
-//! Each part is a crate, which is re-exported completely: `events_frames` has frames, headers, footers, format descriptions and
-//! event errors, `events_queries` the body of a statement and its status variables, `events_bodies` the other bodies with one layout, `events_gtids` those with GTIDs, `events_rows` rows events by type, `events_reader` the reader of a log, and
-//! `events_stream` bodies of any type, owned events, files and the writer. The parts use those of `mysql_binlog_rows` and
-//! `mysql_wire`.
+//! Each part is a crate, which is re-exported completely: `events_frames` has frames, headers, footers, format descriptions,
+//! event errors and the texts of a statement, `events_queries` the body of a statement and its status variables,
+//! `events_bodies` the other bodies with one layout, `events_gtids` those with GTIDs, `events_rows` rows events by type,
+//! `events_reader` the reader of a log, and `events_stream` bodies of any type, owned events, files and the writer. The parts
+//! use those of `mysql_binlog_rows` and `mysql_wire`.
 #![tactic(auto)]
 
 mod frame_laws;
@@ -17,8 +18,8 @@ pub use events_bodies::{
 };
 pub use events_frames::{
     BinlogCtx, BinlogEvent, BinlogEventFooter, BinlogEventHeader, BinlogFileHeader, BinlogStruct,
-    EventError, EventParts, EventSource, FormatDescriptionEvent, NextFrame, RotateEvent, XidEvent,
-    calc_checksum, gather, next_frame, read_body, read_struct,
+    EventError, EventParts, EventSource, FormatDescriptionEvent, NextFrame, QueryTexts,
+    RotateEvent, XidEvent, calc_checksum, gather, next_frame, read_body, read_struct,
 };
 pub use events_gtids::{AnonymousGtidEvent, GtidEvent};
 pub use events_queries::{QueryEvent, StatusVar, StatusVarVal, StatusVars, StatusVarsIterator};

@@ -1,5 +1,5 @@
 pub use Rattle.rows_consts.specs.EventTypes
-pub use Rattle.rows_consts.specs.StatusVarKeys
+pub use Rattle.rows_more_consts.specs.StatusVarKeys
 pub use Rattle.rows_consts.specs.MetadataTypes
 pub use Rattle.rows_consts.specs.Constants
 pub use Rattle.rows_more_consts.specs.MoreConstants
@@ -8,7 +8,7 @@ pub use Rattle.rows_consts.specs.FlagTables
 pub use Rattle.rows_values.specs.Faults
 pub use Rattle.rows_packed_times.specs.PackedTimes
 pub use Rattle.rows_values.specs.Readings
-pub use Rattle.rows_values.specs.ReadTimes
+pub mod ReadTimes
 pub use Rattle.rows_values.specs.TimeFields
 pub use Rattle.rows_values.specs.TimeBits
 pub use Rattle.rows_values.specs.Values

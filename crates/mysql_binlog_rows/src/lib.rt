@@ -5,6 +5,9 @@
 //! rows, packed times, decimals, plain values, columns, rows and bits, `rows_jsonb` JSON documents, whose values are
 //! `jsonb::Value`, `rows_cells` the cells of columns, the images of rows, and rows, `rows_meta` table maps and their optional
 //! metadata, and `rows_events` rows events, the plan of a table's columns, and owned rows. The parts use those of `mysql_wire`.
+//!
+//! `my_time_packed_from_binary` and its neighbours, which read packed times from readers, are in this crate, since no part needs
+//! them.
 #![tactic(auto)]
 
 mod cell_laws;
@@ -12,6 +15,7 @@ mod event_laws;
 mod json_laws;
 pub mod laws;
 mod table_map_laws;
+mod time_cells;
 mod value_laws;
 
 pub use rows_cells::BinlogValue;
@@ -46,7 +50,6 @@ pub use rows_consts::ROWS_HEADER_LEN_V2;
 pub use rows_consts::RowsEventFlags;
 pub use rows_consts::SERVER_VER_LEN;
 pub use rows_consts::SemiSyncFlags;
-pub use rows_consts::StatusVarKey;
 pub use rows_consts::TABLE_MAP_HEADER_LEN;
 pub use rows_consts::UnknownBinlogVersion;
 pub use rows_consts::UnknownChecksumAlg;
@@ -55,7 +58,6 @@ pub use rows_consts::UnknownEventType;
 pub use rows_consts::UnknownOptionalMetadataFieldType;
 pub use rows_consts::UnknownRowsEventFlags;
 pub use rows_consts::UnknownSemiSyncFlags;
-pub use rows_consts::UnknownStatusVarKey;
 pub use rows_events::BinlogRow;
 pub use rows_events::BinlogRowCtx;
 pub use rows_events::BinlogRowToRowError;
@@ -155,6 +157,7 @@ pub use rows_more_consts::IncidentType;
 pub use rows_more_consts::IntvarEventType;
 pub use rows_more_consts::InvalidGno;
 pub use rows_more_consts::LoadDuplicateHandling;
+pub use rows_more_consts::StatusVarKey;
 pub use rows_more_consts::TransactionPayloadCompressionType;
 pub use rows_more_consts::TransactionPayloadFields;
 pub use rows_more_consts::UnknownBinlogRowValueOptions;
@@ -162,6 +165,7 @@ pub use rows_more_consts::UnknownDuplicateHandling;
 pub use rows_more_consts::UnknownGtidFlags;
 pub use rows_more_consts::UnknownIncidentType;
 pub use rows_more_consts::UnknownIntvarEventType;
+pub use rows_more_consts::UnknownStatusVarKey;
 pub use rows_more_consts::UnknownTransactionPayloadCompressionType;
 pub use rows_more_consts::UnknownTransactionPayloadFields;
 pub use rows_more_consts::UnknownUserVarFlags;
@@ -191,16 +195,16 @@ pub use rows_values::datetime_of;
 pub use rows_values::decimal_bin_size;
 pub use rows_values::decimal_numbers;
 pub use rows_values::fraction_size;
-pub use rows_values::my_datetime_packed_from_binary;
 pub use rows_values::my_packed_time_get_frac_part;
 pub use rows_values::my_packed_time_get_int_part;
 pub use rows_values::my_packed_time_make;
 pub use rows_values::my_packed_time_make_int;
-pub use rows_values::my_time_packed_from_binary;
-pub use rows_values::my_timestamp_from_binary;
 pub use rows_values::new_row_raw;
 pub use rows_values::packs_decimal;
 pub use rows_values::put_decimal_text;
 pub use rows_values::time_from_packed;
 pub use rows_values::time_of;
 pub use rows_values::timestamp_of;
+pub use time_cells::my_datetime_packed_from_binary;
+pub use time_cells::my_time_packed_from_binary;
+pub use time_cells::my_timestamp_from_binary;

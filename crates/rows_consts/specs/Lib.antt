@@ -1,5 +1,4 @@
 pub mod FlagTables
 pub mod EventTypes
-pub mod StatusVarKeys
 pub mod MetadataTypes
 pub mod Constants

@@ -1,4 +1,4 @@
-//! The named numbers and the flag sets of MySQL's binary logs that reading rows, frames and statements needs, and their conversions.
+//! The named numbers and the flag sets of MySQL's binary logs that reading frames and rows needs, and their conversions.
 //!
 //! `specs/` has the number of each constant and the bits of each flag. `wire_consts` specifies, once for all types, how a number is
 //! converted to a constant or a set, and when that is an error.
@@ -12,7 +12,6 @@ mod lengths;
 mod optional_metadata_field_type;
 mod rows_event_flags;
 mod semi_sync_flags;
-mod status_var_key;
 
 pub use binlog_checksum_alg::{BinlogChecksumAlg, UnknownChecksumAlg};
 pub use binlog_version::{BinlogVersion, UnknownBinlogVersion};
@@ -29,4 +28,3 @@ pub use optional_metadata_field_type::{
 };
 pub use rows_event_flags::{RowsEventFlags, UnknownRowsEventFlags};
 pub use semi_sync_flags::{SemiSyncFlags, UnknownSemiSyncFlags};
-pub use status_var_key::{StatusVarKey, UnknownStatusVarKey};

@@ -9,7 +9,7 @@ use Rattle.rows_values.specs.declared.rows.column.Column.{Column}
 use Rattle.rows_values.specs.declared.fault.RowsError.{RowsError}
 use Rattle.rows_values.specs.declared.fault.RowsError.TheVariants.{Memory}
 use Rattle.rows_values.specs.Readings.{Reading, ◌>>=◌}
-use Rattle.rows_images.specs.Images.{ColumnValue, ImageShape}
+use Rattle.rows_images.specs.Images.{ColumnValue, ImageShape, image_at}
 use Rattle.rows_images.specs.declared.image.ImageColumn.{ImageColumn}
 use Rattle.rows_images.specs.EventRows.{images_at, row_at}
 use Rattle.rows_events.specs.RowImages.{IsReadRow, IsRowOf, image_read}
@@ -36,6 +36,16 @@ after_read i bytes rest row h = record { cells = h.image ∷ []; read = rw h.rea
 pub both_read : (i j : RowImage) (bytes mid rest : List ℕ) (x y : BinlogRow) → IsReadRow i bytes x mid → IsReadRow j mid y rest → ReadsImages (Both i j) bytes (Some x, Some y) rest
 unfolding images_at
 both_read i j bytes mid rest x y h k = record { cells = h.image ∷ k.image ∷ []; read = rw (h.read, k.read) refl; holds = (h.row_is, k.row_is) }
+
+pub first_fails : (i : ImageShape) (shapes : List ImageShape) (bytes : List ℕ) (e : RowsError) → e ≡ Memory ⊎ image_at i bytes ≡ Err e → e ≡ Memory ⊎ images_at (i ∷ shapes) bytes ≡ Err e
+unfolding images_at
+first_fails i shapes bytes e (inl h) = inl h
+first_fails i shapes bytes e (inr h) = inr (rw h refl)
+
+pub second_fails : (i j : RowImage) (bytes mid : List ℕ) (x : BinlogRow) (e : RowsError) → IsReadRow i bytes x mid → e ≡ Memory ⊎ image_at (image_read j) mid ≡ Err e → e ≡ Memory ⊎ images_at (shapes_read (Both i j)) bytes ≡ Err e
+unfolding images_at
+second_fails i j bytes mid x e h (inl k) = inl k
+second_fails i j bytes mid x e h (inr k) = inr (rw (h.read, k) refl)
 
 -- the layouts of an event's images are those of its readers
 shapes_known : (t : TableView) (n : ℕ) (part : Bool) (before after : Option (List ℕ)) (images : EventImages) → ReadsBoth t n part before after images → shapes_by t.plan n part before after ≡ Ok (shapes_read images)

@@ -1,9 +1,9 @@
 -- The definitions of the columns of an image, in order.
-use Rattle.std.proofs.Common.{◌≡◌, ◌<◌, length, get_or, ℕ, zero, suc, ◌+◌, Bool, true, false, cond, List, [], ◌∷◌, ◌++◌, map, drop, Option, Some, None, refl, sym, ap, ◌∙◌, arith, append_assoc}
+use Rattle.std.proofs.Common.{◌≡◌, ◌<◌, ◌≤◌, length, get_or, ℕ, zero, suc, ◌+◌, Bool, true, false, cond, List, [], ◌∷◌, ◌++◌, map, drop, Option, Some, None, refl, sym, ap, ◌∙◌, arith, append_assoc}
 use Rattle.std.specs.Prelude.{slice_get}
 use Rattle.std.specs.Option.{option_map}
 use Rattle.std.proofs.Math.Seq.{drop-cons}
-use Rattle.std.proofs.lemmas.List.{map-append}
+use Rattle.std.proofs.lemmas.List.{append-nil, map-append, drop_all}
 use Rattle.std.specs.Iterator.{YieldsFirstBy}
 use Rattle.std.specs.declared.result.Result.{Result}
 use Rattle.rows_values.specs.declared.fault.RowsError.{RowsError}
@@ -58,3 +58,9 @@ next_defined f bit names cs i d name done more all lt named h e =
     = ap (columns_from names i) (drop-cons cs i d lt ∙ ap (λ l. get_or cs i d ∷ l) (one_further cs i)) in
     one_defined f bit done more all c after (ap (λ l. done ++ map f (picked bit l)) (sym seen) ∙ h)
     (e ∙ ap (λ (o : Option (Reading (List ℕ))). done ++ map f (picked bit (column_view (name_or_empty (name_or_index i o)) (get_or cs i d) ∷ []))) named)
+
+-- all columns were seen
+pub all_defined : {A : Type 0} (f : PlannedColumn → A) (bit : ℕ → Option Bool) (names : List (Reading (List ℕ))) (cs : List CodeColumn) (i : ℕ) (done all : List A)
+    → length cs ≤ i → done ++ map f (picked bit (columns_from names i (drop i cs))) ≡ all → all ≡ done
+all_defined f bit names cs i done all past h =
+    sym h ∙ ap (λ (l : List CodeColumn). done ++ map f (picked bit (columns_from names i l))) (drop_all i cs past) ∙ append-nil done

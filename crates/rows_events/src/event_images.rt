@@ -87,7 +87,6 @@ impl EventImages {
     }
 
     /// Reads the images that the bytes begin with; returns them and the bytes after them.
-    #[tactic(auto, unfolding(rows_images::specs::EventRows::images_at))]
     fn read_images<'a>(
         &self,
         alloc: Global,

@@ -2,7 +2,7 @@
 
 ghost use Rattle.std.specs.Prelude.{◌≡◌, ◌⊎◌, ◌++◌, ◌∷◌, decimal, ℕ, IfOk, IfErr, Ok, Err, [], map, option_map};
 ghost use Rattle.rows_values.specs.BitLists.{len_of, bit_at};
-ghost use Rattle.rows_values.specs.Columns.{parts_of};
+ghost use Rattle.rows_values.specs.Columns.{parts_of, parts_of_type};
 ghost use Rattle.rows_values.specs.declared.fault.RowsError.TheVariants.{Memory};
 ghost use Rattle.rows_values.specs.Readings.{map_reading};
 ghost use Rattle.rows_meta.specs.MetadataViews.{name_view};
@@ -18,7 +18,7 @@ use rows_images::ImageColumn;
 use rows_meta::ColumnName;
 use rows_values::{Bits, Column, RowsError};
 use std::alloc::{AllocError, Global};
-use wire_consts::ColumnFlags;
+use wire_consts::{ColumnFlags, ColumnType};
 
 impl ColumnPlan {
     /// Appends the columns that are in an image: of as many columns as there are bits, those whose bits are set.
@@ -95,17 +95,31 @@ impl ColumnPlan {
     ) -> Result<Column, AllocError>
         ensures { IfOk result (λ c. parts_of c ≡ definition_of self.now.database.items self.now.table.items (column_view (name_or_empty (name_or_index column_index (option_map (map_reading name_view) name.entry))) column.now)) }
     {
-        let definition = Column::new(alloc, column.real_type)
+        let definition = named_column(alloc, column.real_type, column_index, name)?
             .with_schema(&self.database)?
             .with_table(&self.table)?
             .with_org_table(&self.table)?
             .with_flags(flags(column.is_unsigned, column.is_key))
             .with_character_set(column.character_set);
-        match name {
-            Some(Ok(name)) => definition.with_name(name.name_raw()),
-            Some(Err(_)) => Ok(definition),
-            None => definition.with_name(&index_name(alloc, column_index)?),
-        }
+        Ok(definition)
+    }
+}
+
+/// Returns the definition of a column of this type and with a name only: that from the optional metadata, `@` and the column's
+/// index if there is none, or an empty one if it can't be read.
+fn named_column(
+    alloc: Global,
+    real_type: ColumnType,
+    column_index: usize,
+    name: Option<Result<ColumnName<'_>, RowsError>>,
+) -> Result<Column, AllocError>
+    ensures { IfOk result (λ c. parts_of c ≡ record (parts_of_type real_type) { name = name_or_empty (name_or_index column_index (option_map (map_reading name_view) name.entry)) }) }
+{
+    let column = Column::new(alloc, real_type);
+    match name {
+        Some(Ok(name)) => column.with_name(name.name_raw()),
+        Some(Err(_)) => Ok(column),
+        None => column.with_name(&index_name(alloc, column_index)?),
     }
 }
 

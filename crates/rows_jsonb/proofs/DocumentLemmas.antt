@@ -1,9 +1,9 @@
--- How many bytes a document takes.
-use Rattle.std.proofs.Common.{◌≡◌, ◌≤◌, ◌+◌, ℕ, suc, List, [], ◌∷◌, length, drop, arith, refl, sym, ◌∙◌, Some}
+-- The value of a document, and how many bytes it takes.
+use Rattle.std.proofs.Common.{◌≡◌, ◌≤◌, ◌+◌, ℕ, suc, List, [], ◌∷◌, length, drop, arith, refl, sym, ◌∙◌, Option, Some}
 use Rattle.std.specs.Prelude.{slice_index}
 use Rattle.rows_jsonb.specs.JsonbTypes.{jsonb_type_of}
 use Rattle.rows_jsonb.specs.JsonbViews.{IsConsumed}
-use Rattle.rows_jsonb.specs.JsonbValues.{value_size, document_size}
+use Rattle.rows_jsonb.specs.JsonbValues.{document, document_size, of_type, value_size}
 use Rattle.rows_jsonb.specs.declared.types.JsonbType.{JsonbType}
 
 next_drop : (n b : ℕ) (r : List ℕ) → drop (1 + n) (b ∷ r) ≡ drop n r
@@ -24,3 +24,11 @@ document_eaten (a ∷ r) following after b t some first rest e eaten =
       room = rw all (let n : value_size t r ≤ length r = rw same at room in omega arith);
       rest = rw all (left ∙ rw same (sym (next_drop (value_size t r) a r)));
     }
+
+-- the value is that of the type byte and the bytes after it
+pub document_is : (x following : List ℕ) (b : ℕ) (o : Option JsonbType) → 1 ≤ length x → b ≡ slice_index x 0 → following ≡ drop 1 x → jsonb_type_of b ≡ o → of_type o following ≡ document x
+document_is [] following b o some first rest e = absurd (omega arith)
+document_is (a ∷ r) following b o some first rest e =
+    let here : jsonb_type_of a ≡ o = rw first at e in
+    let same : following ≡ r = rest in
+    rw (here, same) refl

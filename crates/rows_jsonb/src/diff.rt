@@ -111,19 +111,22 @@ impl<'a> JsonDiff<'a> {
             operation,
             value,
         } = self;
-        let path = path.into_owned(alloc)?;
-        match value {
-            None => Ok(JsonDiff {
-                path,
-                operation,
-                value: None,
-            }),
-            Some(value) => Ok(JsonDiff {
-                path,
-                operation,
-                value: Some(value.into_owned(alloc)?),
-            }),
-        }
+        let path = match path.into_owned(alloc) {
+            Ok(path) => path,
+            Err(fault) => {
+                drop(value);
+                return Err(fault);
+            }
+        };
+        let value = match value {
+            None => None,
+            Some(value) => Some(value.into_owned(alloc)?),
+        };
+        Ok(JsonDiff {
+            path,
+            operation,
+            value,
+        })
     }
 }
 
@@ -217,7 +220,8 @@ pub fn json_diffs(alloc: Global, bytes: &[u8]) -> Result<Vec<JsonDiff<'_>>, Rows
 fn after_diff(bytes: &[u8]) -> Result<&[u8], RowsError>
     ensures { map_reading (λ x. x.now) result ≡ after_item (diff_at bytes.now) }
 {
-    let (_, rest) = JsonDiff::split_diff(bytes)?;
+    let (diff, rest) = JsonDiff::split_diff(bytes)?;
+    drop(diff);
     Ok(rest)
 }
 

@@ -34,7 +34,6 @@ impl<'a, T: StorageFormat, U: ComplexType> ComplexValue<'a, T, U> {
     }
 
     /// Returns element number `pos`.
-    #[tactic(auto, using(crate::proofs::FormatLemmas::entry_within, crate::proofs::FormatLemmas::offset_least))]
     pub(crate) fn elem(&self, pos: u32) -> Result<Value<'_>, RowsError>
         requires { pos < self.now.element_count }
         ensures { map_reading jsonb_value result
@@ -85,7 +84,6 @@ impl<'a, T: StorageFormat> ComplexValue<'a, T, Object> {
     }
 
     /// Returns the bytes of key number `pos`.
-    #[tactic(auto, using(crate::proofs::FormatLemmas::key_entry_within, crate::proofs::FormatLemmas::offset_least))]
     pub(crate) fn key(&self, pos: u32) -> Result<&[u8], RowsError>
         requires { pos < self.now.element_count }
         ensures { map_reading (λ s. s.now) result

@@ -88,7 +88,10 @@ fn parse_scalar(alloc: Global, value: &Value<'_>) -> Result<JsonScalar, RowsErro
         Value::F64(bits) => Ok(JsonScalar::Number(JsonNumber::Double(*bits))),
         Value::String(string) => Ok(JsonScalar::String(text(alloc, string.str_raw())?)),
         Value::Opaque(opaque) => parse_opaque(alloc, opaque.value_type(), opaque.data_raw()),
-        _ => Err(RowsError::Jsonb(None)),
+        Value::SmallArray(_)
+        | Value::LargeArray(_)
+        | Value::SmallObject(_)
+        | Value::LargeObject(_) => Err(RowsError::Jsonb(None)),
     }
 }
 
@@ -136,8 +139,9 @@ fn parse_items(
     let mut found = Vec::new(alloc);
     'items: for pos in 0..array.count() {
         let value = array.elem(pos)?;
-        let item = parse_in(alloc, &value, depth, budget)?;
-        found.push(item)?;
+        let item = parse_in(alloc, &value, depth, budget);
+        drop(value);
+        found.push(item?)?;
     }
     Ok(found)
 }
@@ -161,9 +165,16 @@ fn parse_members(
     'members: for pos in 0..object.count() {
         let bytes = object.key(pos)?;
         let value = object.elem(pos)?;
-        let name = text(alloc, bytes)?;
-        let member = parse_in(alloc, &value, depth, budget)?;
-        set_member(&mut found, name, member)?;
+        let name = match text(alloc, bytes) {
+            Ok(name) => name,
+            Err(fault) => {
+                drop(value);
+                return Err(fault);
+            }
+        };
+        let member = parse_in(alloc, &value, depth, budget);
+        drop(value);
+        set_member(&mut found, name, member?)?;
     }
     Ok(found)
 }
@@ -193,7 +204,9 @@ impl Value<'_> {
         ensures tree { Parses view result (tree_in (jsonb_value self.entry)) }
         ensures nameless { IfErr result (λ e. e ≡ Jsonb None → HasNamelessFault (jsonb_value self.entry)) }
     {
-        self.tree(alloc)
+        let tree = self.tree(alloc);
+        drop(self);
+        tree
     }
 
     /// Returns the same as [`parse`](Value::parse), and keeps the value.

@@ -1,9 +1,9 @@
 -- Laws about table maps: which are written completely, and what `==` means for them.
-use Rattle.std.proofs.Common.{◌≡◌, ◌≤◌, ◌++◌, ◌+◌, ℕ, List, length, refl, suc, zero, subst, ap, arith}
+use Rattle.std.proofs.Common.{◌≡◌, ◌≤◌, ◌+◌, ℕ, List, length, refl, subst, ap, arith}
 use Rattle.std.proofs.lemmas.List.{take_all}
 use Rattle.std.proofs.lemmas.Bool.Decides.{Decides-like, Decides-and, Decides-eqb}
 use Rattle.std.specs.Bool.{Decides}
-use Rattle.std.specs.Prelude.{[], ◌∷◌, slice_index}
+use Rattle.std.specs.Prelude.{slice_index}
 use lib.Pointwise.{bytes_decides}
 use Rattle.wire_buf.specs.Encoding.{◌⨾◌, AreBytes}
 use Rattle.wire_buf.specs.Numbers.{IsShortString}

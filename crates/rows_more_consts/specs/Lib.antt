@@ -1,2 +1,3 @@
 pub mod MoreConstants
+pub mod StatusVarKeys
 pub mod Conversions

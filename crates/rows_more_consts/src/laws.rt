@@ -7,7 +7,7 @@ ghost use Rattle.rows_more_consts.specs.MoreConstants.{load_duplicate_handling_n
 ghost use Rattle.rows_consts.specs.EventTypes.{event_type_number};
 ghost use Rattle.rows_consts.specs.MetadataTypes.{optional_metadata_field_type_number};
 ghost use Rattle.rows_more_consts.specs.Conversions.{AreDistinct, IsByteConstantOf, IsGnoOf, gno_number};
-ghost use Rattle.rows_consts.specs.StatusVarKeys.{status_var_key_number};
+ghost use Rattle.rows_more_consts.specs.StatusVarKeys.{status_var_key_number};
 ghost use Rattle.rows_consts.specs.contracts.binlog_version.BinlogVersionOrd.TheImpl.{ghosts as version_order};
 ghost use Rattle.rows_more_consts.specs.contracts.gno.GnoOrd.TheImpl.{ghosts as gno_order};
 

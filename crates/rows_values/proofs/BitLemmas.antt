@@ -1,50 +1,53 @@
 -- Bits that are counted a byte at a time.
-use Rattle.std.proofs.Common.{◌≡◌, ◌<◌, ◌≤◌, ◌^◌, ◌*◌, ◌+◌, ◌-◌, ◌/◌, ◌%◌, ℕ, zero, suc, Bool, true, false, T, eqb, length, take, get_or, slice_index, arith, ap, sym, refl, subst, ◌∙◌, inl, inr}
-use Rattle.std.specs.Prelude.{◌&&◌, if◌then◌else◌}
+use Rattle.std.proofs.Common.{◌≡◌, ◌<◌, ◌≤◌, ◌^◌, ◌*◌, ◌+◌, ◌-◌, ◌/◌, ◌%◌, ℕ, zero, suc, Bool, true, false, length, take, get_or, slice_index, arith, ap, sym, refl, ◌∙◌}
+use Rattle.std.specs.Prelude.{◌==◌, if◌then◌else◌}
 use Rattle.std.specs.Int.Count.{ones}
-use Rattle.std.proofs.lemmas.Nat.{ones-le}
+use Rattle.std.proofs.lemmas.Nat.{pow_pos, shl-shr, shr-shr, mod-pow-add, mod_low, mod_below, div-add-mod', ones-le, ones_cat}
 use Rattle.std.proofs.lemmas.List.{get_or-take}
-use Rattle.std.proofs.lemmas.Bool.Decides.{eqb_tells}
-use lib.Dec.{eqb→eq}
-use lib.Ieee.Fits.{and_l, and_r}
 use Rattle.rows_values.specs.BitLists.{count_below, bit_of}
 use Rattle.rows_values.specs.BitCounts.{first_ones}
 use Rattle.rows_values.specs.declared.bits.Bits.{Bits}
 
--- ---- tables of bytes, computed
+-- ---- the first bits of a byte are those of a part of it
 
--- in bytes below n, the first k bits are those of a part of the byte
-abbrev tells : ℕ → ℕ → Bool
-tells k byte = eqb (ones (byte * 2 ^ (8 - k) % 256)) (first_ones false byte k) && eqb (ones (byte / 2 ^ (8 - k))) (first_ones true byte k)
+one_bit : (b : ℕ) → b < 2 → ones b ≡ (if b == 1 then 1 else 0)
+unfolding ones
+one_bit zero h = refl
+one_bit (suc zero) h = refl
+one_bit (suc (suc b)) h = absurd (omega (arith, h))
 
-abbrev all_tell : ℕ → ℕ → Bool
-all_tell k zero = true
-all_tell k (suc byte) = tells k byte && all_tell k byte
+low_ones : (k byte : ℕ) → ones (byte % 2 ^ k) ≡ first_ones false byte k
+unfolding ones
+low_ones zero byte = let e : byte % 1 ≡ 0 = omega arith in ap ones e
+low_ones (suc k) byte =
+    let low = low_ones k byte in
+    let bit = one_bit (byte / 2 ^ k % 2) (mod_below _ 2 (omega arith)) in
+    ap (λ j. ones (byte % 2 ^ j)) (omega arith) ∙ ap ones (mod-pow-add byte 1 k) ∙ ones_cat k (byte / 2 ^ k % 2) (byte % 2 ^ k) (mod_below _ _ (pow_pos k)) ∙ omega (arith, low, bit)
 
-at_byte : (k n byte : ℕ) → T (all_tell k n) → byte < n → T (tells k byte)
-at_byte k zero byte t h = absurd (omega (arith, h))
-at_byte k (suc n) byte t h = elim (eqb_tells byte n) [
-  | inl e ↦ subst (λ b. T (tells k b)) (sym e.1) (and_l (tells k n) (all_tell k n) t)
-  | inr e ↦ at_byte k n byte (and_r (tells k n) (all_tell k n) t) (omega (arith, h, e.1))
-]
+high_ones : (k byte : ℕ) → k ≤ 8 → byte < 256 → ones (byte / 2 ^ (8 - k)) ≡ first_ones true byte k
+unfolding ones
+high_ones zero byte few h = let e : byte / 256 ≡ 0 = omega (arith, h) in ap ones e
+high_ones (suc k) byte few h =
+    let high = high_ones k byte (omega (arith, few)) h in
+    let q = byte / 2 ^ (7 - k) in
+    let bit = one_bit (q % 2) (mod_below _ 2 (omega arith)) in
+    let up : 7 - k + 1 ≡ 8 - k = omega (arith, few) in
+    let above : ones (q / 2) ≡ ones (byte / 2 ^ (8 - k)) = ap ones (shr-shr byte (7 - k) 1) ∙ ap (λ j. ones (byte / 2 ^ j)) up in
+    ap (λ j. ones (byte / 2 ^ j)) (omega arith) ∙ ap ones (sym (div-add-mod' q 2)) ∙ ones_cat 1 (q / 2) (q % 2) (mod_below _ 2 (omega arith)) ∙ omega (arith, high, bit, above)
 
-told : (k byte : ℕ) → T (all_tell k 256) → byte < 256 → (ones (byte * 2 ^ (8 - k) % 256) ≡ first_ones false byte k) × (ones (byte / 2 ^ (8 - k)) ≡ first_ones true byte k)
-told k byte t h =
-    let b = at_byte k 256 byte t h in
-    (eqb→eq _ _ (and_l (eqb (ones (byte * 2 ^ (8 - k) % 256)) (first_ones false byte k)) _ b), eqb→eq _ _ (and_r (eqb (ones (byte * 2 ^ (8 - k) % 256)) (first_ones false byte k)) _ b))
+-- what `byte << j` is, for the k bits that stay
+shifted : (k j byte : ℕ) → 8 ≡ k + j → byte * 2 ^ j % 256 ≡ byte % 2 ^ k * 2 ^ j + 0
+shifted k j byte e =
+    let none : byte * 2 ^ j % 2 ^ j ≡ 0 = ap (λ n. n % 2 ^ j) (omega arith) ∙ mod_low byte j 0 (pow_pos j) in
+    ap (λ w. byte * 2 ^ j % 2 ^ w) e ∙ mod-pow-add (byte * 2 ^ j) k j ∙ ap (λ q. q % 2 ^ k * 2 ^ j + byte * 2 ^ j % 2 ^ j) (shl-shr byte j) ∙ ap (λ r. byte % 2 ^ k * 2 ^ j + r) none
 
 pub part_ones : (k byte : ℕ) → k ≤ 8 → byte < 256 → (ones (byte * 2 ^ (8 - k) % 256) ≡ first_ones false byte k) × (ones (byte / 2 ^ (8 - k)) ≡ first_ones true byte k)
 unfolding ones
-part_ones zero byte few h = told 0 byte tt h
-part_ones (suc zero) byte few h = told 1 byte tt h
-part_ones (suc (suc zero)) byte few h = told 2 byte tt h
-part_ones (suc (suc (suc zero))) byte few h = told 3 byte tt h
-part_ones (suc (suc (suc (suc zero)))) byte few h = told 4 byte tt h
-part_ones (suc (suc (suc (suc (suc zero))))) byte few h = told 5 byte tt h
-part_ones (suc (suc (suc (suc (suc (suc zero)))))) byte few h = told 6 byte tt h
-part_ones (suc (suc (suc (suc (suc (suc (suc zero))))))) byte few h = told 7 byte tt h
-part_ones (suc (suc (suc (suc (suc (suc (suc (suc zero)))))))) byte few h = told 8 byte tt h
-part_ones (suc (suc (suc (suc (suc (suc (suc (suc (suc k))))))))) byte few h = absurd (omega (arith, few))
+part_ones k byte few h =
+    let low = low_ones k byte in (
+      ap ones (shifted k (8 - k) byte (omega (arith, few))) ∙ ones_cat (8 - k) (byte % 2 ^ k) 0 (pow_pos (8 - k)) ∙ omega (arith, low),
+      high_ones k byte few h,
+    )
 
 -- ---- one more byte
 

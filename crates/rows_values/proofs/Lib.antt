@@ -23,3 +23,4 @@ pub mod RowLemmas
 pub mod EqualLemmas
 pub mod EqualBitLemmas
 pub mod BitLemmas
+pub mod AppendLemmas

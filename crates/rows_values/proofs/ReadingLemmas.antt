@@ -1,13 +1,13 @@
 -- Decimals from a reader.
-use Rattle.std.proofs.Common.{◌≡◌, inl, inr, ℕ, List, [], ◌∷◌, length, get_or, arith, refl, sym, subst, ap, ◌∙◌, Option, Some, None, Result, IsErr, IsErrAnd, IfErr}
-use Rattle.std.proofs.lemmas.Result.{err_from_is_err_and, IfErr-weaker}
+use Rattle.std.proofs.Common.{◌≡◌, inl, inr, ℕ, Bool, List, [], ◌∷◌, length, get_or, arith, refl, sym, subst, ap, ◌∙◌, Option, Some, None, Result, IsErr, IsErrAnd, IfOk, IfErr}
+use Rattle.std.proofs.lemmas.Result.{err_from_is_err_and, IfOk-weaker, IfErr-weaker}
 use Rattle.std.specs.Io.KnownBytes.{Consumes}
 use Rattle.wire_buf.specs.declared.fault.WireFault.{WireFault}
 use Rattle.wire_buf.specs.Transfers.{FallsShort}
 use Rattle.rows_values.specs.declared.fault.RowsError.{RowsError}
 use Rattle.rows_values.specs.Faults.{rows_error}
 use Rattle.rows_values.specs.declared.fields.Decimal.{Decimal}
-use Rattle.rows_values.specs.Decimals.{FailsDecimal, FailsPacked, early, following}
+use Rattle.rows_values.specs.Decimals.{decimal_parts, ReadsDecimal, ReadsPacked, FailsDecimal, FailsPacked, early, following}
 
 -- a `?` whose error becomes this one
 pub exit_same : {T E : Type 0} (r : Result T E) (e : E) (P : E → Type 0) → IsErr r × IsErrAnd r (λ y. y ≡ e) → P e → IfErr r P
@@ -41,3 +41,9 @@ pub packed_err : (precision scale p s : ℕ) (old middle new : Option (List ℕ)
 packed_err precision scale p s old middle new r a b taken h =
     let two : Consumes old middle (precision ∷ scale ∷ []) = subst (Consumes old middle) (ap (λ k. k ∷ s ∷ []) a ∙ ap (λ k. precision ∷ k ∷ []) b) taken in
     IfErr-weaker r (λ e. FailsDecimal precision scale e middle new) (λ e. FailsPacked e old new) (λ e fails. following {middle = middle} precision scale two fails) h
+
+pub packed_ok : (keep : Bool) (precision scale : ℕ) (old middle new : Option (List ℕ)) (r : Result Decimal RowsError) → Consumes old middle (precision ∷ scale ∷ [])
+    → IfOk r (λ d. ReadsDecimal keep precision scale (decimal_parts d) middle new) → IfOk r (λ d. ReadsPacked keep (decimal_parts d) old new)
+packed_ok keep precision scale old middle new r taken h =
+    IfOk-weaker r (λ d. ReadsDecimal keep precision scale (decimal_parts d) middle new) (λ d. ReadsPacked keep (decimal_parts d) old new)
+    (λ d reads. record { precision = precision; scale = scale; middle = middle; consumed = taken; reads = reads }) h

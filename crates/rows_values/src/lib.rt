@@ -43,7 +43,4 @@ pub use rows_packed_times::{
     my_packed_time_get_frac_part, my_packed_time_get_int_part, my_packed_time_make,
     my_packed_time_make_int, time_of, timestamp_of,
 };
-pub use times::{
-    MysqlTime, MysqlTimestampType, my_datetime_packed_from_binary, my_time_packed_from_binary,
-    my_timestamp_from_binary,
-};
+pub use times::{MysqlTime, MysqlTimestampType};

@@ -1,26 +1,20 @@
-//! The constants of MySQL's client and server protocol, and their conversions from and to numbers.
+//! The constants of MySQL's client and server protocol that reading frames and rows needs, and their conversions from and to
+//! numbers.
 //!
-//! The tables are in `specs/`: `ColumnTypes` and `Constants` give the number of each constant, `Flags` the
-//! bits of each flag. `Numbering` says how a number is converted to a constant or a set of flags, and when
-//! that is an error.
+//! The tables are in `specs/`: `ColumnTypes` and `Constants` give the number of each constant, `Flags` the bits of each flag.
+//! `Numbering` says how a number is converted to a constant or a set of flags, and when that is an error.
 #![tactic(auto)]
 
 mod column_flags;
 mod column_type;
-mod command;
 mod constant;
 mod geometry_type;
-mod item_result;
 mod limits;
-mod query_flags;
 
 pub use column_flags::{ColumnFlags, UnknownColumnFlags};
 pub use column_type::{ColumnType, UnknownColumnType};
-pub use command::Command;
 pub use constant::Constant;
 pub use geometry_type::{GeometryType, UnknownGeometryType};
-pub use item_result::{ItemResult, UnknownItemResultType};
 pub use limits::{
     DEFAULT_MAX_ALLOWED_PACKET, MAX_PAYLOAD_LEN, UTF8_GENERAL_CI, UTF8MB4_GENERAL_CI,
 };
-pub use query_flags::{Flags2, SqlMode, UnknownFlags2, UnknownSqlMode};

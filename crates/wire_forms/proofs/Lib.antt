@@ -1,8 +1,5 @@
-pub mod SequenceLemmas
-pub mod CountLemmas
 pub mod WritingLemmas
 pub mod SevenLemmas
-pub mod StreamLemmas
 pub mod FixedLemmas
 pub mod BytewiseLemmas
 pub mod TextLemmas

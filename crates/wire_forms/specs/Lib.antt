@@ -1,5 +1,3 @@
-pub mod Sequences
-pub mod Counts
 pub mod Ints
 pub mod Faults
 pub mod Strings
@@ -8,6 +6,5 @@ pub mod Raw
 pub mod Bits
 pub mod Bytewise
 pub mod Texts
-pub mod Consts
 pub mod Overwritten
 pub mod RawTexts

@@ -58,7 +58,7 @@ impl IntRepr for LenEnc {
 
 /// Returns the integer's shortest encoding: an array and the count of its bytes that are used.
 #[tactic(auto, unfolding(wire_buf::specs::Numbers::lenenc_encoded))]
-pub(crate) fn lenenc_bytes(x: u64) -> ([u8; 9], usize)
+pub fn lenenc_bytes(x: u64) -> ([u8; 9], usize)
     ensures count { result.1 ≡ length (lenenc_encoded x) }
     ensures size { result.1 ≤ 9 }
     ensures bytes { take result.1 result.0 ≡ lenenc_encoded x }

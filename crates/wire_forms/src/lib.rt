@@ -1,10 +1,10 @@
-//! Fields of MySQL's packets and events: integers and byte strings in each of their encodings, constants as their numbers, sets of
-//! flags, bytes without meaning, and sequences of fields; and integers and strings over buffers and writers.
+//! Fields of MySQL's packets and events: integers and byte strings in their encodings, constants as their numbers, sets of
+//! flags, and bytes without meaning; and integers and strings over buffers.
 //!
-//! A field is a type with `MyDeserialize` and `MySerialize`. An encoding of integers is a type with the trait [`IntRepr`], one of
-//! byte strings a type with [`BytesRepr`], and one of sequences a type with [`SeqRepr`]; the contracts of these traits have their
-//! laws. [`RawInt`] and [`RawBytes`] are fields in such an encoding. `specs/Ints.antt` and `specs/Texts.antt` say which bytes encode
-//! a number or a string, and how much of it is written.
+//! A field is a type with `MyDeserialize` and `MySerialize`. An encoding of integers is a type with the trait [`IntRepr`], and
+//! one of byte strings a type with [`BytesRepr`]; the contracts of these traits have their laws. [`RawInt`] and [`RawBytes`] are
+//! fields in such an encoding. `specs/Ints.antt` and `specs/Texts.antt` say which bytes encode a number or a string, and how
+//! much of it is written.
 #![tactic(auto)]
 
 mod buf_mut_ext;
@@ -12,26 +12,20 @@ mod byte;
 mod bytes_repr;
 mod consts;
 mod counted_bytes;
-mod counts;
 mod fixed;
 mod flags;
 mod int_repr;
-mod items;
 mod lenenc;
 mod number;
 mod plain_bytes;
 mod raw_bytes;
-mod seq;
-mod seq_repr;
 mod skip;
 mod varlen;
-mod write_ext;
 
 pub use buf_mut_ext::BufMutExt;
 pub use bytes_repr::{BytesRepr, InnerBytes};
-pub use consts::{Const, RawConst};
-pub use counted_bytes::{U8Bytes, U32Bytes};
-pub use counts::Unknown;
+pub use consts::RawConst;
+pub use counted_bytes::U8Bytes;
 pub use fixed::{
     BeI16, BeI24, BeI32, BeI40, BeI48, BeI56, BeI64, BeI128, BeU16, BeU24, BeU32, BeU40, BeU48,
     BeU56, BeU64, BeU128, Fixed, InBytes, LeI16, LeI24, LeI32, LeI40, LeI48, LeI56, LeI64, LeI128,
@@ -39,12 +33,11 @@ pub use fixed::{
 };
 pub use flags::RawFlags;
 pub use int_repr::{IntRepr, RawInt};
-pub use lenenc::{InvalidLengthEncodedInteger, LenEnc, lenenc_int_len, lenenc_str_len};
+pub use lenenc::{
+    InvalidLengthEncodedInteger, LenEnc, lenenc_bytes, lenenc_int_len, lenenc_str_len,
+};
 pub use number::{Number, Unsigned};
-pub use plain_bytes::{BareBytes, BareU8Bytes, BareU16Bytes, EofBytes, FixedLengthText, NullBytes};
+pub use plain_bytes::{BareBytes, BareU8Bytes, BareU16Bytes, EofBytes, FixedLengthText};
 pub use raw_bytes::RawBytes;
-pub use seq::Seq;
-pub use seq_repr::SeqRepr;
 pub use skip::Skip;
 pub use varlen::{VarLen, varlen_bytes};
-pub use write_ext::WriteMysqlExt;

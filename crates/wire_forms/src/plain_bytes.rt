@@ -1,20 +1,15 @@
-//! Strings without a length prefix: up to a zero byte, to the end, or of a known length.
+//! Strings without a length prefix: to the end, or of a known length.
 
-ghost use Rattle.std.specs.Prelude.{◌≡◌, ◌++◌, ◌∷◌, [], ◌≤◌, length, take, replicate, OnOk, IfErr};
+ghost use Rattle.std.specs.Prelude.{◌≡◌, ◌++◌, [], ◌≤◌, length, take, replicate, OnOk, IfErr};
 ghost use Rattle.std.proofs.Common.{refl, sym, ap, ◌∙◌};
 ghost use Rattle.wire_buf.specs.Encoding.{Alone, IsBytes};
 ghost use Rattle.wire_buf.specs.declared.fault.WireFault.TheVariants.{Memory};
-ghost use Rattle.wire_forms.specs.Texts.{IsAll, IsNullTerminated, before_zero, padded_bytes};
+ghost use Rattle.wire_forms.specs.Texts.{IsAll, padded_bytes};
 
 use crate::bytes_repr::{BytesRepr, InnerBytes};
-use memchr::memchr;
 use std::alloc::Allocator;
 use std::borrow::CowSlice;
 use wire_buf::{AnySize, FixedSize, ParseBuf, WireFault};
-
-/// A string that a zero byte ends. Reading skips the zero, and returns `Eof` if there is none. Writing stops
-/// before the string's first zero, and appends a zero. MySQL's manual: Protocol::NullTerminatedString.
-pub struct NullBytes;
 
 /// All remaining bytes. MySQL's manual: Protocol::RestOfPacketString.
 pub struct EofBytes;
@@ -31,47 +26,6 @@ pub type BareU16Bytes = BareBytes<65535>;
 /// Exactly `LEN` bytes. A longer string is truncated when written; a shorter one is padded with zeros, which
 /// are part of the string when read. MySQL's manual: Protocol::FixedLengthString.
 pub struct FixedLengthText<const LEN: usize>;
-
-impl BytesRepr for NullBytes {
-    const SIZE: Option<usize> = None;
-
-    type Size = AnySize;
-
-    type Ctx = ();
-
-    ghost encodes = { λ ctx. Alone IsNullTerminated };
-
-    ghost context = { λ v. tt };
-
-    ghost kept = { before_zero };
-
-    ghost encoded = { λ v. v ++ (0 ∷ []) };
-
-    fn deserialize<'de>(_ctx: (), buf: &mut ParseBuf<'de>) -> Result<CowSlice<'de, u8>, WireFault> {
-        let Some(at) = memchr(0, buf.0) else {
-            return Err(WireFault::Eof);
-        };
-        let bytes = buf.eat(at);
-        buf.skip(1);
-        Ok(CowSlice::Borrowed(bytes))
-    }
-
-    fn serialize<A: Allocator>(text: &[u8], buf: &mut Vec<u8, A>) -> Result<(), WireFault> {
-        let text = before_first_zero(text);
-        buf.reserve(text.len() + 1)?;
-        buf.extend_from_slice(text)?;
-        buf.push(0)?;
-        Ok(())
-    }
-
-    ghost sized = { λ ctx v bytes rest h. tt };
-
-    ghost one_context = { λ ctx v bytes rest h. refl };
-}
-
-impl InnerBytes for NullBytes {
-    ghost before_any = { λ rest. tt };
-}
 
 impl BytesRepr for EofBytes {
     const SIZE: Option<usize> = None;
@@ -169,16 +123,6 @@ impl<const LEN: usize> BytesRepr for FixedLengthText<LEN> {
 
 impl<const LEN: usize> InnerBytes for FixedLengthText<LEN> {
     ghost before_any = { λ rest. tt };
-}
-
-/// Returns the bytes before the first zero, or all bytes if there is none.
-fn before_first_zero(text: &[u8]) -> &[u8]
-    ensures { result.now ≡ before_zero text.now }
-{
-    match memchr(0, text) {
-        Some(at) => &text[..at],
-        None => text,
-    }
 }
 
 /// Appends `n` zeros, or nothing if out of memory.

@@ -8,7 +8,7 @@ use Rattle.wire_buf.specs.Writing.{WritesField}
 use Rattle.wire_buf.specs.declared.fault.WireFault.{WireFault}
 use Rattle.wire_buf.specs.declared.fault.WireFault.TheVariants.{BadConst}
 use Rattle.wire_buf.proofs.LenencLemmas.{little_bytes-sound}
-use Rattle.wire_forms.specs.Consts.{ConstFails}
+use Rattle.wire_more_forms.specs.Consts.{ConstFails}
 
 -- the bytes begin with a value that is no constant
 pub unknown_begins : {N : Type 0} (unknown : N → Type 0) (encodes : N → List ℕ → Type 0) (fault_at : List ℕ → WireFault) (v : N) (x r : List ℕ)

@@ -1,3 +1,8 @@
+pub mod SequenceLemmas
+pub mod CountLemmas
+pub mod StreamLemmas
+pub mod NullLemmas
+pub mod NumberedLemmas
 pub mod OnesLemmas
 pub mod LenencStreamLemmas
 pub mod SequenceBytewiseLemmas

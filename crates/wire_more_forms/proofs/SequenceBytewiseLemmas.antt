@@ -7,7 +7,7 @@ use Rattle.wire_buf.specs.Eating.{Eats}
 use Rattle.wire_buf.specs.Writing.{WritesField}
 use Rattle.wire_buf.proofs.EncodingLemmas.{Sequence-none, Sequence-more}
 use Rattle.wire_forms.specs.Bytewise.{AreBytewise, AreWrittenBytewise}
-use Rattle.wire_forms.proofs.SequenceLemmas.{WritesSequence, row_none, row_more}
+use Rattle.wire_more_forms.proofs.SequenceLemmas.{WritesSequence, row_none, row_more}
 
 -- the first n bytes were taken
 pub eaten_joined : (n : ℕ) (s x y : List ℕ) → Eats (take n) n s x y → (x ≡ s ++ y) × (length s ≡ n)

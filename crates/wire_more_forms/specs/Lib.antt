@@ -1,3 +1,9 @@
+pub mod Sequences
+pub mod Counts
+pub mod Consts
+pub mod Overwritten
 pub mod Streams
 pub mod TrailingOnes
 pub mod Eithers
+pub mod Constants
+pub mod Flags

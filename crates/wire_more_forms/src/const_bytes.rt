@@ -3,7 +3,7 @@
 ghost use Rattle.std.specs.Prelude.{◌≡◌, ◌≢◌, ◌↔◌, ℕ, List, length, IsTrue, Some};
 ghost use Rattle.byteorder.specs.Endian.{little_bytes};
 ghost use Rattle.wire_buf.specs.Encoding.{Alone, IsBytes};
-ghost use Rattle.wire_forms.specs.Consts.{ConstFails};
+ghost use Rattle.wire_more_forms.specs.Consts.{ConstFails};
 ghost use Rattle.wire_buf.specs.Numbers.{IsLittle};
 ghost use Rattle.wire_buf.specs.declared.fault.WireFault.TheVariants.{Eof};
 

@@ -3,7 +3,7 @@ ghost use Rattle.std.specs.Cow.{cow_slice_items, IsOwnedSlice};
 ghost use Rattle.wire_buf.specs.Encoding.{Reads, Lacks, Alone, IsSequence};
 ghost use Rattle.wire_buf.specs.Writing.{WritesField, WriteFails};
 ghost use Rattle.wire_buf.specs.declared.fault.WireFault.TheVariants.{Memory};
-ghost use Rattle.wire_forms.specs.Sequences.{IsSequenceOf, joined_encoded, NumberFails, NumbersFail};
+ghost use Rattle.wire_more_forms.specs.Sequences.{IsSequenceOf, joined_encoded, NumberFails, NumbersFail};
 
 use std::alloc::{AllocError, Allocator, Global};
 use std::borrow::CowSlice;

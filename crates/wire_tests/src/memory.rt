@@ -4,7 +4,8 @@ use linked_list_allocator::LocalHeap;
 use std::alloc::Global;
 use std::borrow::CowSlice;
 use wire_buf::{MySerialize, WireFault};
-use wire_forms::{BytesRepr, LeU16, LeU128, LenEnc, NullBytes, RawBytes, RawInt, Seq, U8Bytes};
+use wire_forms::{BytesRepr, LeU16, LeU128, LenEnc, RawBytes, RawInt, U8Bytes};
+use wire_more_forms::{NullBytes, Seq};
 
 /// Writes a value after `ab` with memory for so many bytes. Returns the result and the number of bytes then
 /// in the buffer, or None if there is no memory even for `ab`.

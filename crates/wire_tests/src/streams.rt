@@ -3,8 +3,7 @@
 use std::alloc::Global;
 use std::io::{Error, ErrorKind, Read, Result as IoResult, Write};
 use wire_buf::{Watched, WireFault, read_exact, read_more, write_all};
-use wire_forms::WriteMysqlExt;
-use wire_more_forms::ReadMysqlExt;
+use wire_more_forms::{ReadMysqlExt, WriteMysqlExt};
 
 /// A device whose steps are given, one for each call: an error, or one byte at most.
 #[derive(Drop)]

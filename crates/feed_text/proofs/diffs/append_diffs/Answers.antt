@@ -1,6 +1,7 @@
-use Rattle.std.proofs.Common.{◌≡◌, [], ◌∷◌, ◌+◌, drop, map, Ok, ap, sym, ◌∙◌, arith, rules, refl}
+use Rattle.std.proofs.Common.{◌≡◌, [], ◌∷◌, ◌+◌, length, take, drop, map, Ok, ap, sym, ◌∙◌, arith, rules, refl}
 use Rattle.std.proofs.Math.Seq.{take-length}
 use Rattle.std.proofs.lemmas.List.{drop_more, drop_all}
+use Rattle.std.proofs.lemmas.Result.{IfOk-from_err}
 use Rattle.rows_jsonb.specs.JsonDiffViews.{diff_view}
 use Rattle.feed_text.specs.DiffText.{diff_text, diff_texts}
 use Rattle.feed_text.proofs.QuoteLemmas.{kept_more, kept_twice}
@@ -16,7 +17,7 @@ loop-diff-init g c = record {
 }
 
 pub returns-in_err-extend_from_slice-2-clause-kept : goal.returns-in_err-extend_from_slice-2-clause-kept
-returns-in_err-extend_from_slice-2-clause-kept g c = search (rules, c.loop-diff.invariant.kept)
+returns-in_err-extend_from_slice-2-clause-kept g c = ap (take (length c.args.out.now.items)) c.in_err-extend_from_slice-2.ensures.items ∙ c.loop-diff.invariant.kept
 
 pub returns-in-Err-clause-err : goal.returns-in-Err-clause-err
 returns-in-Err-clause-err g c =
@@ -46,7 +47,7 @@ loop-diff-preserved g c =
     }
 
 pub returns-in_err-push-clause-kept : goal.returns-in_err-push-clause-kept
-returns-in_err-push-clause-kept g c = search (rules, c.loop-diff.invariant.kept)
+returns-in_err-push-clause-kept g c = ap (take (length c.args.out.now.items)) c.in_err-push.ensures.items ∙ c.loop-diff.invariant.kept
 
 pub returns-clause-ok : goal.returns-clause-ok
 returns-clause-ok g c =
@@ -59,3 +60,15 @@ returns-clause-ok g c =
 
 pub returns-clause-kept : goal.returns-clause-kept
 returns-clause-kept g c = kept_more c.args.out.now.items _ _ _ c.loop-diff.invariant.kept c.in_ok-push.ensures.items
+
+pub returns-in_err-extend_from_slice-clause-ok : goal.returns-in_err-extend_from_slice-clause-ok
+returns-in_err-extend_from_slice-clause-ok g c = IfOk-from_err c.from_residual.result _ c.from_residual.ensures.0
+
+pub returns-in_err-extend_from_slice-2-clause-ok : goal.returns-in_err-extend_from_slice-2-clause-ok
+returns-in_err-extend_from_slice-2-clause-ok g c = IfOk-from_err c.from_residual-in_err-extend_from_slice-2.result _ c.from_residual-in_err-extend_from_slice-2.ensures.0
+
+pub returns-in_err-push-clause-ok : goal.returns-in_err-push-clause-ok
+returns-in_err-push-clause-ok g c = IfOk-from_err c.from_residual-in_err-push.result _ c.from_residual-in_err-push.ensures.0
+
+pub returns-in_err-extend_from_slice-clause-kept : goal.returns-in_err-extend_from_slice-clause-kept
+returns-in_err-extend_from_slice-clause-kept g c = ap (take (length c.args.out.now.items)) c.in_err-extend_from_slice.ensures.items ∙ take-length c.args.out.now.items

@@ -1,6 +1,6 @@
 use Rattle.std.proofs.Common.{◌≡◌, ◌+◌, ◌-◌, ◌≤◌, ℕ, [], ◌∷◌, ◌++◌, length, take, refl, sym, ap, subst, ◌∙◌, arith}
 use Rattle.std.proofs.Math.Seq.{take-length}
-use Rattle.std.proofs.lemmas.Result.{on_ok_weaker}
+use Rattle.std.proofs.lemmas.Result.{IfOk-from_err, on_ok_weaker}
 use Rattle.rows_jsonb.specs.JsonbValues.{count_in}
 use Rattle.feed_text.specs.Buffers.{text_in}
 use Rattle.feed_text.specs.Containers.{value_of}
@@ -118,3 +118,63 @@ write_member-returns g t c =
       ok = on_ok_weaker c.write_value.result (λ w. member_is c.args.depth s c.args.pos c.in_ok-type_byte.type_byte c.args.budget.now c.write_value.new.budget (text_in c.args.out.now ++ separator c.args.is_first) _ _ _ c.in_ok-type_byte.bytes.now c.known_key_at-len.ensures.key c.in_ok-append_key.ensures.utf8 c.in_ok-append_key.ensures.ok c.in_ok-type_byte.ensures w) c.write_value.ensures.ok;
       kept = kept_twice (text_in c.args.out.now) _ _ c.append_key.ensures.kept c.write_value.ensures.kept;
     }
+
+pub write_items-returns-in_err-put-clause-ok : goal.write_items-returns-in_err-put-clause-ok
+write_items-returns-in_err-put-clause-ok g t c = IfOk-from_err c.from_residual.result _ c.from_residual.ensures.0
+
+pub write_items-returns-in_err-append_separator-clause-ok : goal.write_items-returns-in_err-append_separator-clause-ok
+write_items-returns-in_err-append_separator-clause-ok g t c = IfOk-from_err c.from_residual-in_err-append_separator.result _ c.from_residual-in_err-append_separator.ensures.0
+
+pub write_items-returns-in_err-type_byte-clause-ok : goal.write_items-returns-in_err-type_byte-clause-ok
+write_items-returns-in_err-type_byte-clause-ok g t c = IfOk-from_err c.from_residual-in_err-type_byte.result _ c.from_residual-in_err-type_byte.ensures.0
+
+pub write_items-returns-in_err-write_value-clause-ok : goal.write_items-returns-in_err-write_value-clause-ok
+write_items-returns-in_err-write_value-clause-ok g t c = IfOk-from_err c.from_residual-in_err-write_value.result _ c.from_residual-in_err-write_value.ensures.0
+
+pub write_items-returns-in_err-put-2-clause-ok : goal.write_items-returns-in_err-put-2-clause-ok
+write_items-returns-in_err-put-2-clause-ok g t c = IfOk-from_err c.from_residual-in_err-put-2.result _ c.from_residual-in_err-put-2.ensures.0
+
+pub write_large_array-returns-in_err-container-clause-ok : goal.write_large_array-returns-in_err-container-clause-ok
+write_large_array-returns-in_err-container-clause-ok g t c = IfOk-from_err c.from_residual.result _ c.from_residual.ensures.0
+
+pub write_large_object-returns-in_err-container-clause-ok : goal.write_large_object-returns-in_err-container-clause-ok
+write_large_object-returns-in_err-container-clause-ok g t c = IfOk-from_err c.from_residual.result _ c.from_residual.ensures.0
+
+pub write_member-returns-in_err-append_key-clause-ok : goal.write_member-returns-in_err-append_key-clause-ok
+write_member-returns-in_err-append_key-clause-ok g t c = IfOk-from_err c.from_residual.result _ c.from_residual.ensures.0
+
+pub write_member-returns-in_err-type_byte-clause-ok : goal.write_member-returns-in_err-type_byte-clause-ok
+write_member-returns-in_err-type_byte-clause-ok g t c = IfOk-from_err c.from_residual-in_err-type_byte.result _ c.from_residual-in_err-type_byte.ensures.0
+
+pub write_members-returns-in_err-put_order-clause-ok : goal.write_members-returns-in_err-put_order-clause-ok
+write_members-returns-in_err-put_order-clause-ok g t c = IfOk-from_err c.from_residual.result _ c.from_residual.ensures.0
+
+pub write_members-returns-in_err-put-clause-ok : goal.write_members-returns-in_err-put-clause-ok
+write_members-returns-in_err-put-clause-ok g t c = IfOk-from_err c.from_residual-in_err-put.result _ c.from_residual-in_err-put.ensures.0
+
+pub write_members-returns-in_err-write_member-clause-ok : goal.write_members-returns-in_err-write_member-clause-ok
+write_members-returns-in_err-write_member-clause-ok g t c = IfOk-from_err c.from_residual-in_err-write_member.result _ c.from_residual-in_err-write_member.ensures.0
+
+pub write_members-returns-in_err-put-2-clause-ok : goal.write_members-returns-in_err-put-2-clause-ok
+write_members-returns-in_err-put-2-clause-ok g t c = IfOk-from_err c.from_residual-in_err-put-2.result _ c.from_residual-in_err-put-2.ensures.0
+
+pub write_small_array-returns-in_err-container-clause-ok : goal.write_small_array-returns-in_err-container-clause-ok
+write_small_array-returns-in_err-container-clause-ok g t c = IfOk-from_err c.from_residual.result _ c.from_residual.ensures.0
+
+pub write_small_object-returns-in_err-container-clause-ok : goal.write_small_object-returns-in_err-container-clause-ok
+write_small_object-returns-in_err-container-clause-ok g t c = IfOk-from_err c.from_residual.result _ c.from_residual.ensures.0
+
+pub write_value-returns-in-0 : goal.write_value-returns-in-0
+write_value-returns-in-0 g t c = record { ok = rw c.in-0.is c.write_small_object.ensures.ok; kept = c.write_small_object.ensures.kept }
+
+pub write_value-returns-in-1 : goal.write_value-returns-in-1
+write_value-returns-in-1 g t c = record { ok = rw c.in-1.is c.write_large_object.ensures.ok; kept = c.write_large_object.ensures.kept }
+
+pub write_value-returns-in-2 : goal.write_value-returns-in-2
+write_value-returns-in-2 g t c = record { ok = rw c.in-2.is c.write_small_array.ensures.ok; kept = c.write_small_array.ensures.kept }
+
+pub write_value-returns-in-3 : goal.write_value-returns-in-3
+write_value-returns-in-3 g t c = record { ok = rw c.in-3.is c.write_large_array.ensures.ok; kept = c.write_large_array.ensures.kept }
+
+pub write_member-known_key_at-len-requires-clause-known : goal.write_member-known_key_at-len-requires-clause-known
+write_member-known_key_at-len-requires-clause-known g t c = c.requires.known

@@ -1,6 +1,7 @@
-use Rattle.std.proofs.Common.{◌≡◌, ◌∷◌, [], ◌++◌, ◌+◌, drop, string_bytes, ap, sym, ◌∙◌, arith, rules}
+use Rattle.std.proofs.Common.{◌≡◌, ◌∷◌, [], ◌++◌, ◌+◌, length, take, drop, string_bytes, ap, sym, ◌∙◌, arith, rules}
+use Rattle.std.proofs.Math.Seq.{take-length}
 use Rattle.std.proofs.lemmas.List.{drop_more, drop_all}
-use Rattle.std.proofs.lemmas.Result.{on_ok_weaker}
+use Rattle.std.proofs.lemmas.Result.{IfOk-from_err, on_ok_weaker}
 use Rattle.rows_jsonb.specs.JsonTrees.{array}
 use Rattle.rows_jsonb.specs.JsonTreeViews.{view, items_view, members_view}
 use Rattle.rows_jsonb.proofs.DomLemmas.{view-Scalar}
@@ -65,3 +66,63 @@ unfolding document_text item_texts member_texts
 append_members-returns-clause-ok g t c =
     let l = c.loop-key in
     closed c.args.out.now.items _ _ l.separator.now (member_texts (members_view c.args.members.now.entries)) _ 123 125 (ap (λ es. member_texts (members_view es)) c.in-None.ensures.steps.0) l.invariant.written c.in_ok-push-3.ensures.items
+
+pub append_items-returns-in_err-push-clause-ok : goal.append_items-returns-in_err-push-clause-ok
+append_items-returns-in_err-push-clause-ok g t c = IfOk-from_err c.from_residual.result _ c.from_residual.ensures.0
+
+pub append_items-returns-in_err-push-clause-kept : goal.append_items-returns-in_err-push-clause-kept
+append_items-returns-in_err-push-clause-kept g t c = ap (take (length c.args.out.now.items)) c.in_err-push.ensures.items ∙ take-length c.args.out.now.items
+
+pub append_items-returns-in_err-extend_from_slice-clause-ok : goal.append_items-returns-in_err-extend_from_slice-clause-ok
+append_items-returns-in_err-extend_from_slice-clause-ok g t c = IfOk-from_err c.from_residual-in_err-extend_from_slice.result _ c.from_residual-in_err-extend_from_slice.ensures.0
+
+pub append_items-returns-in_err-extend_from_slice-clause-kept : goal.append_items-returns-in_err-extend_from_slice-clause-kept
+append_items-returns-in_err-extend_from_slice-clause-kept g t c = ap (take (length c.args.out.now.items)) c.in_err-extend_from_slice.ensures.items ∙ c.loop-item.invariant.kept
+
+pub append_items-returns-in_err-append_document-clause-ok : goal.append_items-returns-in_err-append_document-clause-ok
+append_items-returns-in_err-append_document-clause-ok g t c = IfOk-from_err c.from_residual-in_err-append_document.result _ c.from_residual-in_err-append_document.ensures.0
+
+pub append_items-returns-in_err-push-2-clause-ok : goal.append_items-returns-in_err-push-2-clause-ok
+append_items-returns-in_err-push-2-clause-ok g t c = IfOk-from_err c.from_residual-in_err-push-2.result _ c.from_residual-in_err-push-2.ensures.0
+
+pub append_items-returns-in_err-push-2-clause-kept : goal.append_items-returns-in_err-push-2-clause-kept
+append_items-returns-in_err-push-2-clause-kept g t c = ap (take (length c.args.out.now.items)) c.in_err-push-2.ensures.items ∙ c.loop-item.invariant.kept
+
+pub append_items-returns-clause-kept : goal.append_items-returns-clause-kept
+append_items-returns-clause-kept g t c = kept_more c.args.out.now.items _ _ _ c.loop-item.invariant.kept c.in_ok-push-2.ensures.items
+
+pub append_members-returns-in_err-push-clause-ok : goal.append_members-returns-in_err-push-clause-ok
+append_members-returns-in_err-push-clause-ok g t c = IfOk-from_err c.from_residual.result _ c.from_residual.ensures.0
+
+pub append_members-returns-in_err-push-clause-kept : goal.append_members-returns-in_err-push-clause-kept
+append_members-returns-in_err-push-clause-kept g t c = ap (take (length c.args.out.now.items)) c.in_err-push.ensures.items ∙ take-length c.args.out.now.items
+
+pub append_members-returns-in_err-extend_from_slice-clause-ok : goal.append_members-returns-in_err-extend_from_slice-clause-ok
+append_members-returns-in_err-extend_from_slice-clause-ok g t c = IfOk-from_err c.from_residual-in_err-extend_from_slice.result _ c.from_residual-in_err-extend_from_slice.ensures.0
+
+pub append_members-returns-in_err-extend_from_slice-clause-kept : goal.append_members-returns-in_err-extend_from_slice-clause-kept
+append_members-returns-in_err-extend_from_slice-clause-kept g t c = ap (take (length c.args.out.now.items)) c.in_err-extend_from_slice.ensures.items ∙ c.loop-key.invariant.kept
+
+pub append_members-returns-in_err-quote-clause-ok : goal.append_members-returns-in_err-quote-clause-ok
+append_members-returns-in_err-quote-clause-ok g t c = IfOk-from_err c.from_residual-in_err-quote.result _ c.from_residual-in_err-quote.ensures.0
+
+pub append_members-returns-in_err-quote-clause-kept : goal.append_members-returns-in_err-quote-clause-kept
+append_members-returns-in_err-quote-clause-kept g t c = ap (take (length c.args.out.now.items)) c.in_err-quote.ensures.err.1 ∙ kept_more c.args.out.now.items _ _ _ c.loop-key.invariant.kept c.in_ok-extend_from_slice.ensures.items
+
+pub append_members-returns-in_err-push-2-clause-ok : goal.append_members-returns-in_err-push-2-clause-ok
+append_members-returns-in_err-push-2-clause-ok g t c = IfOk-from_err c.from_residual-in_err-push-2.result _ c.from_residual-in_err-push-2.ensures.0
+
+pub append_members-returns-in_err-push-2-clause-kept : goal.append_members-returns-in_err-push-2-clause-kept
+append_members-returns-in_err-push-2-clause-kept g t c = ap (take (length c.args.out.now.items)) c.in_err-push-2.ensures.items ∙ kept_more c.args.out.now.items _ _ _ (kept_more c.args.out.now.items _ _ _ c.loop-key.invariant.kept c.in_ok-extend_from_slice.ensures.items) c.in_ok-quote.ensures.ok
+
+pub append_members-returns-in_err-append_document-clause-ok : goal.append_members-returns-in_err-append_document-clause-ok
+append_members-returns-in_err-append_document-clause-ok g t c = IfOk-from_err c.from_residual-in_err-append_document.result _ c.from_residual-in_err-append_document.ensures.0
+
+pub append_members-returns-in_err-push-3-clause-ok : goal.append_members-returns-in_err-push-3-clause-ok
+append_members-returns-in_err-push-3-clause-ok g t c = IfOk-from_err c.from_residual-in_err-push-3.result _ c.from_residual-in_err-push-3.ensures.0
+
+pub append_members-returns-in_err-push-3-clause-kept : goal.append_members-returns-in_err-push-3-clause-kept
+append_members-returns-in_err-push-3-clause-kept g t c = ap (take (length c.args.out.now.items)) c.in_err-push-3.ensures.items ∙ c.loop-key.invariant.kept
+
+pub append_members-returns-clause-kept : goal.append_members-returns-clause-kept
+append_members-returns-clause-kept g t c = kept_more c.args.out.now.items _ _ _ c.loop-key.invariant.kept c.in_ok-push-3.ensures.items

@@ -88,7 +88,7 @@ parse_items-items-preserved t c =
     let taken = c.in_ok-item.ensures in
     let left = count_in s - (l.pos + 1) in
     let more : count_in s - l.pos ≡ suc left = omega arith in
-    let d = c.in_ok-item.item in (
+    let d = c.in_ok-item.field-0 in (
       l.invariant.0 + taken.count,
       l.invariant.1 ∙ items_turn (tree_of c.args.depth) (values_read c.args.depth) (elem_in s) l.found.items d l.invariant.0 taken.count l.pos (count_in s - l.pos) left (jsonb_value c.in_ok-value.value) more (sym c.in_ok-value.ensures) taken.found_is
           ∙ ap (λ ds. after_items ds (l.invariant.0 + taken.count) (items (tree_of c.args.depth) (elem_in s) (l.pos + 1) left)) (sym c.in_ok-push.ensures.items),
@@ -131,20 +131,19 @@ parse_members-returns-in_err-value t c =
     exits (λ m. members_view m.entries) _ _ _ _ _ _ c.from_residual-in_err-value.ensures
     (fails_as_found _ _ _ _ (l.invariant.1 ∙ members_no_entry (tree_of c.args.depth) (values_read c.args.depth) (object_key s) (elem_in s) (members_view l.found.entries) c.in_ok-bytes.bytes.now l.invariant.0 l.pos (count_in s - l.pos) (count_in s - l.pos - 1) _ (omega arith) (sym c.in_ok-bytes.ensures) (sym c.in_err-value.ensures)))
 
-pub parse_members-returns-in_err-name : goal.parse_members-returns-in_err-name
-parse_members-returns-in_err-name t c =
+pub parse_members-returns-in-Err : goal.parse_members-returns-in-Err
+parse_members-returns-in-Err t c =
     let l = c.members in
     let s = jsonb_value c.args.object.now in
-    exits (λ m. members_view m.entries) _ _ _ _ _ _ c.from_residual-in_err-name.ensures
-    (fails_from _ _ _ (utf8 c.in_ok-bytes.bytes.now) _ c.in_err-name.ensures (λ failed. l.invariant.1
-    ∙ members_no_text (tree_of c.args.depth) (values_read c.args.depth) (object_key s) (elem_in s) (members_view l.found.entries) c.in_ok-bytes.bytes.now l.invariant.0 l.pos (count_in s - l.pos) (count_in s - l.pos - 1) (jsonb_value c.in_ok-value.value) _ (omega arith) (sym c.in_ok-bytes.ensures) (sym c.in_ok-value.ensures) failed))
+    fails_from _ _ _ (utf8 c.in_ok-bytes.bytes.now) _ c.in-Err.ensures (λ failed. l.invariant.1
+    ∙ members_no_text (tree_of c.args.depth) (values_read c.args.depth) (object_key s) (elem_in s) (members_view l.found.entries) c.in_ok-bytes.bytes.now l.invariant.0 l.pos (count_in s - l.pos) (count_in s - l.pos - 1) (jsonb_value c.in_ok-value.value) _ (omega arith) (sym c.in_ok-bytes.ensures) (sym c.in_ok-value.ensures) failed)
 
 pub parse_members-returns-in_err-member : goal.parse_members-returns-in_err-member
 parse_members-returns-in_err-member t c =
     let l = c.members in
     let s = jsonb_value c.args.object.now in
     exits (λ m. members_view m.entries) _ _ _ _ _ _ c.from_residual-in_err-member.ensures
-    (rw (l.invariant.1, l.invariant.3) (members_fail (tree_of c.args.depth) (values_read c.args.depth) (object_key s) (elem_in s) (members_view l.found.entries) c.in_ok-bytes.bytes.now (string_bytes c.in_ok-name.name) l.invariant.0 l.pos (count_in s - l.pos) (count_in s - l.pos - 1) l.budget _ (jsonb_value c.in_ok-value.value) _ (omega arith) (sym c.in_ok-bytes.ensures) (sym c.in_ok-value.ensures) c.in_ok-name.ensures l.invariant.2 c.in_err-member.ensures))
+    (rw (l.invariant.1, l.invariant.3) (members_fail (tree_of c.args.depth) (values_read c.args.depth) (object_key s) (elem_in s) (members_view l.found.entries) c.in_ok-bytes.bytes.now (string_bytes c.in-Ok.name) l.invariant.0 l.pos (count_in s - l.pos) (count_in s - l.pos - 1) l.budget _ (jsonb_value c.in_ok-value.value) _ (omega arith) (sym c.in_ok-bytes.ensures) (sym c.in_ok-value.ensures) c.in-Ok.ensures l.invariant.2 c.in_err-member.ensures))
 
 pub parse_members-returns-in_err-set_member : goal.parse_members-returns-in_err-set_member
 parse_members-returns-in_err-set_member t c = exits (λ m. members_view m.entries) _ _ _ _ _ _ c.from_residual-in_err-set_member.ensures (rw c.in_err-set_member.ensures.err tt)
@@ -156,15 +155,15 @@ parse_members-members-preserved t c =
     let taken = c.in_ok-member.ensures in
     let left = count_in s - (l.pos + 1) in
     let more : count_in s - l.pos ≡ suc left = omega arith in
-    let d = c.in_ok-member.member in
+    let d = c.in_ok-member.field-0 in
     let old = members_view l.found.entries in
-    let inserted : members_view c.set_member.new.members.entries ≡ put (string_bytes c.in_ok-name.name) (view d) old =
-    ap members_view c.in_ok-set_member.ensures.ok ∙ members_view-insert_entry l.found.entries c.in_ok-name.name d in (
+    let inserted : members_view c.set_member.new.members.entries ≡ put (string_bytes c.in-Ok.name) (view d) old =
+    ap members_view c.in_ok-set_member.ensures.ok ∙ members_view-insert_entry l.found.entries c.in-Ok.name d in (
       l.invariant.0 + taken.count,
-      l.invariant.1 ∙ members_turn (tree_of c.args.depth) (values_read c.args.depth) (object_key s) (elem_in s) old (view d) c.in_ok-bytes.bytes.now (string_bytes c.in_ok-name.name) l.invariant.0 taken.count l.pos (count_in s - l.pos) left (jsonb_value c.in_ok-value.value) more (sym c.in_ok-bytes.ensures) (sym c.in_ok-value.ensures) c.in_ok-name.ensures taken.found_is
+      l.invariant.1 ∙ members_turn (tree_of c.args.depth) (values_read c.args.depth) (object_key s) (elem_in s) old (view d) c.in_ok-bytes.bytes.now (string_bytes c.in-Ok.name) l.invariant.0 taken.count l.pos (count_in s - l.pos) left (jsonb_value c.in_ok-value.value) more (sym c.in_ok-bytes.ensures) (sym c.in_ok-value.ensures) c.in-Ok.ensures taken.found_is
           ∙ ap (λ ms. after_members (l.invariant.0 + taken.count) (member_trees (tree_of c.args.depth) (object_key s) (elem_in s) (l.pos + 1) left ms)) (sym inserted),
       omega (arith, taken.taken, l.invariant.2),
-      l.invariant.3 ∙ members_read_turn (tree_of c.args.depth) (values_read c.args.depth) (object_key s) (elem_in s) (view d) c.in_ok-bytes.bytes.now (string_bytes c.in_ok-name.name) l.invariant.0 taken.count l.pos (count_in s - l.pos) left (jsonb_value c.in_ok-value.value) (counts c.args.depth (jsonb_value c.in_ok-value.value)) more (sym c.in_ok-bytes.ensures) (sym c.in_ok-value.ensures) c.in_ok-name.ensures taken.found_is,
+      l.invariant.3 ∙ members_read_turn (tree_of c.args.depth) (values_read c.args.depth) (object_key s) (elem_in s) (view d) c.in_ok-bytes.bytes.now (string_bytes c.in-Ok.name) l.invariant.0 taken.count l.pos (count_in s - l.pos) left (jsonb_value c.in_ok-value.value) (counts c.args.depth (jsonb_value c.in_ok-value.value)) more (sym c.in_ok-bytes.ensures) (sym c.in_ok-value.ensures) c.in-Ok.ensures taken.found_is,
     )
 
 pub parse_members-returns : goal.parse_members-returns

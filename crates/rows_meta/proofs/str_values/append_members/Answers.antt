@@ -1,8 +1,38 @@
-use Rattle.std.proofs.Common.{◌≡◌, sym, map, length, take}
+use Rattle.std.proofs.Common.{◌≡◌, [], ◌∙◌, refl, sym, ap, le_refl, map, length, take}
 use Rattle.std.proofs.lemmas.List.{take_all, length-map}
+use Rattle.std.proofs.lemmas.Result.{IfOk-from_err, err_from_is_err_and}
 use Rattle.rows_meta.specs.MetadataViews.{value_view}
-use Rattle.rows_meta.proofs.MemberWriteLemmas.{member_written, members_written}
+use Rattle.rows_meta.proofs.MemberWriteLemmas.{member_written, members_written, members_kept, strings_none}
 use Rattle.rows_meta.proofs.str_values.append_members.Goals as goal
+
+pub returns-in_err-put_lenenc_int-clause-ok : goal.returns-in_err-put_lenenc_int-clause-ok
+returns-in_err-put_lenenc_int-clause-ok g c = IfOk-from_err c.from_residual.result _ c.from_residual.ensures.0
+
+pub returns-in_err-put_lenenc_int-clause-err : goal.returns-in_err-put_lenenc_int-clause-err
+returns-in_err-put_lenenc_int-clause-err g c =
+    let p = err_from_is_err_and c.from_residual.result c.from_residual.ensures.1 in
+    rw p.1 (p.2 ∙ c.in_err-put_lenenc_int.ensures.err.0)
+
+pub returns-in_err-put_lenenc_int-clause-kept : goal.returns-in_err-put_lenenc_int-clause-kept
+returns-in_err-put_lenenc_int-clause-kept g c = rw c.in_err-put_lenenc_int.ensures.err.1 (take_all _ _ (le_refl _))
+
+pub loop-value-init : goal.loop-value-init
+loop-value-init g c = strings_none [] _ refl
+
+pub returns-in_err-put_lenenc_str-clause-ok : goal.returns-in_err-put_lenenc_str-clause-ok
+returns-in_err-put_lenenc_str-clause-ok g c = IfOk-from_err c.from_residual-in_err-put_lenenc_str.result _ c.from_residual-in_err-put_lenenc_str.ensures.0
+
+pub returns-in_err-put_lenenc_str-clause-err : goal.returns-in_err-put_lenenc_str-clause-err
+returns-in_err-put_lenenc_str-clause-err g c =
+    let p = err_from_is_err_and c.from_residual-in_err-put_lenenc_str.result c.from_residual-in_err-put_lenenc_str.ensures.1 in
+    rw p.1 (p.2 ∙ c.in_err-put_lenenc_str.ensures.err.0)
+
+pub returns-in_err-put_lenenc_str-clause-kept : goal.returns-in_err-put_lenenc_str-clause-kept
+returns-in_err-put_lenenc_str-clause-kept g c =
+    ap (take _) c.in_err-put_lenenc_str.ensures.err.1 ∙ members_kept _ _ _ _ _ c.in_ok-put_lenenc_int.ensures.ok c.loop-value.invariant
+
+pub returns-clause-kept : goal.returns-clause-kept
+returns-clause-kept g c = members_kept _ _ _ _ _ c.in_ok-put_lenenc_int.ensures.ok c.loop-value.invariant
 
 pub loop-value-preserved : goal.loop-value-preserved
 loop-value-preserved g c =

@@ -1,7 +1,7 @@
 use Rattle.std.proofs.Common.{◌≡◌, ◌∙◌, ◌++◌, ◌⊎◌, inl, inr, List, ℕ, [], sym, ap, None}
 use Rattle.std.proofs.lemmas.List.{append-nil}
 use Rattle.wire_buf.specs.declared.fault.WireFault.TheVariants.{Memory, Form}
-use Rattle.wire_forms.proofs.StreamLemmas.{IfErr-same}
+use Rattle.wire_more_forms.proofs.StreamLemmas.{IfErr-same}
 use Rattle.wire_more_forms.proofs.laws.read_back.Goals as goal
 
 pub returns-in_err-serialize-clause-err : goal.returns-in_err-serialize-clause-err

@@ -2,7 +2,7 @@ use Rattle.std.proofs.Common.{◌≡◌, ◌+◌, ◌-◌, suc, add-one, arith, 
 use Rattle.wire_buf.specs.Encoding.{Alone}
 use Rattle.wire_buf.specs.declared.fault.WireFault.TheVariants.{Memory}
 use Rattle.wire_buf.proofs.EncodingLemmas.{Sequence-more, Sequence-lacks, Sequence-lacks_more, IfErr-of_lack, IfErr-of_same}
-use Rattle.wire_forms.proofs.SequenceLemmas.{next_failed, next_unstored}
+use Rattle.wire_more_forms.proofs.SequenceLemmas.{next_failed, next_unstored}
 use Rattle.wire_more_forms.proofs.raw_seq.read_numbers.Goals as goal
 
 pub returns-in_err-number-clause-err : goal.returns-in_err-number-clause-err

@@ -3,8 +3,8 @@ use Rattle.std.specs.Bool.{⊤}
 use Rattle.wire_buf.specs.Encoding.{Alone}
 use Rattle.wire_buf.specs.Writing.{WriteFails}
 use Rattle.wire_buf.proofs.WritingLemmas.{writes_field}
-use Rattle.wire_forms.specs.Sequences.{joined_encoded}
-use Rattle.wire_forms.proofs.SequenceLemmas.{row_none, row_step, row_failed, IfErr-known, OnErr-known}
+use Rattle.wire_more_forms.specs.Sequences.{joined_encoded}
+use Rattle.wire_more_forms.proofs.SequenceLemmas.{row_none, row_step, row_failed, IfErr-known, OnErr-known}
 use Rattle.wire_more_forms.proofs.SequenceBytewiseLemmas.{sequence_bytewise}
 use Rattle.wire_more_forms.proofs.raw_seq.write_numbers.Goals as goal
 

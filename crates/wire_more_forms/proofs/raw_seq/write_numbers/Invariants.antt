@@ -1,6 +1,6 @@
 use Rattle.std.proofs.Common.{map, take}
 use Rattle.wire_buf.specs.Encoding.{Alone}
-use Rattle.wire_forms.proofs.SequenceLemmas.{WritesSequence}
+use Rattle.wire_more_forms.proofs.SequenceLemmas.{WritesSequence}
 use Rattle.wire_more_forms.proofs.raw_seq.write_numbers.Given as goal
 
 abbrev pub invariant-loop-number : goal.invariant-loop-number

@@ -1,6 +1,7 @@
+use Rattle.std.proofs.lemmas.Result.{IfOk-from_err}
 use Rattle.std.proofs.Common.{◌≡◌, ◌++◌, List, [], ◌∷◌, map, Option, Some, ap, sym, subst, ◌∙◌, append_assoc}
 use Rattle.std.proofs.lemmas.List.{map-append}
-use Rattle.std.proofs.lemmas.List.Elements.{All-tail}
+use Rattle.std.proofs.lemmas.List.Elements.{All-head, All-tail}
 use Rattle.std.specs.Prelude.{All, IsSome}
 use Rattle.rows_events.proofs.binlog_row.BinlogRow.unwrap.Goals as goal
 
@@ -15,3 +16,18 @@ loop-value-preserved c = record {
   values_are = rw c.in_ok-push.ensures.items (one_more c.loop-value.values.items c.unwrap.result c.in-Some.value _ _ _ c.loop-value.invariant.values_are c.in-Some.ensures.steps.0 c.unwrap.ensures);
   none_taken = All-tail IsSome _ _ (subst (All IsSome) c.in-Some.ensures.steps.0 c.loop-value.invariant.none_taken);
 }
+
+pub returns-in_err-values : goal.returns-in_err-values
+returns-in_err-values c = IfOk-from_err c.from_residual.result _ c.from_residual.ensures.0
+
+pub returns-in_err-push : goal.returns-in_err-push
+returns-in_err-push c = IfOk-from_err c.from_residual-in_err-push.result _ c.from_residual-in_err-push.ensures.0
+
+pub loop-value-init : goal.loop-value-init
+loop-value-init c = record {
+  values_are = rw c.in_ok-values.ensures.items c.into_iter-value-iterator.ensures.into_iter_gives.0;
+  none_taken = rw c.into_iter-value-iterator.ensures.into_iter_gives.0 c.requires;
+}
+
+pub unwrap-requires : goal.unwrap-requires
+unwrap-requires c = All-head IsSome _ _ (subst (All IsSome) c.in-Some.ensures.steps.0 c.loop-value.invariant.none_taken)

@@ -1,4 +1,5 @@
-use Rattle.std.proofs.Common.{ℕ, ◌+◌, drop, sym, ap, ◌∙◌}
+use Rattle.std.proofs.Common.{ℕ, ◌≡◌, ◌+◌, ◌<◌, ◌≤◌, Bool, true, false, List, ◌∷◌, length, drop, sym, ap, ◌∙◌, arith}
+use Rattle.std.specs.Bool.{if◌then◌else◌}
 use Rattle.wire_consts.specs.ColumnTypes.{is_numeric, is_character, is_enum_or_set}
 use Rattle.rows_meta.specs.MetadataViews.{signs_left, charset_left, remaining_names}
 use Rattle.rows_meta.specs.Served.{first_item}
@@ -7,6 +8,38 @@ use Rattle.rows_events.specs.Plans.{is_next, is_json, keys_after, after_column, 
 use Rattle.rows_events.specs.PlanViews.{name_or_empty}
 use Rattle.rows_events.proofs.WalkLemmas.{none_left, at_prefix, after_prefix, known, sign_told, charset_told, name_passed, name_failed, none_failed, type_failed, charset_failed, column_name_failed, key_failed, column_given, count_next, signs_moved, charsets_moved, one_kind}
 use Rattle.rows_events.proofs.walk.ColumnWalk.next_column.Goals as goal
+
+index_fits : (n i : ℕ) → n ≤ i → i < 4294967296 → n < 4294967296
+index_fits n i h f = omega arith
+
+sum_fits : (b : Bool) (n d i : ℕ) → n ≤ i → i < 4294967296 → d ≡ (if b then 1 else 0) → n + d < 18446744073709551616
+sum_fits true n d i h f e = omega arith
+sum_fits false n d i h f e = omega arith
+
+counts_one : (b : Bool) (n d i : ℕ) → n ≤ i → d ≡ (if b then 1 else 0) → n + d ≤ i + 1
+counts_one true n d i h e = omega arith
+counts_one false n d i h e = omega arith
+
+one_fewer : {A : Type 0} (before after : List A) (x : A) → before ≡ x ∷ after → length after < length before
+one_fewer before after x e = rw e (omega arith)
+
+still_below : (n i : ℕ) → n ≤ i → n ≤ i + 1
+still_below n i h = omega arith
+
+pub returns-in_default-clause-json : goal.returns-in_default-clause-json
+returns-in_default-clause-json c = still_below _ _ c.requires
+
+pub returns-in_default-real_type-clause-json : goal.returns-in_default-real_type-clause-json
+returns-in_default-real_type-clause-json c = still_below _ _ c.requires
+
+pub returns-in-Err-clause-json : goal.returns-in-Err-clause-json
+returns-in-Err-clause-json c = still_below _ _ c.requires
+
+pub returns-in-Err-next_name-clause-json : goal.returns-in-Err-next_name-clause-json
+returns-in-Err-next_name-clause-json c = still_below _ _ c.requires
+
+pub returns-in-Err-next_key-clause-json : goal.returns-in-Err-next_key-clause-json
+returns-in-Err-next_key-clause-json c = still_below _ _ c.requires
 
 pub returns-in_default-clause-takes : goal.returns-in_default-clause-takes
 returns-in_default-clause-takes c = λ t at. none_failed t c.args.column_index (none_left t.columns c.args.column_index (sym at.columns ∙ c.in_default.ensures.0))
@@ -69,3 +102,15 @@ returns-clause-takes c = λ t at.
         json = ap (λ (n : ℕ). n + c.json_documents.result) at.json ∙ ap (λ (n : ℕ). count_before is_json t i + n) c.json_documents.ensures ∙ sym (count_next is_json t i column real k);
       },
     )
+
+pub overflow_cast-image : goal.overflow_cast-image
+overflow_cast-image c = record { fits = index_fits _ _ c.requires c.ranges.column_index.fits }
+
+pub overflow_add-self : goal.overflow_add-self
+overflow_add-self c = record { fits = sum_fits (is_json c.in-Ok.real_type) _ _ _ c.requires c.ranges.column_index.fits c.json_documents.ensures }
+
+pub returns-clause-json : goal.returns-clause-json
+returns-clause-json c = counts_one (is_json c.in-Ok.real_type) _ _ _ c.requires c.json_documents.ensures
+
+pub returns-clause-fewer : goal.returns-clause-fewer
+returns-clause-fewer c = one_fewer _ _ _ c.in-Some.ensures

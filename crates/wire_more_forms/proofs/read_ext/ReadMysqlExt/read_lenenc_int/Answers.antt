@@ -3,7 +3,7 @@ use Rattle.wire_buf.specs.Encoding.{Alone}
 use Rattle.wire_buf.specs.Numbers.{IsLenenc, two, three, eight}
 use Rattle.wire_more_forms.specs.Streams.{FailsFrom}
 use Rattle.wire_more_forms.proofs.LenencStreamLemmas.{single, reads_one, reads_tail, two_short, three_short, eight_short, fails_bad, fails_tail}
-use Rattle.wire_forms.proofs.StreamLemmas.{IfErr-same}
+use Rattle.wire_more_forms.proofs.StreamLemmas.{IfErr-same}
 use Rattle.wire_more_forms.proofs.read_ext.ReadMysqlExt.read_lenenc_int.Goals as goal
 
 pub returns-then-first-le250-clause-ok : goal.returns-then-first-le250-clause-ok

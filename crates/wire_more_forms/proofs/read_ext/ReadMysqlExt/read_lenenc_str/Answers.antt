@@ -3,7 +3,7 @@ use Rattle.wire_buf.specs.Encoding.{Alone}
 use Rattle.wire_buf.specs.Numbers.{IsLenencString}
 use Rattle.wire_buf.specs.Transfers.{Gathers}
 use Rattle.wire_more_forms.specs.Streams.{FailsFrom, RunsOutOfMemory}
-use Rattle.wire_forms.proofs.StreamLemmas.{IfErr-same}
+use Rattle.wire_more_forms.proofs.StreamLemmas.{IfErr-same}
 use Rattle.wire_more_forms.proofs.LenencStreamLemmas.{fails_string, reads_string, fails_cut}
 use Rattle.wire_more_forms.proofs.read_ext.ReadMysqlExt.read_lenenc_str.Goals as goal
 
