@@ -6,12 +6,8 @@ use crate::words::{
     Fault, byte_of, bytes_of, done, number_of, put_bytes, put_error, put_number, put_rest, put_text,
 };
 use feed_text::{TextBuffer, put_cell_ref};
-use rows_cells::{
-    CellFormat, CellRef, Width, read_bytes, read_cell, read_datetime, read_signed, read_time,
-    read_unsigned, split_decimal,
-};
-use rows_images::{ImageCells, ImageColumn, ImagePlan};
-use rows_values::RowsError;
+use rows_cells::{CellFormat, CellRef, ImageCells, ImageColumn, ImagePlan, Width, read_bytes, read_cell, read_datetime, read_signed, read_time, read_unsigned, split_decimal};
+use rows_errors::RowsError;
 use std::alloc::Global;
 use std::io::Write;
 

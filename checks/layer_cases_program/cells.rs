@@ -3,8 +3,9 @@
 use crate::words::{Fault, bytes_of, done, only_bytes_of, put_rest, put_type};
 use feed_text::{put_value, quote};
 use rows_cells::{BinlogValue, BinlogValueCtx};
+use rows_errors::RowsError;
 use rows_jsonb::{JsonDom, JsonOpaque, JsonScalar, Value as JsonbValue};
-use rows_values::{RowsError, Value};
+use rows_values::Value;
 use std::alloc::Global;
 use std::io::Write;
 use wire_buf::ParseBuf;

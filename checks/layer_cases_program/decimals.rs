@@ -4,7 +4,8 @@ use crate::words::{
     Fault, byte_of, bytes_of, done, only_bytes_of, put_bytes, put_error, put_rest, put_text,
 };
 use feed_text::put_decimal;
-use rows_values::{Decimal, ParseDecimalError, RowsError, decimal_numbers, put_decimal_text};
+use rows_errors::RowsError;
+use rows_values::{Decimal, ParseDecimalError, decimal_numbers, put_decimal_text};
 use std::alloc::Global;
 use std::io::Write;
 use std::str;

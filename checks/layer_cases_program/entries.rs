@@ -1,12 +1,12 @@
 //! The parts of the optional metadata as fields: read, and written in their shortest encoding.
 
 use crate::words::{Fault, bytes_of, put_bytes, put_rest};
+use rows_errors::RowsError;
 use rows_meta::{
     ColumnCharsets, ColumnName, ColumnNames, DefaultCharset, EnumStrValue, EnumStrValues,
     EnumsStrValues, GeometryTypes, NonDefaultCharset, PrimaryKeyWithPrefix, PrimaryKeysWithPrefix,
     SetStrValue, SetStrValues, SetsStrValues, SimplePrimaryKey, VectorDimensionalities,
 };
-use rows_values::RowsError;
 use std::alloc::Global;
 use wire_buf::{MyDeserialize, MySerialize, ParseBuf};
 

@@ -4,9 +4,9 @@ use crate::event_readers::put_state;
 use crate::event_words::{put_debug, put_field, put_unless};
 use crate::words::{Fault, bytes_of, only_bytes_of, put_text, put_written};
 use events_frames::{
-    BinlogEventHeader, EventError, EventParts, FormatDescriptionEvent, XidEvent, calc_checksum,
+    BinlogEventHeader, EventError, EventParts, EventStreamReader, FormatDescriptionEvent, XidEvent,
+    calc_checksum,
 };
-use events_reader::EventStreamReader;
 use events_stream::{BinlogFile, Event, EventData, write_event};
 use rows_consts::{BinlogChecksumAlg, BinlogVersion};
 use std::alloc::Global;

@@ -2,8 +2,7 @@
 
 use crate::event_words::{put_field, put_unless};
 use crate::words::{Fault, bytes_of, put_text};
-use events_frames::{EventError, EventParts};
-use events_reader::EventStreamReader;
+use events_frames::{EventError, EventParts, EventStreamReader};
 use events_stream::ReadEvents;
 use feed_text::quote;
 use rows_consts::BinlogVersion;

@@ -10,9 +10,9 @@ use events_rows::{
     DeleteRows, DeleteRowsV1, PartialUpdateRows, RowsEventData, RowsEventOf, RowsKind, UpdateRows,
     UpdateRowsV1, WriteRows, WriteRowsV1,
 };
+use rows_errors::RowsError;
 use rows_events::{BinlogRow, ColumnPlan, RowsEvent, RowsEventRows, RowsEventType};
-use rows_meta::TableMapEvent;
-use rows_values::{Bits, RowsError};
+use rows_meta::{Bits, TableMapEvent};
 use std::alloc::{AllocError, Global};
 
 impl<'a> Body<'a> for TableMapEvent<'a> {

@@ -6,9 +6,9 @@ use events_frames::QueryTexts;
 use feed_changes::{
     Change, ChangeLog, CommittedTransaction, Filter, OwnedTransaction, Stop, TableRows, What,
 };
-use feed_kinds::{Gtid, Verdict};
+use feed_events::{Gtid, Verdict};
 use feed_text::{put_cell_ref, quote};
-use rows_images::RowPart;
+use rows_cells::RowPart;
 use std::alloc::Global;
 use std::io::{self, ErrorKind, Read, Write};
 use wire_buf::Watched;

@@ -5,11 +5,11 @@ use crate::words::{
     put_text, put_type,
 };
 use feed_text::put_json;
+use rows_errors::RowsError;
 use rows_jsonb::{
     Array, ComplexValue, JsonDiffOperation, JsonbString, JsonbType, Large, LiteralType, Object,
     ObjectKey, OpaqueValue, Small, StorageFormat, Value,
 };
-use rows_values::RowsError;
 use std::alloc::Global;
 use std::borrow::CowSlice;
 use std::fmt::Debug;

@@ -3,13 +3,13 @@
 use crate::words::{
     Fault, bytes_of, done, put_bits, put_error, put_item, put_name, put_number, put_text,
 };
+use rows_errors::RowsError;
 use rows_meta::{
-    ColumnCharsets, ColumnName, ColumnNames, ColumnsStrValues, DefaultCharset, GeometryTypes,
+    Bits, ColumnCharsets, ColumnName, ColumnNames, ColumnsStrValues, DefaultCharset, GeometryTypes,
     IterCharset, IterNames, IterPrimaryKey, IterSignedness, OptionalMetaExtractor,
     OptionalMetadataField as Field, OptionalMetadataIter, PrimaryKeysWithPrefix, SimplePrimaryKey,
     StrValues, VectorDimensionalities,
 };
-use rows_values::{Bits, RowsError};
 use std::alloc::Global;
 use std::io::Write;
 

@@ -4,8 +4,9 @@ use crate::tables::{event_of, event_type_of};
 use crate::words::{
     Fault, bytes_of, done, put_bits, put_bytes, put_number, put_text, put_written, small_len_of,
 };
+use rows_errors::RowsError;
 use rows_events::{RowsEvent, RowsEventType};
-use rows_values::{Bits, RowsError};
+use rows_meta::Bits;
 use std::alloc::Global;
 use std::io::Write;
 use wire_buf::MySerialize;

@@ -4,13 +4,12 @@ use crate::owned_rows::put_cells;
 use crate::tables::{event_of, map_of, parsed_map};
 use crate::wire_words::len_of;
 use crate::words::{Fault, bytes_of, done, put_bytes, put_number, put_rest, put_text, put_type};
-use rows_cells::CellRef;
+use rows_cells::{CellRef, RowPart};
 use rows_events::{
     BinlogRow, BinlogRowCtx, ColumnPlan, EventColumns, ImageColumns, RowImage, RowsEvent,
 };
-use rows_images::RowPart;
-use rows_meta::TableMapEvent;
-use rows_values::{Bits, Column};
+use rows_meta::{Bits, TableMapEvent};
+use rows_values::Column;
 use std::alloc::Global;
 use std::io::Write;
 use wire_buf::ParseBuf;

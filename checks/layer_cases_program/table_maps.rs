@@ -6,9 +6,10 @@ use crate::words::{
     small_len_of,
 };
 use feed_text::quote;
+use rows_errors::RowsError;
 use rows_events::{ColumnPlan, RowsEvent};
 use rows_meta::TableMapEvent;
-use rows_values::{Column, RowsError};
+use rows_values::Column;
 use std::alloc::Global;
 use std::io::Write;
 use wire_buf::{MySerialize, ParseBuf};

@@ -2,7 +2,9 @@
 
 use events_frames::EventError;
 use feed_text::quote;
-use rows_values::{Bits, ParseDecimalError, RowsError};
+use rows_errors::RowsError;
+use rows_meta::Bits;
+use rows_values::ParseDecimalError;
 use std::alloc::{AllocError, AllocFailed, Global};
 use std::borrow::CowStr;
 use std::io::{self, Write};

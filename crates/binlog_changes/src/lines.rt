@@ -4,7 +4,7 @@ use changes_commands::put_gtid;
 use events_frames::{BinlogEventHeader, QueryTexts};
 use feed_changes::{Change, CommittedTransaction, TableRows, What};
 use feed_json::{RowReader, RowText, ShownTables, Text, change_name};
-use rows_values::RowsError;
+use rows_errors::RowsError;
 use std::alloc::{AllocError, Global};
 
 /// The lines so far that aren't written yet.

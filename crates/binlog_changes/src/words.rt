@@ -2,8 +2,8 @@
 
 use changes_commands::{advice, meaning, put_type};
 use feed_changes::Stop;
+use feed_events::{Verdict, name_of};
 use feed_json::Text;
-use feed_kinds::{Verdict, name_of};
 use rows_consts::EventType;
 
 /// The transactions of a log that the options select.

@@ -3,8 +3,8 @@ use Rattle.std.proofs.Common.{ℕ, Bool, true, false, List, []}
 use Rattle.feed_rules.specs.Laws.{Each, IsCompleteAtEvent}
 use Rattle.feed_rules.specs.Rules.{good, rules, shown}
 use Rattle.binlog_feed.proofs.WholeLemmas.{all-whole}
-use Rattle.feed_checks.specs.Events.{has_magic_number}
-use Rattle.feed_reports.specs.Reports.{file_events, file_transactions}
+use Rattle.feed_events.specs.LogFormat.{has_magic_number}
+use Rattle.feed_rules.specs.Reports.{file_events, file_transactions}
 
 -- a file without its magic number shows nothing
 shown_if : (f : List ℕ → ℕ) (b : List ℕ) (is : Bool) → Each (IsCompleteAtEvent (good (rules f) (file_events b))) (elim is [ true ↦ shown (rules f) (file_events b) | false ↦ [] ])

@@ -1,7 +1,7 @@
 -- What the kinds of earlier events imply.
 use Rattle.std.proofs.Common.{◌≡◌, true, List, [], ◌∷◌, None, refl, ap, ◌∙◌}
-use Rattle.feed_kinds.specs.Words.{before_newest}
-use Rattle.feed_kinds.specs.Kinds.{Kind, Format, NextGtid, Begin, Commit, Rollback, Statement, Map, Rows, RealRotate, Ignored, Unshown, Unknown, BadBody, open_change, is_inside, is_begin, since_begin}
+use Rattle.feed_events.specs.Words.{before_newest}
+use Rattle.feed_events.specs.Kinds.{Kind, Format, NextGtid, Begin, Commit, Rollback, Statement, Map, Rows, RealRotate, Ignored, Unshown, Unknown, BadBody, open_change, is_inside, is_begin, since_begin}
 use Rattle.feed_rules.specs.Laws.{IsOpen}
 
 -- one more kind of a transaction that is open

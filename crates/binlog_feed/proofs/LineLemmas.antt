@@ -3,19 +3,19 @@ use Rattle.std.proofs.Common.{◌≡◌, ◌⊎◌, inl, inr, ℕ, suc, ◌<◌,
 use Rattle.std.specs.Prelude.{◌==◌, Result}
 use Rattle.std.proofs.lemmas.List.{length-map}
 use Rattle.wire_buf.specs.Encoding.{Alone}
-use Rattle.rows_images.specs.Images.{ColumnValue, ImageShape}
-use Rattle.rows_images.specs.EventRows.{IsEventRow, row_at}
-use Rattle.rows_images.proofs.RowLemmas.{row-is, row-here, row-shrinks}
+use Rattle.rows_cells.specs.Images.{ColumnValue, ImageShape}
+use Rattle.rows_cells.specs.EventRows.{IsEventRow, row_at}
+use Rattle.rows_cells.proofs.RowLemmas.{row-is, row-here, row-shrinks}
 use Rattle.rows_jsonb.specs.Items.{Walked, Finds, items_at}
-use Rattle.rows_values.specs.Readings.{Reading, ◌>>=◌}
+use Rattle.rows_errors.specs.Readings.{Reading, ◌>>=◌}
 use Rattle.rows_jsonb.proofs.ItemLemmas.{walk_done, walk_on, items-found}
-use Rattle.rows_values.specs.declared.fault.RowsError.{RowsError}
+use Rattle.rows_errors.specs.declared.fault.RowsError.{RowsError}
 use Rattle.rows_meta.specs.TableMaps.{TableMap}
 use Rattle.rows_events.specs.EventShapes.{event_rows, event_shapes, row_read}
 use Rattle.rows_events.specs.RowsEvents.{RowsBody}
-use Rattle.feed_kinds.specs.declared.verdict.Verdict.{Verdict}
-use Rattle.feed_rows.specs.Rows.{Row, change_of, image_texts, row_texts, value_or_none, walked_texts, texts_of_rows, rows_by, rows_result, rows_in, fault_in, plan_by}
-use Rattle.feed_kinds.specs.Kinds.{Kind, Rows, newest_map}
+use Rattle.feed_events.specs.declared.verdict.Verdict.{Verdict}
+use Rattle.feed_rules.specs.Rows.{Row, change_of, image_texts, row_texts, value_or_none, walked_texts, texts_of_rows, rows_by, rows_result, rows_in, fault_in, plan_by}
+use Rattle.feed_events.specs.Kinds.{Kind, Rows, newest_map}
 use Rattle.feed_rules.specs.Transactions.{Changed, lines_at}
 use Rattle.binlog_feed.specs.EventRows.{AreRowsOf}
 

@@ -2,13 +2,13 @@
 use Rattle.std.specs.Prelude.{◌≡◌, List}
 use Rattle.std.specs.declared.result.Result.TheVariants.{Ok}
 use Rattle.wire_buf.specs.Encoding.{Alone}
-use Rattle.rows_images.specs.EventRows.{IsEventRow, row_at}
-use Rattle.rows_images.specs.Images.{ImageShape}
+use Rattle.rows_cells.specs.EventRows.{IsEventRow, row_at}
+use Rattle.rows_cells.specs.Images.{ImageShape}
 use Rattle.rows_events.specs.EventShapes.{event_rows, event_shapes}
 use Rattle.rows_events.specs.RowsEvents.{RowsBody}
 use Rattle.rows_jsonb.specs.Items.{Finds}
 use Rattle.rows_meta.specs.TableMaps.{TableMap}
-use Rattle.feed_rows.specs.Rows.{plan_by}
+use Rattle.feed_rules.specs.Rows.{plan_by}
 
 -- the rows data is consecutive rows, each of images with the columns that the map and the event's bits state
 abbrev pub AreRowsOf : TableMap → RowsBody → Type 0

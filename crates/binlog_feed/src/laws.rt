@@ -7,31 +7,31 @@ ghost use Rattle.events_gtids.specs.Gtids.{GtidBody, IsGtid};
 ghost use Rattle.rows_events.specs.EventShapes.{event_rows};
 ghost use Rattle.rows_events.specs.RowsEvents.{RowsBody};
 ghost use Rattle.rows_meta.specs.TableMaps.{TableMap};
-ghost use Rattle.feed_kinds.specs.Bodies.{gtid_in, is_description_body};
-ghost use Rattle.feed_rows.specs.Rows.{plan_by, rows_result, rows_in, fault_in};
-ghost use Rattle.feed_kinds.specs.Kinds.{Kind, Rows, Begin, NextGtid, kinds, newest_map, since_begin, is_inside, is_waiting, waiting, Gtid};
+ghost use Rattle.feed_events.specs.Bodies.{gtid_in, is_description_body};
+ghost use Rattle.feed_rules.specs.Rows.{plan_by, rows_result, rows_in, fault_in};
+ghost use Rattle.feed_events.specs.Kinds.{Kind, Rows, Begin, NextGtid, kinds, newest_map, since_begin, is_inside, is_waiting, waiting, Gtid};
 ghost use Rattle.feed_rules.specs.Transactions.{lines_at, Line, Transaction};
 ghost use Rattle.binlog_feed.specs.EventRows.{AreRowsOf};
 ghost use Rattle.std.specs.List.{starts_with};
-ghost use Rattle.feed_kinds.specs.Events.{Event, in_force};
+ghost use Rattle.feed_events.specs.Events.{Event, in_force};
 ghost use Rattle.feed_rules.specs.Rules.{rules, good, shown, Rules};
 ghost use Rattle.feed_rules.specs.Texts.{line_text, begin_line, commit_line};
 ghost use Rattle.feed_rules.specs.Laws.{IsOpen, IsBetween, IsCompleteAtEvent, Each};
-ghost use Rattle.feed_checks.specs.Events.{events};
-ghost use Rattle.feed_reports.specs.Reports.{Report, file_events, file_transactions};
-ghost use Rattle.feed_kinds.specs.declared.verdict.Verdict.{Verdict};
-ghost use Rattle.feed_payloads.specs.Requests.{dump_request};
-ghost use Rattle.feed_payloads.specs.declared.format.PayloadFormat.{PayloadFormat as Format};
-ghost use Rattle.feed_serving.specs.Positions.{past_at, is_between_transactions};
-ghost use Rattle.feed_serving.specs.Serving.{answer};
-ghost use Rattle.feed_serving.specs.RequestedPackets.{served};
-ghost use Rattle.feed_serving.specs.Laws.{ServesTheFile, StopsAtDamage, IsOfTheFile};
+ghost use Rattle.feed_events.specs.LogFormat.{events};
+ghost use Rattle.feed_rules.specs.Reports.{Report, file_events, file_transactions};
+ghost use Rattle.feed_events.specs.declared.verdict.Verdict.{Verdict};
+ghost use Rattle.feed_streams.specs.Requests.{dump_request};
+ghost use Rattle.feed_streams.specs.declared.format.PayloadFormat.{PayloadFormat as Format};
+ghost use Rattle.feed_streams.specs.Positions.{past_at, is_between_transactions};
+ghost use Rattle.feed_streams.specs.Serving.{answer};
+ghost use Rattle.feed_streams.specs.RequestedPackets.{served};
+ghost use Rattle.feed_streams.specs.ServerLaws.{ServesTheFile, StopsAtDamage, IsOfTheFile};
 ghost use Rattle.wire_buf.specs.Encoding.{AreBytes};
-ghost use Rattle.feed_payloads.specs.Streams.{stream_transactions};
-ghost use Rattle.feed_runs.specs.declared.step.Step.{Step};
-ghost use Rattle.feed_runs.specs.Headline.{IsFollowable};
-ghost use Rattle.feed_runs.specs.Laws.{GivesTheRest};
-ghost use Rattle.feed_runs.specs.Runs.{run};
+ghost use Rattle.feed_streams.specs.Streams.{stream_transactions};
+ghost use Rattle.feed_streams.specs.declared.step.Step.{Step};
+ghost use Rattle.feed_streams.specs.Headline.{IsFollowable};
+ghost use Rattle.feed_streams.specs.AnswerLaws.{GivesTheRest};
+ghost use Rattle.feed_streams.specs.Runs.{run};
 ghost use Rattle.binlog_feed.specs.LastCommits.{EndsWithLastCommit};
 ghost use Rattle.binlog_feed.specs.Lines.{IsLine, HasLines};
 ghost use Rattle.binlog_feed.specs.LookingBack.{HasNewest, IsAnyGtid, IsMap, ends_transaction, takes_gtid, replaces_gtid, replaces_map};
@@ -53,9 +53,9 @@ pub use crate::worked_streams::{
 };
 pub use feed_kept::laws::commit_lines_are_read;
 pub use feed_kept::worked::worked_kept;
-pub use feed_rows::laws::plans_are_those_of_maps;
 pub use feed_rules::laws::{
-    first_events_show_the_first_transactions, what_came_before_does_not_matter,
+    first_events_show_the_first_transactions, plans_are_those_of_maps,
+    what_came_before_does_not_matter,
 };
 pub use feed_text::laws::{
     equal_quotes_are_of_equal_bytes, values_have_the_texts_of_cells,

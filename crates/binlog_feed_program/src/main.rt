@@ -2,12 +2,9 @@
 #![tactic(auto)]
 
 use crc32::crc32;
-use feed_kinds::{Verdict, name_of, status};
-use feed_payloads::request;
-use feed_reports::report;
-use feed_runs::rehearse;
-use feed_serving::{Served, serve, serve_semi};
-use feed_streams::Follower;
+use feed_events::{Verdict, name_of, status};
+use feed_rules::report;
+use feed_streams::{Follower, Served, rehearse, request, serve, serve_semi};
 use std::alloc::Global;
 use std::env;
 use std::fs::File;

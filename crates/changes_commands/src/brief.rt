@@ -2,10 +2,9 @@
 
 use crate::events::Names;
 use crate::shown::put_gtid;
-use events_frames::{EventParts, QueryTexts, RotateEvent, read_body};
-use events_reader::EventStreamReader;
+use events_frames::{EventParts, EventStreamReader, QueryTexts, RotateEvent, read_body};
+use feed_events::EventKind;
 use feed_json::Text;
-use feed_kinds::EventKind;
 use rows_consts::EventType;
 use rows_events::RowsEvent;
 use rows_meta::TableMapEvent;

@@ -1,7 +1,7 @@
 //! Event types and GTIDs as text.
 
+use feed_events::Gtid;
 use feed_json::Text;
-use feed_kinds::Gtid;
 use rows_consts::EventType;
 
 /// Appends the name of an event type, or its number if it has none: `WRITE_ROWS_EVENT`, `type 165`.

@@ -8,7 +8,7 @@ use Rattle.events_frames.specs.Events.{IsWholeEvent}
 use Rattle.events_frames.specs.EventParts.{Parts}
 use Rattle.events_frames.specs.declared.event_error.EventError.{EventError}
 use Rattle.events_stream.specs.OwnedEvents.{IsNextFault, NoFrame, Refused, NoMemory}
-use Rattle.events_reader.specs.Readings.{IsAcceptError}
+use Rattle.events_frames.specs.Readings.{IsAcceptError}
 use Rattle.events_stream.specs.Files.{File, ReturnsEvent, ReturnsError, ReturnsNothing, ReturnsItems, NoItem, OneEvent, OneFault, IsFileError}
 
 first_true : (a b : Bool) → (a && b) ≡ true → a ≡ true

@@ -3,26 +3,26 @@ use Rattle.std.proofs.Common.{◌≡◌, inl, inr, ◌<◌, ◌≤◌, ℕ, ℤ,
 use Rattle.std.specs.Prelude.{codes, IfErr, IfOk}
 use Rattle.std.specs.Borrow.{Bor}
 use Rattle.std.proofs.lemmas.List.{append-nil}
-use Rattle.rows_values.specs.declared.fault.RowsError.{RowsError}
+use Rattle.rows_errors.specs.declared.fault.RowsError.{RowsError}
 use Rattle.rows_cells.specs.CellViews.{cell_value}
 use Rattle.rows_cells.specs.CellValues.{null, int}
 use Rattle.rows_cells.specs.Cells.{cell_at}
-use Rattle.rows_images.specs.Images.{ColumnValue, ImageShape, image_at}
-use Rattle.rows_images.specs.ImageViews.{remaining_cells, ReturnsCell, IsNextField, SkipsField}
+use Rattle.rows_cells.specs.Images.{ColumnValue, ImageShape, image_at}
+use Rattle.rows_cells.specs.ImageViews.{remaining_cells, ReturnsCell, IsNextField, SkipsField}
 use Rattle.rows_cells.specs.declared.cell.CellRef.{CellRef}
 use Rattle.rows_cells.specs.declared.cell.CellRef.TheVariants as ref
 use Rattle.rows_cells.specs.declared.format.CellFormat.{CellFormat}
 use Rattle.rows_cells.specs.declared.format.CellFormat.TheVariants.{Signed}
 use Rattle.rows_cells.specs.declared.format.Width.{Width}
-use Rattle.rows_images.specs.declared.image.ImageCells.{ImageCells}
-use Rattle.rows_images.specs.declared.image.ImageField.{ImageField}
+use Rattle.rows_cells.specs.declared.image.ImageCells.{ImageCells}
+use Rattle.rows_cells.specs.declared.image.ImageField.{ImageField}
 use Rattle.feed_text.specs.CellText.{label, cell_text, cell_value_text}
 use Rattle.feed_text.specs.ImageText.{cells_then, cells_text, AppendsFields, StopsWithin}
 use Rattle.feed_text.proofs.ImageTextLemmas.{none_appended, more_appended, cell_appended, stops_unread, stops_unwritten}
-use Rattle.feed_kinds.specs.declared.verdict.Verdict.{Verdict}
-use Rattle.feed_kinds.specs.declared.verdict.Verdict.TheVariants as verdicts
-use Rattle.feed_rows.specs.RowLines.{row_verdict, IsRowError, IsRowsError, image_text_at, images_texts_at, rows_texts_at, PutsImage, PutsImages, IsAppendedSoFar}
-use Rattle.feed_rows.proofs.RowLineLemmas.{image_untold, one_image, two_images, second_failed, row_put, row_failed, row_empty, not_shorter, none_put, more_put, all_put, lines_failed}
+use Rattle.feed_events.specs.declared.verdict.Verdict.{Verdict}
+use Rattle.feed_events.specs.declared.verdict.Verdict.TheVariants as verdicts
+use Rattle.feed_rules.specs.RowLines.{row_verdict, IsRowError, IsRowsError, image_text_at, images_texts_at, rows_texts_at, PutsImage, PutsImages, IsAppendedSoFar}
+use Rattle.feed_rules.proofs.RowLineLemmas.{image_untold, one_image, two_images, second_failed, row_put, row_failed, row_empty, not_shorter, none_put, more_put, all_put, lines_failed}
 use Rattle.feed_changes.specs.CheckedRows.{is_document, HasCellText, Passes, PassesNext, IsNextError, HasImageText, HasImageTexts, HaveTexts}
 
 -- a cell that was read and isn't a document has a text

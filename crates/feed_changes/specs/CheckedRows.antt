@@ -1,20 +1,20 @@
 -- The result of checking that rows can be read and printed.
 use Rattle.std.specs.Prelude.{◌≡◌, ◌⊎◌, ℕ, suc, Bool, true, false, List, [], Option, Some, Ok, Err}
-use Rattle.rows_values.specs.declared.fault.RowsError.{RowsError}
-use Rattle.rows_values.specs.declared.fault.RowsError.TheVariants.{Decimal}
+use Rattle.rows_errors.specs.declared.fault.RowsError.{RowsError}
+use Rattle.rows_errors.specs.declared.fault.RowsError.TheVariants.{Decimal}
 use Rattle.rows_jsonb.specs.JsonParsing.{Parses}
 use Rattle.rows_cells.specs.CellValues.{CellValue}
 use Rattle.rows_cells.specs.CellViews.{cell_value}
-use Rattle.rows_images.specs.Images.{ImageShape, field_at}
-use Rattle.rows_images.specs.ImageViews.{remaining_cells, cells_count, ReturnsCell}
+use Rattle.rows_cells.specs.Images.{ImageShape, field_at}
+use Rattle.rows_cells.specs.ImageViews.{remaining_cells, cells_count, ReturnsCell}
 use Rattle.rows_cells.specs.declared.cell.CellRef.{CellRef}
 use Rattle.rows_cells.specs.declared.cell.CellRef.TheVariants as ref
 use Rattle.rows_cells.specs.declared.format.CellFormat.{CellFormat}
-use Rattle.rows_images.specs.declared.image.ImageCells.{ImageCells}
+use Rattle.rows_cells.specs.declared.image.ImageCells.{ImageCells}
 use Rattle.feed_text.specs.CellText.{cell_text, cell_value_text, PacksNone}
 use Rattle.feed_text.specs.ImageText.{AppendsFields}
-use Rattle.feed_kinds.specs.declared.verdict.Verdict.{Verdict}
-use Rattle.feed_rows.specs.RowLines.{row_verdict, PutsImage, PutsImages, rows_texts_at}
+use Rattle.feed_events.specs.declared.verdict.Verdict.{Verdict}
+use Rattle.feed_rules.specs.RowLines.{row_verdict, PutsImage, PutsImages, rows_texts_at}
 
 -- the cell is a JSON document, or changes of one
 abbrev pub is_document : CellRef → Bool

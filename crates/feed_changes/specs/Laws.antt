@@ -2,7 +2,7 @@
 use Rattle.std.specs.Prelude.{ℕ, true, false, List, []}
 use Rattle.feed_rules.specs.Changes.{Committed}
 use Rattle.feed_rules.specs.Checks.{fault_of}
-use Rattle.feed_checks.specs.Events.{has_magic_number}
+use Rattle.feed_events.specs.LogFormat.{has_magic_number}
 use Rattle.feed_rules.specs.Logs.{file_events}
 use Rattle.feed_changes.specs.CommittedLists.{committed_after}
 

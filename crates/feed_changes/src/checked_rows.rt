@@ -2,17 +2,16 @@
 
 ghost use Rattle.std.specs.Prelude.{◌≡◌, ◌<◌, Ok, OnOk, IfOk, IfErr, IfSome, IsTrue, IsFalse, List, ℕ};
 ghost use Rattle.rows_cells.specs.CellViews.{cell_value, IsReadable};
-ghost use Rattle.rows_images.specs.ImageViews.{image_shape, cells_count};
-ghost use Rattle.rows_images.specs.RowViews.{row_shape};
+ghost use Rattle.rows_cells.specs.ImageViews.{image_shape, cells_count};
+ghost use Rattle.rows_cells.specs.RowViews.{row_shape};
 ghost use Rattle.feed_text.specs.CellText.{cell_text};
-ghost use Rattle.feed_rows.specs.RowLines.{row_verdict, IsRowError, IsRowsError, image_text_at, images_texts_at, rows_texts_at};
+ghost use Rattle.feed_rules.specs.RowLines.{row_verdict, IsRowError, IsRowsError, image_text_at, images_texts_at, rows_texts_at};
 ghost use Rattle.feed_changes.specs.CheckedRows.{is_document, HasCellText, Passes, PassesNext, IsNextError, IsDocumentError, HasImageText, HasImageTexts, HaveTexts};
 
-use feed_kinds::Verdict;
+use feed_events::Verdict;
 use feed_text::TextBuffer;
-use rows_cells::{CellFormat, CellRef, read_signed};
-use rows_images::{ImageCells, ImageField, ImagePlan, RowPlan};
-use rows_values::RowsError;
+use rows_cells::{CellFormat, CellRef, ImageCells, ImageField, ImagePlan, RowPlan, read_signed};
+use rows_errors::RowsError;
 use std::alloc::Global;
 
 /// The feed's verdict for an error of the rows reader.

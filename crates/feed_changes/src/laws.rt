@@ -1,8 +1,8 @@
 //! Laws of committed transactions, each stated as the contract of a function that does nothing.
 
 ghost use Rattle.std.specs.Prelude.{◌≡◌, ℕ, List, [], None, map};
-ghost use Rattle.feed_kinds.specs.Events.{Event};
-ghost use Rattle.feed_kinds.specs.Words.{onto};
+ghost use Rattle.feed_events.specs.Events.{Event};
+ghost use Rattle.feed_events.specs.Words.{onto};
 ghost use Rattle.feed_rules.specs.Changes.{transaction_of};
 ghost use Rattle.feed_rules.specs.Checks.{fault_of};
 ghost use Rattle.feed_rules.specs.Rules.{rules, shown, up_to_fault};

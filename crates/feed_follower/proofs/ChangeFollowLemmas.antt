@@ -4,10 +4,10 @@ use Rattle.std.specs.Prelude.{unwrap_or, map, IfSome, IfErr, OnOk}
 use Rattle.std.specs.Bool.{⊤}
 use Rattle.std.proofs.lemmas.List.{append-nil, map-append}
 use Rattle.wire_packets.specs.CodecState as codec
-use Rattle.feed_kinds.specs.declared.verdict.Verdict.{Verdict}
-use Rattle.feed_kinds.specs.declared.verdict.Verdict.TheVariants as verdicts
-use Rattle.feed_kinds.specs.Events.{Event}
-use Rattle.feed_checks.specs.Events.{joined}
+use Rattle.feed_events.specs.declared.verdict.Verdict.{Verdict}
+use Rattle.feed_events.specs.declared.verdict.Verdict.TheVariants as verdicts
+use Rattle.feed_events.specs.Events.{Event}
+use Rattle.feed_events.specs.LogFormat.{joined}
 use Rattle.feed_rules.proofs.RuleLemmas.{up_to_fault-stop}
 use Rattle.feed_rules.proofs.CommittedLemmas.{committed_are_shown}
 use Rattle.feed_rules.specs.Changes.{Committed, committed_by, transaction_of}
@@ -16,9 +16,9 @@ use Rattle.feed_rules.specs.FeedSteps.{HasShown}
 use Rattle.feed_rules.specs.Laws.{in_log_order}
 use Rattle.feed_rules.specs.Rules.{Rules, Judge, rules, up_to_fault, good}
 use Rattle.feed_rules.specs.Transactions.{Transaction}
-use Rattle.feed_payloads.specs.declared.format.PayloadFormat.{PayloadFormat as Format}
-use Rattle.feed_payloads.specs.declared.format.PayloadFormat.TheVariants.{Plain}
-use Rattle.feed_payloads.specs.Streams.{event_in, stream_events, stream_transactions, stream_verdict}
+use Rattle.feed_streams.specs.declared.format.PayloadFormat.{PayloadFormat as Format}
+use Rattle.feed_streams.specs.declared.format.PayloadFormat.TheVariants.{Plain}
+use Rattle.feed_streams.specs.Streams.{event_in, stream_events, stream_transactions, stream_verdict}
 use Rattle.feed_changes.proofs.LogLemmas.{commits_step, commits_stop, good_step, shown_are_committed}
 use Rattle.feed_changes.specs.CommittedLists.{committed_after}
 use Rattle.feed_changes.specs.KeptChanges.{IsOpenChanges, IsDoneChanges}

@@ -1,13 +1,13 @@
 -- What a follower of changes has lent of the bytes of an answer received so far, and how its calls change that.
 use Rattle.std.specs.Prelude.{◌≡◌, ℕ, Bool, true, false, List, [], ◌∷◌, ◌++◌, Option, Some, None, IfSome, Result, Ok, Err}
-use Rattle.feed_kinds.specs.declared.verdict.Verdict.{Verdict}
-use Rattle.feed_kinds.specs.declared.verdict.Verdict.TheVariants as verdicts
-use Rattle.feed_kinds.specs.Events.{Event, log_pos_of}
+use Rattle.feed_events.specs.declared.verdict.Verdict.{Verdict}
+use Rattle.feed_events.specs.declared.verdict.Verdict.TheVariants as verdicts
+use Rattle.feed_events.specs.Events.{Event, log_pos_of}
 use Rattle.feed_rules.specs.Changes.{Committed, committed_by}
 use Rattle.feed_rules.specs.Rules.{Rules, rules}
-use Rattle.feed_payloads.specs.Requests.{dump_request}
-use Rattle.feed_payloads.specs.declared.format.PayloadFormat.{PayloadFormat as Format}
-use Rattle.feed_payloads.specs.Streams.{event_in, stream_verdict}
+use Rattle.feed_streams.specs.Requests.{dump_request}
+use Rattle.feed_streams.specs.declared.format.PayloadFormat.{PayloadFormat as Format}
+use Rattle.feed_streams.specs.Streams.{event_in, stream_verdict}
 use Rattle.feed_changes.specs.KeptChanges.{IsOpenChanges, IsDoneChanges}
 use Rattle.feed_streams.specs.Acknowledgements.{is_ack_requested, requested_acks, acknowledgements}
 use Rattle.feed_streams.specs.AnswerReaders as answer

@@ -1,10 +1,10 @@
 -- The transactions that a stream of packets commits (MySQL Internals: Binlog Network Stream), and the position after the last of them.
 use Rattle.std.specs.Prelude.{ℕ, List, [], ◌∷◌, ◌++◌, None, unwrap_or}
-use Rattle.feed_kinds.specs.Events.{Event}
+use Rattle.feed_events.specs.Events.{Event}
 use Rattle.feed_rules.specs.Changes.{Committed, committed_by}
 use Rattle.feed_rules.specs.Checks.{fault_of}
-use Rattle.feed_payloads.specs.declared.format.PayloadFormat.{PayloadFormat as Format}
-use Rattle.feed_payloads.specs.Streams.{stream_events}
+use Rattle.feed_streams.specs.declared.format.PayloadFormat.{PayloadFormat as Format}
+use Rattle.feed_streams.specs.Streams.{stream_events}
 use Rattle.feed_changes.specs.CommittedLists.{committed_after}
 use Rattle.feed_changes.specs.Stops.{last_log_pos}
 

@@ -3,8 +3,8 @@
 ghost use Rattle.std.specs.Prelude.{◌≡◌, ℕ, List, map};
 ghost use Rattle.feed_rules.specs.Changes.{transaction_of};
 ghost use Rattle.feed_rules.specs.Rules.{rules};
-ghost use Rattle.feed_payloads.specs.declared.format.PayloadFormat.{PayloadFormat as Format};
-ghost use Rattle.feed_payloads.specs.Streams.{stream_transactions};
+ghost use Rattle.feed_streams.specs.declared.format.PayloadFormat.{PayloadFormat as Format};
+ghost use Rattle.feed_streams.specs.Streams.{stream_transactions};
 ghost use Rattle.feed_streams.specs.ResumePositions.{position_after};
 ghost use Rattle.feed_follower.specs.StreamCommits.{stream_committed, position_after_last};
 

@@ -3,9 +3,12 @@
 use crate::character_sets::{Of, character_sets_of, field_of};
 use crate::text::Text;
 use bitflags::Flags;
+use rows_errors::RowsError;
 use rows_events::ColumnPlan;
-use rows_meta::{ColumnsStrValues, IterColumns, OptionalMetadataField, StrValues, TableMapEvent};
-use rows_values::{Bits, Column, RowsError};
+use rows_meta::{
+    Bits, ColumnsStrValues, IterColumns, OptionalMetadataField, StrValues, TableMapEvent,
+};
+use rows_values::Column;
 use std::alloc::{AllocError, Global};
 use wire_consts::{ColumnFlags, ColumnType};
 

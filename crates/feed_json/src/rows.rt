@@ -4,10 +4,9 @@ use crate::cells::put_cell;
 use crate::columns::{ShownColumn, put_index_key};
 use crate::tables::ShownTable;
 use crate::text::Text;
-use rows_cells::CellRef;
+use rows_cells::{CellRef, RowPart, RowsCursor};
+use rows_errors::RowsError;
 use rows_events::RowImages;
-use rows_images::{RowPart, RowsCursor};
-use rows_values::RowsError;
 use std::alloc::Global;
 
 /// Where a text begins and ends.

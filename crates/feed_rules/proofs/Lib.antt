@@ -7,3 +7,12 @@ pub mod UsualLemmas
 pub mod CommittedLemmas
 pub mod TextLemmas
 pub mod RecordedTextLemmas
+pub mod RowLineLemmas
+pub mod TableLemmas
+pub mod MapBodyLemmas
+pub mod KnownImageLemmas
+pub mod WritingLemmas
+pub mod WaitingLemmas
+pub mod ReportLemmas
+pub mod MagicNumberLemmas
+pub mod PrefixLemmas

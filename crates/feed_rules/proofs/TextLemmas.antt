@@ -8,11 +8,11 @@ use Rattle.std.specs.Fmt.{decimal}
 use Rattle.hex.specs.Hex.{encode_lower}
 use Rattle.events_frames.specs.QueryTexts.{StatementTexts}
 use Rattle.feed_writers.specs.Quoting.{quoted}
-use Rattle.feed_kinds.specs.KindViews.{gtid_view}
+use Rattle.feed_events.specs.KindViews.{gtid_view}
 use Rattle.feed_rules.specs.Texts.{gtid_text, line_text, uuid_text}
 use Rattle.feed_rules.specs.Transactions.{Stated}
-use Rattle.feed_kinds.specs.declared.event_kind.Gtid.{Gtid}
-use Rattle.feed_kinds.specs.declared.event_kind.Gtid.TheVariants as named
+use Rattle.feed_events.specs.declared.event_kind.Gtid.{Gtid}
+use Rattle.feed_events.specs.declared.event_kind.Gtid.TheVariants as named
 
 -- one text, and then another
 pub put_after : (old mid new a b : List ℕ) → mid ≡ old ++ a → new ≡ mid ++ b → new ≡ old ++ (a ++ b)

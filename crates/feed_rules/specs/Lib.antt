@@ -12,3 +12,13 @@ pub mod TextStates
 pub mod KnownEvents
 pub mod Laws
 pub mod Logs
+pub mod Rows
+pub mod RowTexts
+pub mod RowLines
+pub mod KnownImages
+pub mod Tables
+pub mod KnownRows
+pub mod Writing
+pub mod Reports
+pub mod ReportSteps
+pub mod Waiting

@@ -1,12 +1,18 @@
 //! Laws of the feed's rules, each stated as the contract of a function that does nothing.
 
 ghost use Rattle.std.specs.Prelude.{◌≡◌, ℕ, List, ◌++◌};
-ghost use Rattle.feed_kinds.specs.Events.{Event, in_force};
-ghost use Rattle.feed_kinds.specs.Kinds.{kinds};
+ghost use Rattle.feed_events.specs.Events.{Event, in_force};
+ghost use Rattle.feed_events.specs.Kinds.{kinds};
 ghost use Rattle.feed_rules.specs.Checks.{fault_of};
 ghost use Rattle.feed_rules.specs.Transactions.{Transaction};
 ghost use Rattle.feed_rules.specs.Rules.{Rules, rules, shown, up_to_fault, fault_after, shown_after};
 ghost use Rattle.feed_rules.specs.Laws.{IsBetween};
+ghost use Rattle.rows_meta.specs.MapViews.{map_of};
+ghost use Rattle.rows_meta.specs.declared.table_map.TableMapEvent.{TableMapEvent};
+ghost use Rattle.rows_events.specs.ImageShapes.{table_plan};
+ghost use Rattle.rows_events.specs.PlanViews.{IsPlanOf};
+ghost use Rattle.rows_events.specs.declared.plan.ColumnPlan.{ColumnPlan};
+ghost use Rattle.feed_rules.specs.Rows.{plan_by};
 
 /// A prefix of the events shows a prefix of the transactions, under any rules.
 pub fn first_events_show_the_first_transactions()
@@ -18,4 +24,9 @@ pub fn first_events_show_the_first_transactions()
 pub fn what_came_before_does_not_matter()
     ensures fault { (f : List ℕ → ℕ) (p q l : List Event) → in_force p ≡ in_force q → IsBetween (kinds p) → IsBetween (kinds q) → fault_after (fault_of f) p l ≡ fault_after (fault_of f) q l }
     ensures shown { (f : List ℕ → ℕ) (p q l : List Event) → in_force p ≡ in_force q → IsBetween (kinds p) → IsBetween (kinds q) → shown_after (rules f) p (up_to_fault (fault_of f) p l) ≡ shown_after (rules f) q (up_to_fault (fault_of f) q l) }
+{}
+
+/// The plan that the specification computes from a table map is that of the code's plan of the map.
+pub fn plans_are_those_of_maps()
+    ensures { (plan : ColumnPlan) (map : TableMapEvent) → IsPlanOf plan map → table_plan plan ≡ plan_by (map_of map) }
 {}

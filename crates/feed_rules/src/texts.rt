@@ -4,12 +4,12 @@ ghost use Rattle.std.specs.Prelude.{◌≡◌, ◌++◌, ◌∷◌, OnOk, Some};
 ghost use Rattle.hex.specs.Hex.{encode_lower};
 ghost use Rattle.events_frames.specs.QueryTexts.{StatementTexts, HasTexts};
 ghost use Rattle.feed_text.specs.Buffers.{text_in};
-ghost use Rattle.feed_kinds.specs.KindViews.{gtid_view};
+ghost use Rattle.feed_events.specs.KindViews.{gtid_view};
 ghost use Rattle.feed_rules.specs.Transactions.{Stated};
 ghost use Rattle.feed_rules.specs.Texts.{commit_line, gtid_text, line_text, uuid_text};
 
 use events_frames::QueryTexts;
-use feed_kinds::Gtid;
+use feed_events::Gtid;
 use feed_text::TextBuffer;
 use std::alloc::{AllocError, Allocator};
 

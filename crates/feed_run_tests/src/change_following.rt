@@ -1,9 +1,9 @@
 //! A follower that lends each transaction, over answers that break off.
 
 use crc32::crc32;
+use feed_events::Verdict;
 use feed_follower::ChangeFollower;
-use feed_kinds::Verdict;
-use feed_payloads::{RequestError, request};
+use feed_streams::{RequestError, request};
 use feed_tests::samples::{LIMIT, NAME, answered, two_inserts};
 use std::alloc::Global;
 use std::test::*;

@@ -1,4 +1,4 @@
-//! Tests of `feed_runs`: runs of a follower over connections that drop and over a log that grows, and what such a run
+//! Tests of `feed_streams`: runs of a follower over connections that drop and over a log that grows, and what such a run
 //! acknowledges; and of `feed_follower`. They use the small binary log in `samples` of `feed_tests`.
 #![tactic(auto)]
 

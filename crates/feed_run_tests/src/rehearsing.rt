@@ -1,8 +1,8 @@
 //! Runs of a follower through two connections that drop, and over a log that grows.
 
 use crc32::crc32;
-use feed_kinds::Verdict;
-use feed_runs::{Step, rehearse, rehearse_growing};
+use feed_events::Verdict;
+use feed_streams::{Step, rehearse, rehearse_growing};
 use feed_tests::samples::{Full, TEXT, one_insert, two_inserts};
 use std::alloc::Global;
 use std::test::*;

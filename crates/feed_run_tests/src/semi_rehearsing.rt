@@ -2,8 +2,8 @@
 
 use crate::rehearsing::{ALL, step};
 use crc32::crc32;
-use feed_kinds::Verdict;
-use feed_runs::{Step, rehearse_semi};
+use feed_events::Verdict;
+use feed_streams::{Step, rehearse_semi};
 use feed_tests::samples::{
     FIRST_ACK, FIRST_END, LAST_ACK, LAST_END, TEXT, WHOLE, are_joined, one_insert,
 };

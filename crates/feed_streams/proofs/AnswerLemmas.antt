@@ -10,19 +10,19 @@ use Rattle.wire_packets.specs.declared.error.PacketCodecError.TheVariants as fau
 use Rattle.wire_packets.specs.declared.packet_codec.PacketCodec.{PacketCodec}
 use Rattle.wire_packets.proofs.CodecStateLemmas.{splits_more}
 use Rattle.wire_packets.proofs.PieceLemmas.{halts_more, drained, represents_more, drains_empty}
-use Rattle.feed_checks.specs.Damage.{IsCore}
-use Rattle.feed_kinds.specs.declared.verdict.Verdict.{Verdict}
-use Rattle.feed_kinds.specs.declared.verdict.Verdict.TheVariants as verdicts
-use Rattle.feed_kinds.specs.Events.{Event, log_pos_of}
-use Rattle.feed_checks.specs.Events.{joined}
+use Rattle.feed_events.specs.Damage.{IsCore}
+use Rattle.feed_events.specs.declared.verdict.Verdict.{Verdict}
+use Rattle.feed_events.specs.declared.verdict.Verdict.TheVariants as verdicts
+use Rattle.feed_events.specs.Events.{Event, log_pos_of}
+use Rattle.feed_events.specs.LogFormat.{joined}
 use Rattle.feed_rules.specs.FeedStates.{RepresentsRecorded, IsErrorFor}
 use Rattle.feed_rules.specs.FeedSteps.{IsRecorded}
 use Rattle.feed_rules.specs.Recorders.{HasOpen, HasDone}
 use Rattle.feed_rules.specs.Rules.{Rules, rules}
 use Rattle.feed_rules.specs.Transactions.{Transaction}
 use Rattle.feed_rules.specs.declared.recorded_transactions.RecordedTransactions.{RecordedTransactions}
-use Rattle.feed_payloads.specs.declared.format.PayloadFormat.{PayloadFormat as Format}
-use Rattle.feed_payloads.specs.Streams.{holds_event, event_in, closing_verdict, packet_verdict, stream_verdict}
+use Rattle.feed_streams.specs.declared.format.PayloadFormat.{PayloadFormat as Format}
+use Rattle.feed_streams.specs.Streams.{holds_event, event_in, closing_verdict, packet_verdict, stream_verdict}
 use Rattle.feed_streams.specs.declared.answer_reader.AnswerReader.{AnswerReader}
 use Rattle.feed_streams.specs.declared.answer_reader.TakenEvent.{TakenEvent}
 use Rattle.feed_streams.specs.Acknowledgements.{is_ack_requested, requested_acks}

@@ -1,18 +1,18 @@
 -- What the reader of a server's answer has taken of the bytes received so far; for any recorder, any rules and any format of the payloads.
 use Rattle.std.specs.Prelude.{◌≡◌, ◌⊎◌, ℕ, true, List, [], ◌∷◌, ◌++◌, map, Option, Some, None, unwrap_or}
 use Rattle.wire_packets.specs.CodecState as codec
-use Rattle.feed_kinds.specs.declared.verdict.Verdict.{Verdict}
-use Rattle.feed_kinds.specs.declared.verdict.Verdict.TheVariants as verdicts
-use Rattle.feed_kinds.specs.Events.{Event}
-use Rattle.feed_kinds.specs.Words.{onto}
+use Rattle.feed_events.specs.declared.verdict.Verdict.{Verdict}
+use Rattle.feed_events.specs.declared.verdict.Verdict.TheVariants as verdicts
+use Rattle.feed_events.specs.Events.{Event}
+use Rattle.feed_events.specs.Words.{onto}
 use Rattle.feed_rules.specs.FeedStates.{RepresentsRecorded}
 use Rattle.feed_rules.specs.Laws.{Each}
 use Rattle.feed_rules.specs.Recorders.{HasOpen}
 use Rattle.feed_rules.specs.Rules.{Rules, Judge}
 use Rattle.feed_rules.specs.Transactions.{Transaction}
-use Rattle.feed_payloads.specs.Requests.{dump_request}
-use Rattle.feed_payloads.specs.declared.format.PayloadFormat.{PayloadFormat as Format}
-use Rattle.feed_payloads.specs.Streams.{holds_event, event_in, stream_transactions, stream_verdict}
+use Rattle.feed_streams.specs.Requests.{dump_request}
+use Rattle.feed_streams.specs.declared.format.PayloadFormat.{PayloadFormat as Format}
+use Rattle.feed_streams.specs.Streams.{holds_event, event_in, stream_transactions, stream_verdict}
 use Rattle.feed_streams.specs.Acknowledgements.{acknowledgements}
 use Rattle.feed_streams.specs.ResumePositions.{last_position, position_after}
 use Rattle.feed_streams.specs.declared.answer_reader.AnswerReader.{AnswerReader}

@@ -1,17 +1,17 @@
 -- What the calls on the reader of an answer do, packet by packet.
 use Rattle.std.specs.Prelude.{◌≡◌, ℕ, List, [], ◌∷◌, ◌++◌, Option, Some, None, Result, Ok, Err}
 use Rattle.wire_packets.specs.CodecState as codec
-use Rattle.feed_kinds.specs.declared.verdict.Verdict.{Verdict}
-use Rattle.feed_kinds.specs.declared.verdict.Verdict.TheVariants as verdicts
-use Rattle.feed_kinds.specs.Events.{Event, log_pos_of}
-use Rattle.feed_checks.specs.Events.{joined}
+use Rattle.feed_events.specs.declared.verdict.Verdict.{Verdict}
+use Rattle.feed_events.specs.declared.verdict.Verdict.TheVariants as verdicts
+use Rattle.feed_events.specs.Events.{Event, log_pos_of}
+use Rattle.feed_events.specs.LogFormat.{joined}
 use Rattle.feed_rules.specs.Changes.{committed_by}
 use Rattle.feed_rules.specs.FeedSteps.{HasShown}
 use Rattle.feed_rules.specs.Laws.{in_log_order}
 use Rattle.feed_rules.specs.Recorders.{HasOpen, HasDone}
 use Rattle.feed_rules.specs.Rules.{Rules, good}
-use Rattle.feed_payloads.specs.declared.format.PayloadFormat.{PayloadFormat as Format}
-use Rattle.feed_payloads.specs.Streams.{event_in, stream_events, stream_verdict}
+use Rattle.feed_streams.specs.declared.format.PayloadFormat.{PayloadFormat as Format}
+use Rattle.feed_streams.specs.Streams.{event_in, stream_events, stream_verdict}
 use Rattle.feed_streams.specs.Acknowledgements.{is_ack_requested, requested_acks, acknowledgements}
 use Rattle.feed_streams.specs.AnswerReaders.{limit_of, name_of, due_of, recorder_in, HasTaken}
 use Rattle.feed_streams.specs.declared.answer_reader.AnswerReader.{AnswerReader}

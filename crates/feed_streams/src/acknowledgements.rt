@@ -3,11 +3,12 @@
 ghost use Rattle.std.specs.Prelude.{◌≡◌, false, if◌then◌else◌, ◌%◌, ◌==◌, ◌++◌, ◌≤◌, ◌+◌, List, ℕ, [], ◌∷◌, OnOk, OnErr, length};
 ghost use Rattle.std.specs.Int.{w64, to_le_bytes};
 ghost use Rattle.wire_packets.specs.Framing.{max_chunk_len, chunk, framing};
-ghost use Rattle.feed_checks.specs.Events.{joined};
+ghost use Rattle.feed_events.specs.LogFormat.{joined};
 ghost use Rattle.feed_streams.specs.Acknowledgements.{is_ack_requested};
 
+use crate::format::PayloadFormat;
+use crate::requests::LogName;
 use bitflags::Flags;
-use feed_payloads::{LogName, PayloadFormat};
 use rows_consts::SemiSyncFlags;
 use std::alloc::AllocError;
 use wire_packets::{PACKET_HEADER_LEN, chunk_header};

@@ -1,10 +1,32 @@
-//! A follower of a server's packets: it requests a binary log, and writes the answer's transactions as they arrive.
+//! Binary logs over a connection: the request for a log, a server that answers it, a follower of the answer, and runs of a follower
+//! over connections that drop.
+//!
+//! [`request`] makes the packet that asks for a log, and [`serve`] sends the log's events from the requested position on, each in a
+//! payload of its own ([`PayloadFormat`]). A [`Follower`] writes the transactions of such an answer as they arrive; it resumes from
+//! the last commit that it printed, and [`rehearse`] runs it so over any number of connections.
 #![tactic(auto)]
 
 mod acknowledgements;
 mod answer_reader;
 mod follower;
+mod format;
 mod incoming;
+mod packets;
+mod passing;
+mod rehearsal;
+mod request_reading;
+mod requests;
+mod sending;
+mod served;
+mod serving;
+mod step;
+mod waiting;
 
 pub use answer_reader::{AnswerReader, TakenEvent};
 pub use follower::Follower;
+pub use format::{PayloadFormat, find_event};
+pub use rehearsal::{rehearse, rehearse_growing, rehearse_semi};
+pub use requests::{LogName, RequestError, dump_packet, request};
+pub use served::{Refusal, Served};
+pub use serving::{serve, serve_as, serve_semi};
+pub use step::Step;

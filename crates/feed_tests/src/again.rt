@@ -2,9 +2,8 @@
 
 use crate::samples::{LIMIT, NAME, answered, two_inserts};
 use crc32::crc32;
-use feed_kinds::Verdict;
-use feed_payloads::{RequestError, request};
-use feed_streams::Follower;
+use feed_events::Verdict;
+use feed_streams::{Follower, RequestError, request};
 use std::alloc::Global;
 use std::test::*;
 use wire_buf::Watched;

@@ -5,9 +5,9 @@ use crate::samples::{
     BEGIN, Full, LIMIT, MAP, NAME, ROWS, TEXT, XID, answered, file_of, one_insert,
 };
 use crc32::crc32;
+use feed_events::Verdict;
 use feed_kept::kept;
-use feed_kinds::Verdict;
-use feed_reports::report;
+use feed_rules::report;
 use feed_streams::Follower;
 use std::alloc::{AllocError, Global};
 use std::cell::Cell;

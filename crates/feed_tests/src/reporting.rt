@@ -2,8 +2,8 @@
 
 use crate::answers::Pieces;
 use crc32::crc32;
-use feed_kinds::Verdict;
-use feed_reports::report;
+use feed_events::Verdict;
+use feed_rules::report;
 use std::alloc::Global;
 use wire_buf::Watched;
 

@@ -1,7 +1,7 @@
 //! A small binary log and its report, the acknowledgements of its events, a server's answers, and a writer with limited room.
 
 use crc32::crc32;
-use feed_serving::serve;
+use feed_streams::serve;
 use std::alloc::{AllocError, Global};
 use std::io::{self, ErrorKind, Write};
 use wire_buf::Watched;

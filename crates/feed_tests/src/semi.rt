@@ -2,10 +2,8 @@
 
 use crate::samples::{FIRST_ACK, Full, LIMIT, TEXT, are_joined, one_insert};
 use crc32::crc32;
-use feed_kinds::Verdict;
-use feed_payloads::{RequestError, request};
-use feed_serving::serve_semi;
-use feed_streams::Follower;
+use feed_events::Verdict;
+use feed_streams::{Follower, RequestError, request, serve_semi};
 use std::alloc::Global;
 use wire_buf::Watched;
 

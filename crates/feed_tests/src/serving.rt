@@ -3,9 +3,8 @@
 use crate::answers::{Pieces, answer_of};
 use crate::samples::{BEGIN, Full, LIMIT, MAP, NAME, ROWS, XID, one_insert};
 use crc32::crc32;
-use feed_kinds::Verdict;
-use feed_payloads::{RequestError, request};
-use feed_serving::{Served, serve};
+use feed_events::Verdict;
+use feed_streams::{RequestError, Served, request, serve};
 use std::alloc::{AllocError, Global};
 use std::test::*;
 use wire_buf::Watched;

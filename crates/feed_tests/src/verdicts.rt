@@ -1,8 +1,7 @@
 //! Names and exit statuses.
 
-use feed_kinds::{Verdict, name_of, status};
-use feed_payloads::RequestError;
-use feed_serving::Served;
+use feed_events::{Verdict, name_of, status};
+use feed_streams::{RequestError, Served};
 
 #[test]
 fn names_and_statuses(rt: HostRuntime) {

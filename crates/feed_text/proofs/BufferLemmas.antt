@@ -4,7 +4,7 @@ use Rattle.std.proofs.lemmas.Grind.{flat_map-append}
 use Rattle.std.proofs.lemmas.List.{length-take, length-take-le, take-append-le, take-take, take-append-drop}
 use Rattle.std.specs.List.{flat_map}
 use Rattle.feed_writers.specs.Quoting.{quoted_byte, quoted}
-use Rattle.rows_values.specs.Readings.{Reading, ◌>>=◌}
+use Rattle.rows_errors.specs.Readings.{Reading, ◌>>=◌}
 use Rattle.rows_jsonb.specs.DocumentTrees.{document_tree}
 use Rattle.rows_cells.specs.CellValues.{CellValue, json}
 use Rattle.feed_text.specs.JsonText.{document_text}

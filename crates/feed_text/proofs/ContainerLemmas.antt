@@ -5,7 +5,7 @@ use Rattle.std.specs.List.{join_with_byte}
 use Rattle.std.specs.Str.{is_utf8}
 use Rattle.rows_jsonb.specs.JsonTrees.{Tree, array, object, Items, no_items, item, Members, no_members}
 use Rattle.rows_jsonb.specs.JsonbValues.{JsonbValue, elem_in, object_key, count_in, is_array_in, is_object_in}
-use Rattle.rows_values.specs.Readings.{Reading, ◌>>=◌}
+use Rattle.rows_errors.specs.Readings.{Reading, ◌>>=◌}
 use Rattle.rows_jsonb.specs.DocumentTrees.{Counted, items, member_trees, tree_of, utf8, values_read}
 use Rattle.rows_jsonb.proofs.Building.{array_tree, object_tree, after_members, none_after_members, members_turn, members_end}
 use Rattle.feed_writers.specs.Quoting.{quoted}

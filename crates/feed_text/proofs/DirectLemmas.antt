@@ -8,7 +8,7 @@ use Rattle.byteorder.specs.Endian.{little_number}
 use Rattle.wire_buf.specs.Numbers.{little_signed}
 use Rattle.wire_buf.specs.Eating.{Eats}
 use Rattle.wire_forms.specs.Sevens.{sevens_split}
-use Rattle.rows_values.specs.Readings.{Reading, ◌>>=◌}
+use Rattle.rows_errors.specs.Readings.{Reading, ◌>>=◌}
 use Rattle.rows_jsonb.specs.JsonTrees as tree
 use Rattle.rows_jsonb.specs.JsonTrees.{Tree}
 use Rattle.rows_jsonb.specs.JsonbTypes.{literal_of}

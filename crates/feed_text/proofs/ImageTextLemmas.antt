@@ -1,20 +1,20 @@
 -- The texts of cells, in sequence.
 use Rattle.std.proofs.Common.{◌≡◌, ◌⊎◌, ◌≤◌, ◌+◌, ◌*◌, subst, false, true, ℕ, suc, List, [], ◌∷◌, ◌++◌, length, take, Option, Some, None, Result, Ok, Err, inl, inr, refl, sym, ap, ◌∙◌, append_assoc, arith}
 use Rattle.std.proofs.lemmas.List.{append-nil, length-take-le, take-append-le, take-take}
-use Rattle.rows_values.specs.Readings.{Reading, ◌>>=◌}
+use Rattle.rows_errors.specs.Readings.{Reading, ◌>>=◌}
 use Rattle.std.proofs.Math.Seq.{take-append_seam}
 use Rattle.std.specs.Prelude.{IsSome}
-use Rattle.rows_values.specs.declared.fault.RowsError.{RowsError}
-use Rattle.rows_values.specs.declared.fault.RowsError.TheVariants.{Decimal}
+use Rattle.rows_errors.specs.declared.fault.RowsError.{RowsError}
+use Rattle.rows_errors.specs.declared.fault.RowsError.TheVariants.{Decimal}
 use Rattle.rows_jsonb.specs.JsonParsing.{Parses}
 use Rattle.rows_cells.specs.declared.cell.CellRef.{CellRef}
 use Rattle.rows_cells.specs.declared.cell.CellRef.TheVariants as ref
 use Rattle.rows_cells.specs.CellViews.{cell_value, IsReadable}
-use Rattle.rows_images.specs.declared.image.ImageCells.{ImageCells}
-use Rattle.rows_images.specs.declared.image.ImageField.{ImageField}
-use Rattle.rows_images.specs.Images.{ColumnValue}
+use Rattle.rows_cells.specs.declared.image.ImageCells.{ImageCells}
+use Rattle.rows_cells.specs.declared.image.ImageField.{ImageField}
+use Rattle.rows_cells.specs.Images.{ColumnValue}
 use Rattle.rows_cells.proofs.FieldLemmas.{bind-ok}
-use Rattle.rows_images.specs.ImageViews.{remaining_cells, cells_count, ReturnsCell, IsNextField, SkipsField}
+use Rattle.rows_cells.specs.ImageViews.{remaining_cells, cells_count, ReturnsCell, IsNextField, SkipsField}
 use Rattle.feed_text.specs.CellText.{label, cell_text, Appends, IsCellError, PacksNone}
 use Rattle.feed_text.specs.FieldText.{WritesField}
 use Rattle.feed_text.specs.ImageText.{Cells, cells_then, cells_text, Gives, WritesFields, AppendsFields, PutsCells, StopsWithin, IsCellsError}

@@ -2,10 +2,10 @@
 use Rattle.std.proofs.Common.{◌≡◌, ◌≤◌, ◌<◌, ℕ, zero, suc, List, [], ◌∷◌, ◌++◌, length, take, drop, Ok, refl, sym, ap, ◌∙◌, append_assoc, arith, length-append}
 use Rattle.std.proofs.lemmas.List.{append-nil, length-take-le, take-append-le, take-take}
 use Rattle.std.specs.List.{flat_map}
-use Rattle.rows_images.specs.declared.image.ImageColumn.{ImageColumn}
-use Rattle.rows_images.specs.declared.image.ImageCells.{ImageCells}
-use Rattle.rows_images.specs.Images.{ImageShape, ColumnValue, image_at, cells_at}
-use Rattle.rows_images.specs.ImageViews.{remaining_cells, cells_count}
+use Rattle.rows_cells.specs.declared.image.ImageColumn.{ImageColumn}
+use Rattle.rows_cells.specs.declared.image.ImageCells.{ImageCells}
+use Rattle.rows_cells.specs.Images.{ImageShape, ColumnValue, image_at, cells_at}
+use Rattle.rows_cells.specs.ImageViews.{remaining_cells, cells_count}
 use Rattle.feed_text.specs.ImageText.{cells_then, WritesFields}
 use Rattle.feed_text.specs.RowText.{IsRowText, AreRowTexts, row_line, WritesRow, AppendsRows}
 

@@ -2,11 +2,11 @@
 use Rattle.std.specs.Prelude.{◌≡◌, ◌⊎◌, ℕ, map, List, ◌∷◌, ◌++◌, [], codes, Option, Some, None}
 use Rattle.std.specs.declared.result.Result.TheVariants.{Ok, Err}
 use Rattle.std.specs.Fmt.{decimal, signed_decimal}
-use Rattle.rows_values.specs.declared.fault.RowsError.{RowsError}
-use Rattle.rows_values.specs.declared.fault.RowsError.TheVariants.{Decimal}
+use Rattle.rows_errors.specs.declared.fault.RowsError.{RowsError}
+use Rattle.rows_errors.specs.declared.fault.RowsError.TheVariants.{Decimal}
 use Rattle.rows_values.specs.Unpacked.{packed_text}
 use Rattle.rows_jsonb.specs.JsonTrees.{Tree}
-use Rattle.rows_values.specs.Readings.{Reading, ◌>>=◌}
+use Rattle.rows_errors.specs.Readings.{Reading, ◌>>=◌}
 use Rattle.rows_jsonb.specs.JsonbViews.{jsonb_value}
 use Rattle.rows_jsonb.specs.DocumentTrees.{tree_in, document_tree}
 use Rattle.rows_jsonb.specs.JsonParsing.{Parses}

@@ -4,7 +4,7 @@ use Rattle.rows_jsonb.specs.JsonbLayout.{format}
 use Rattle.rows_jsonb.specs.JsonbTypes.{jsonb_type_of, is_inlined}
 use Rattle.rows_jsonb.specs.JsonbValues.{JsonbValue, container, of_type}
 use Rattle.rows_jsonb.specs.declared.types.JsonbType.{JsonbType}
-use Rattle.rows_values.specs.Readings.{Reading}
+use Rattle.rows_errors.specs.Readings.{Reading}
 use Rattle.feed_text.specs.declared.direct_parts.Container.{Container}
 
 -- the container as a value

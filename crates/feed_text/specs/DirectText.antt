@@ -5,7 +5,7 @@ use Rattle.std.specs.Str.{is_utf8}
 use Rattle.std.specs.List.{join_with_byte}
 use Rattle.rows_jsonb.specs.JsonTrees.{Tree, Items, Members, no_members, Scalar, scalar}
 use Rattle.rows_jsonb.specs.JsonbValues.{JsonbValue, elem_in, object_key, count_in}
-use Rattle.rows_values.specs.Readings.{Reading}
+use Rattle.rows_errors.specs.Readings.{Reading}
 use Rattle.rows_jsonb.specs.DocumentTrees.{tree_of, bare_tree, items, member_trees}
 use Rattle.feed_writers.specs.Quoting.{quoted}
 use Rattle.feed_text.specs.Containers.{typed}

@@ -4,7 +4,7 @@ use Rattle.std.specs.Borrow.{Bor}
 use Rattle.std.specs.declared.result.Result.TheVariants.{Ok}
 use Rattle.rows_cells.specs.declared.format.CellFormat.{CellFormat}
 use Rattle.rows_cells.specs.CellValues.{CellValue}
-use Rattle.rows_images.specs.Images.{field_at}
+use Rattle.rows_cells.specs.Images.{field_at}
 use Rattle.feed_text.specs.CellText.{cell_value_text}
 
 -- the text of the value was written, up to the offset `end`, and `rest` are the bytes after the cell

@@ -1,13 +1,13 @@
 -- The text of the cells of a row image.
 use Rattle.std.specs.Prelude.{◌≡◌, ◌≤◌, ◌⊎◌, ℕ, List, [], ◌∷◌, ◌++◌, length, take}
 use Rattle.std.specs.declared.result.Result.TheVariants.{Ok, Err}
-use Rattle.rows_values.specs.declared.fault.RowsError.{RowsError}
-use Rattle.rows_values.specs.declared.fault.RowsError.TheVariants.{Memory}
-use Rattle.rows_values.specs.Readings.{Reading, ◌>>=◌}
+use Rattle.rows_errors.specs.declared.fault.RowsError.{RowsError}
+use Rattle.rows_errors.specs.declared.fault.RowsError.TheVariants.{Memory}
+use Rattle.rows_errors.specs.Readings.{Reading, ◌>>=◌}
 use Rattle.rows_jsonb.specs.JsonParsing.{Parses}
-use Rattle.rows_images.specs.declared.image.ImageCells.{ImageCells}
-use Rattle.rows_images.specs.Images.{ColumnValue}
-use Rattle.rows_images.specs.ImageViews.{remaining_cells, cells_count}
+use Rattle.rows_cells.specs.declared.image.ImageCells.{ImageCells}
+use Rattle.rows_cells.specs.Images.{ColumnValue}
+use Rattle.rows_cells.specs.ImageViews.{remaining_cells, cells_count}
 use Rattle.feed_text.specs.CellText.{cell_text}
 
 -- the concatenated texts of cells

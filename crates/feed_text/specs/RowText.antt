@@ -3,7 +3,7 @@ use Rattle.std.specs.Prelude.{◌≡◌, ◌≤◌, ◌<◌, ℕ, List, [], ◌�
 use Rattle.std.specs.Borrow.{Bor}
 use Rattle.std.specs.List.{flat_map}
 use Rattle.std.specs.declared.result.Result.TheVariants.{Ok}
-use Rattle.rows_images.specs.Images.{ColumnValue, ImageShape, image_at}
+use Rattle.rows_cells.specs.Images.{ColumnValue, ImageShape, image_at}
 use Rattle.feed_text.specs.ImageText.{cells_text}
 
 -- the row at the start of the bytes has this text, and `rest` are the bytes after it

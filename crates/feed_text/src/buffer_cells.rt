@@ -19,7 +19,7 @@ use crate::parts::CellContent;
 use crate::short::{FEW_DIGITS, SHORT_BYTES_MAX, SHORT_LEN_MAX, Short, put_short};
 use feed_writers::{put_byte, put_quoted, put_quoted_content};
 use rows_cells::CellRef;
-use rows_values::RowsError;
+use rows_errors::RowsError;
 use std::alloc::{Allocator, Global};
 
 /// The length of a piece in which long bytes are quoted.

@@ -35,6 +35,7 @@ impl<A: Allocator> TextBuffer<A> {
 
     /// Appends two quoted texts with a space between them. It reserves three times their length at once. Out of memory: the text is
     /// unchanged.
+    #[inline(always)]
     pub fn put_two_quoted(&mut self, first: &[u8], second: &[u8]) -> Result<(), AllocError>
         ensures ok { OnOk result (text_in self.new ≡ text_in self.old ++ (quoted first.now ++ 32 ∷ quoted second.now)) }
         ensures err { OnErr result (text_in self.new ≡ text_in self.old) }

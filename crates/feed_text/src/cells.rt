@@ -24,8 +24,9 @@ use crate::short::{SHORT_LEN_MAX, Short, put_short};
 use crate::values::put_value;
 use feed_writers::{put_byte, put_column_label};
 use rows_cells::{BinlogValue, CellRef};
+use rows_errors::RowsError;
 use rows_jsonb::{JsonDiff, JsonDom, Value as JsonbValue, json_diffs};
-use rows_values::{RowsError, Value};
+use rows_values::Value;
 use std::alloc::{Allocator, Global};
 use wire_buf::ParseBuf;
 

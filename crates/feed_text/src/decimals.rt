@@ -4,7 +4,8 @@ ghost use Rattle.std.specs.Prelude.{◌≡◌, ◌≤◌, ◌+◌, OnOk, IfErr, 
 ghost use Rattle.rows_values.specs.PackedTexts.{PutsOrNone};
 ghost use Rattle.feed_text.specs.DecimalText.{quoted_decimal, AppendsSome, IsDecimalError};
 
-use rows_values::{RowsError, put_decimal_text};
+use rows_errors::RowsError;
+use rows_values::put_decimal_text;
 use std::alloc::Allocator;
 
 /// Appends the quoted text of a packed decimal with `precision` digits, `scale` of them after the point. Between the quotes is

@@ -7,13 +7,13 @@ ghost use Rattle.feed_text.specs.CellText.{Appends};
 ghost use Rattle.feed_text.specs.DiffText.{operation_text, document_part, diff_text, diffs_text};
 ghost use Rattle.rows_jsonb.specs.JsonbViews.{jsonb_value};
 ghost use Rattle.rows_jsonb.specs.JsonTreeViews.{view};
-ghost use Rattle.rows_values.specs.declared.fault.RowsError.TheVariants.{Memory};
+ghost use Rattle.rows_errors.specs.declared.fault.RowsError.TheVariants.{Memory};
 ghost use Rattle.feed_text.specs.JsonText.{document_text};
 
 use crate::documents::put_json;
 use crate::quoting::quote;
+use rows_errors::RowsError;
 use rows_jsonb::{JsonDiff, JsonDiffOperation, JsonDom, Value};
-use rows_values::RowsError;
 use std::alloc::{Allocator, Global};
 
 /// The word for an operation, and a space.

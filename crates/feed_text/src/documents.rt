@@ -8,8 +8,8 @@ ghost use Rattle.feed_text.specs.JsonText.{document_text};
 
 use crate::json_scalars::append_scalar;
 use crate::quoting::quote;
+use rows_errors::RowsError;
 use rows_jsonb::{JsonContainer, JsonDom};
-use rows_values::RowsError;
 use std::alloc::Allocator;
 use std::collections::BTreeMap;
 

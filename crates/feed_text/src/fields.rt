@@ -15,10 +15,9 @@ use crate::short::{put_date, put_span};
 use crate::short_decimals::put_short_decimal;
 use feed_writers::{put_byte, put_bytes, put_few_quoted, put_number, put_quoted, put_signed};
 use rows_cells::{
-    CellFormat, CellRef, Width, read_bytes, read_datetime, read_few_bytes, read_signed, read_time,
-    read_unsigned, split_decimal,
+    CellFormat, CellRef, ImageField, Width, read_bytes, read_datetime, read_few_bytes, read_signed,
+    read_time, read_unsigned, split_decimal,
 };
-use rows_images::ImageField;
 
 /// The maximum length of the text of a field that is written here, in bytes.
 pub(crate) const VALUE_LEN_MAX: usize = 194;

@@ -7,8 +7,8 @@ ghost use Rattle.feed_text.specs.ImageText.{WritesFields, AppendsFields, PutsCel
 use crate::buffer::TextBuffer;
 use crate::cells::{LABEL_LEN_MAX, put_label};
 use crate::fields::{VALUE_LEN_MAX, put_field};
-use rows_images::ImageCells;
-use rows_values::RowsError;
+use rows_cells::ImageCells;
+use rows_errors::RowsError;
 use std::alloc::{Allocator, Global};
 
 /// The maximum length of a label and a short text, in bytes.

@@ -15,8 +15,9 @@ use feed_writers::{
     Clock, Day, put_byte, put_clock, put_day, put_hexadecimal, put_number, put_signed,
 };
 use itoa::Buffer;
+use rows_errors::RowsError;
 use rows_jsonb::{JsonNumber, JsonOpaque, JsonScalar};
-use rows_values::{MysqlTime, MysqlTimestampType, RowsError};
+use rows_values::{MysqlTime, MysqlTimestampType};
 use std::alloc::Allocator;
 
 /// Appends the text of a scalar. An error may leave a part of it.

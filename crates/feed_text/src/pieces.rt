@@ -1,7 +1,7 @@
 ghost use Rattle.std.specs.Prelude.{◌≡◌, ◌++◌, OnOk, IfErr};
 ghost use Rattle.feed_text.specs.Pieces.{pieces_text, IsAppendError};
 
-use rows_values::RowsError;
+use rows_errors::RowsError;
 use std::alloc::Allocator;
 
 /// Appends all of the pieces, or none of them.

@@ -4,7 +4,7 @@ ghost use Rattle.feed_writers.specs.Quoting.{is_plain_byte, escape, quoted};
 ghost use Rattle.feed_text.specs.Pieces.{IsAppendError};
 
 use feed_writers::{is_plain, plain_len, put_escapes};
-use rows_values::RowsError;
+use rows_errors::RowsError;
 use std::alloc::Allocator;
 
 /// The length of a piece that is escaped and appended at once.

@@ -1,14 +1,14 @@
 //! The lines of rows of one image.
 
 ghost use Rattle.std.specs.Prelude.{◌≤◌, ◌+◌, length};
-ghost use Rattle.rows_images.specs.ImageViews.{image_shape};
+ghost use Rattle.rows_cells.specs.ImageViews.{image_shape};
 ghost use Rattle.feed_text.specs.Buffers.{text_in};
 ghost use Rattle.feed_text.specs.RowText.{WritesRowOrNone, AppendsRows};
 
 use crate::buffer::TextBuffer;
 use crate::images::{FIELD_LEN_MAX, put_fields};
 use feed_writers::{put_byte, put_bytes};
-use rows_images::{ImageCells, ImagePlan};
+use rows_cells::{ImageCells, ImagePlan};
 use std::alloc::Allocator;
 
 /// Writes the line of the row at the start of the bytes, if the text of each of its cells is short and there is room for it.

@@ -6,7 +6,8 @@ ghost use Rattle.feed_text.specs.ValueText.{value_text};
 use crate::quoting::quote;
 use crate::short::{SHORT_LEN_MAX, Short, put_short};
 use feed_writers::{Clock, Day};
-use rows_values::{RowsError, Value};
+use rows_errors::RowsError;
+use rows_values::Value;
 use std::alloc::Allocator;
 
 /// Appends the text of a value: `NULL`; an integer in decimal, an unsigned one after `u`; `f` or `d` and the hexadecimal digits

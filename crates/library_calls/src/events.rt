@@ -1,8 +1,7 @@
 //! Lists the events of a binary log, a line for each: the number of its type, the position after it in its log, and its size in
 //! bytes. If `EventStreamReader` runs out of memory, the event is read again.
 
-use events_frames::{BinlogFileHeader, EventError};
-use events_reader::EventStreamReader;
+use events_frames::{BinlogFileHeader, EventError, EventStreamReader};
 use events_stream::{Event, ReadEvents};
 use rows_consts::BinlogVersion;
 use std::alloc::Global;

@@ -3,7 +3,7 @@
 //! be fed, which the follower can only take if nothing was dropped.
 
 use crc32::crc32;
-use feed_kinds::{Verdict, name_of};
+use feed_events::{Verdict, name_of};
 use feed_streams::Follower;
 use std::alloc::{AllocError, Global};
 use std::io::{self, Write};

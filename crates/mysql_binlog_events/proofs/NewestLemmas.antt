@@ -3,7 +3,7 @@ use Rattle.std.proofs.Common.{◌≡◌, ◌∙◌, ℕ, List, [], ◌∷◌, re
 use Rattle.std.specs.Prelude.{if◌then◌else◌, ◌==◌, Option}
 use Rattle.rows_meta.specs.TableMaps.{TableMap}
 use Rattle.events_frames.specs.Descriptions.{Description}
-use Rattle.events_reader.specs.Readings.{ReaderState, Change, NewDescription, NewTableMap, NewFile, NothingNew, first_reading, after_change}
+use Rattle.events_frames.specs.Readings.{ReaderState, Change, NewDescription, NewTableMap, NewFile, NothingNew, first_reading, after_change}
 use Rattle.mysql_binlog_events.specs.Newest.{AcceptsAll, NoEvent, OneMore, newest_described, newest_table_map}
 
 description_step : (first : Description) (said : Change) (older : List Change) (old : ReaderState) → old.description ≡ newest_described first older → (after_change old said).description ≡ newest_described first (said ∷ older)

@@ -45,8 +45,8 @@ pub use Rattle.events_queries.specs.DbNames
 pub use Rattle.events_queries.specs.StatusVarViews
 pub use Rattle.events_rows.specs.RowsContexts
 pub use Rattle.events_rows.specs.RowsViews
-pub use Rattle.events_reader.specs.Readings
-pub use Rattle.events_reader.specs.ReadingViews
+pub use Rattle.events_frames.specs.Readings
+pub use Rattle.events_frames.specs.ReadingViews
 pub use Rattle.events_stream.specs.EventViews
 pub use Rattle.events_stream.specs.OwnedEvents
 pub use Rattle.events_stream.specs.OwnedBodies

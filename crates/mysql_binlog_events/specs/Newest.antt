@@ -3,7 +3,7 @@ use Rattle.std.specs.Prelude.{ℕ, ◌==◌, List, [], ◌∷◌, Option, Some, 
 use Rattle.rows_meta.specs.TableMaps.{TableMap}
 use Rattle.events_frames.specs.Descriptions.{Description}
 use Rattle.events_frames.specs.EventParts.{Parts}
-use Rattle.events_reader.specs.Readings.{ReaderState, Change, NewDescription, NewTableMap, NewFile, NothingNew, IsAccepted}
+use Rattle.events_frames.specs.Readings.{ReaderState, Change, NewDescription, NewTableMap, NewFile, NothingNew, IsAccepted}
 
 -- the changes of all accepted events, the newest first
 pub data AcceptsAll (first : ReaderState) : List Change → ReaderState → Type 0 where

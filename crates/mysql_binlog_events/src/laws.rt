@@ -14,7 +14,7 @@ ghost use Rattle.events_bodies.specs.LoadQueries.{IsLoadQuery, load_query_encode
 ghost use Rattle.events_gtids.specs.Gtids.{IsGtid, gtid_encoded};
 ghost use Rattle.std.specs.Fn.{FnReturnsAt};
 ghost use Rattle.mysql_binlog_events.specs.DataAgain.{IsDataSameAgain};
-ghost use Rattle.events_reader.specs.Readings.{ReaderState, Change, first_reading};
+ghost use Rattle.events_frames.specs.Readings.{ReaderState, Change, first_reading};
 ghost use Rattle.mysql_binlog_events.specs.Newest.{AcceptsAll, newest_described, newest_table_map};
 ghost use Rattle.mysql_binlog_events.specs.WrittenAgain.{IsWrittenBack, IsReadWithSum, IsFileWrittenBack};
 ghost use Rattle.mysql_binlog_events.specs.ReadAgain.{IsReadAsEncoded, IsReadAgain, IsSameAgain, IsDescriptionReadAgain, IsDescriptionSameAgain, IsRowsReadAgain, IsRowsSameAgain, NothingFollows, AnythingFollows};

@@ -2,10 +2,10 @@
 //! of streams and files.
 //!
 //! Each part is a crate, which is re-exported completely: `events_frames` has frames, headers, footers, format descriptions,
-//! event errors and the texts of a statement, `events_queries` the body of a statement and its status variables,
-//! `events_bodies` the other bodies with one layout, `events_gtids` those with GTIDs, `events_rows` rows events by type,
-//! `events_reader` the reader of a log, and `events_stream` bodies of any type, owned events, files and the writer. The parts
-//! use those of `mysql_binlog_rows` and `mysql_wire`.
+//! event errors, the texts of a statement and the reader of a log, `events_queries` the body of a statement and its status
+//! variables, `events_bodies` the other bodies with one layout, `events_gtids` those with GTIDs, `events_rows` rows events by type,
+//! and `events_stream` bodies of any type, owned events, files and the writer. The parts use those of `mysql_binlog_rows` and
+//! `mysql_wire`.
 #![tactic(auto)]
 
 mod frame_laws;
@@ -18,12 +18,11 @@ pub use events_bodies::{
 };
 pub use events_frames::{
     BinlogCtx, BinlogEvent, BinlogEventFooter, BinlogEventHeader, BinlogFileHeader, BinlogStruct,
-    EventError, EventParts, EventSource, FormatDescriptionEvent, NextFrame, QueryTexts,
-    RotateEvent, XidEvent, calc_checksum, gather, next_frame, read_body, read_struct,
+    EventError, EventParts, EventSource, EventStreamReader, FormatDescriptionEvent, NextFrame,
+    QueryTexts, RotateEvent, XidEvent, calc_checksum, gather, next_frame, read_body, read_struct,
 };
 pub use events_gtids::{AnonymousGtidEvent, GtidEvent};
 pub use events_queries::{QueryEvent, StatusVar, StatusVarVal, StatusVars, StatusVarsIterator};
-pub use events_reader::EventStreamReader;
 pub use events_rows::{
     DeleteRows, DeleteRowsEvent, DeleteRowsEventV1, DeleteRowsV1, HasAfter, HasBefore,
     PartialUpdateRows, PartialUpdateRowsEvent, PostHeaderLens, RowsEventData, RowsEventOf,

@@ -4,10 +4,10 @@ use Rattle.wire_buf.specs.Encoding.{Lacks}
 use Rattle.wire_buf.specs.LenencSplit.{split_lenenc}
 use Rattle.wire_buf.proofs.LenencLemmas.{lenenc_lacks}
 use Rattle.wire_forms.specs.Faults.{lenenc_fault}
-use Rattle.rows_values.specs.Faults.{rows_error}
-use Rattle.rows_values.specs.declared.fault.RowsError.{RowsError}
-use Rattle.rows_values.specs.declared.fault.RowsError.TheVariants.{EndOfBody}
-use Rattle.rows_values.specs.Readings.{Reading, ◌>>=◌}
+use Rattle.rows_errors.specs.Faults.{rows_error}
+use Rattle.rows_errors.specs.declared.fault.RowsError.{RowsError}
+use Rattle.rows_errors.specs.declared.fault.RowsError.TheVariants.{EndOfBody}
+use Rattle.rows_errors.specs.Readings.{Reading, ◌>>=◌}
 use Rattle.rows_meta.specs.Entries.{NumberEncoding, StringEncoding, PairEncoding, found, lenenc_at, string_at, pair_at}
 use Rattle.rows_meta.specs.EntryErrors.{NumberEntryFails, StringEntryFails, PairEntryFails}
 use Rattle.rows_meta.proofs.EntryLemmas.{number-is, number-here, number_missing}

@@ -1,8 +1,8 @@
 -- Values of n bytes, read from a reader whose bytes may be known.
 use Rattle.std.specs.Prelude.{◌≡◌, ◌≤◌, ◌<◌, ◌⊎◌, ℕ, List, length, Option}
 use Rattle.std.specs.Io.KnownBytes.{Consumes, IsAtEnd}
-use Rattle.rows_values.specs.declared.fault.RowsError.{RowsError}
-use Rattle.rows_values.specs.declared.fault.RowsError.TheVariants.{EndOfBody, Read}
+use Rattle.rows_errors.specs.declared.fault.RowsError.{RowsError}
+use Rattle.rows_errors.specs.declared.fault.RowsError.TheVariants.{EndOfBody, Read}
 
 -- the next n bytes were taken, and v is their value
 pub record ReadsValue {A : Type 0} (n : ℕ) (value : List ℕ → A) (v : A) (old new : Option (List ℕ)) : Type 0 where

@@ -9,8 +9,8 @@ ghost use Rattle.rows_cells.specs.BinlogValues.{Kept, IsKeptOf, kept_view};
 ghost use Rattle.wire_buf.specs.Encoding.{Alone};
 ghost use Rattle.rows_jsonb.specs.Items.{Walked, Finds, items_at};
 ghost use Rattle.rows_cells.specs.Cells.{IsCell, cell_at};
-ghost use Rattle.rows_images.specs.Images.{ColumnValue, ImageShape, IsImage, image_at};
-ghost use Rattle.rows_images.specs.EventRows.{IsEventRow, row_at};
+ghost use Rattle.rows_cells.specs.Images.{ColumnValue, ImageShape, IsImage, image_at};
+ghost use Rattle.rows_cells.specs.EventRows.{IsEventRow, row_at};
 
 /// The cell that is read from bytes is the one that a prefix of them encodes, whatever follows it.
 pub fn cells_are_read()

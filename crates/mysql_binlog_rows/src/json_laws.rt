@@ -9,8 +9,8 @@ ghost use Rattle.rows_jsonb.specs.JsonTrees.{scalar, object, member, no_members}
 ghost use Rattle.rows_jsonb.specs.JsonbValues.{malformed};
 ghost use Rattle.rows_jsonb.specs.DocumentTrees.{document_tree};
 ghost use Rattle.rows_jsonb.specs.WorkedDocuments.{doubled, doubled_tree, nested, nested_tree};
-ghost use Rattle.rows_values.specs.declared.fault.RowsError.TheVariants.{Jsonb};
-ghost use Rattle.rows_values.specs.declared.fault.JsonbError.TheVariants.{InvalidValueOffsetPointer};
+ghost use Rattle.rows_errors.specs.declared.fault.RowsError.TheVariants.{Jsonb};
+ghost use Rattle.rows_errors.specs.declared.fault.JsonbError.TheVariants.{InvalidValueOffsetPointer};
 
 /// Two objects with one member each, the second from bytes in which the key occurs twice; and empty bytes.
 pub fn worked_objects()

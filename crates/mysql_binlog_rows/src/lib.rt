@@ -1,9 +1,9 @@
 //! The rows of MySQL's binary logs: their constants; the times, decimals and values in their cells; columns and bits; table maps
 //! and rows events.
 //!
-//! Each part is a crate, which is re-exported completely: `rows_consts` has the constants and flags, `rows_values` the errors of
-//! rows, packed times, decimals, plain values, columns, rows and bits, `rows_jsonb` JSON documents, whose values are
-//! `jsonb::Value`, `rows_cells` the cells of columns, the images of rows, and rows, `rows_meta` table maps and their optional
+//! Each part is a crate, which is re-exported completely: `rows_consts` has the constants and flags, `rows_errors` the errors of
+//! reading rows, `rows_values` packed times, decimals, plain values, columns and rows, `rows_jsonb` JSON documents, whose values are
+//! `jsonb::Value`, `rows_cells` the cells of columns, the images of rows, and rows, `rows_meta` bits, table maps and their optional
 //! metadata, and `rows_events` rows events, the plan of a table's columns, and owned rows. The parts use those of `mysql_wire`.
 //!
 //! `my_time_packed_from_binary` and its neighbours, which read packed times from readers, are in this crate, since no part needs
@@ -23,6 +23,13 @@ pub use rows_cells::BinlogValueCtx;
 pub use rows_cells::BinlogValueToValueError;
 pub use rows_cells::CellFormat;
 pub use rows_cells::CellRef;
+pub use rows_cells::ImageCells;
+pub use rows_cells::ImageColumn;
+pub use rows_cells::ImageField;
+pub use rows_cells::ImagePlan;
+pub use rows_cells::RowPart;
+pub use rows_cells::RowPlan;
+pub use rows_cells::RowsCursor;
 pub use rows_cells::Width;
 pub use rows_cells::read_bytes;
 pub use rows_cells::read_cell;
@@ -58,6 +65,8 @@ pub use rows_consts::UnknownEventType;
 pub use rows_consts::UnknownOptionalMetadataFieldType;
 pub use rows_consts::UnknownRowsEventFlags;
 pub use rows_consts::UnknownSemiSyncFlags;
+pub use rows_errors::JsonbError;
+pub use rows_errors::RowsError;
 pub use rows_events::BinlogRow;
 pub use rows_events::BinlogRowCtx;
 pub use rows_events::BinlogRowToRowError;
@@ -71,13 +80,6 @@ pub use rows_events::RowsEvent;
 pub use rows_events::RowsEventCtx;
 pub use rows_events::RowsEventRows;
 pub use rows_events::RowsEventType;
-pub use rows_images::ImageCells;
-pub use rows_images::ImageColumn;
-pub use rows_images::ImageField;
-pub use rows_images::ImagePlan;
-pub use rows_images::RowPart;
-pub use rows_images::RowPlan;
-pub use rows_images::RowsCursor;
 pub use rows_jsonb::Array;
 pub use rows_jsonb::ArrayIter;
 pub use rows_jsonb::ComplexType;
@@ -107,6 +109,8 @@ pub use rows_jsonb::check_json_diffs;
 pub use rows_jsonb::json_diffs;
 pub use rows_jsonb::{self as jsonb};
 pub use rows_meta::BadColumnType;
+pub use rows_meta::Bits;
+pub use rows_meta::BitsIter;
 pub use rows_meta::ColumnCharsets;
 pub use rows_meta::ColumnMeta;
 pub use rows_meta::ColumnName;
@@ -170,8 +174,6 @@ pub use rows_more_consts::UnknownTransactionPayloadCompressionType;
 pub use rows_more_consts::UnknownTransactionPayloadFields;
 pub use rows_more_consts::UnknownUserVarFlags;
 pub use rows_more_consts::UserVarFlags;
-pub use rows_values::Bits;
-pub use rows_values::BitsIter;
 pub use rows_values::Column;
 pub use rows_values::DATETIMEF_INT_OFS;
 pub use rows_values::DIG_BASE;
@@ -180,13 +182,11 @@ pub use rows_values::DIG_TO_BYTES;
 pub use rows_values::Decimal;
 pub use rows_values::DecimalNumbers;
 pub use rows_values::Digit;
-pub use rows_values::JsonbError;
 pub use rows_values::MysqlTime;
 pub use rows_values::MysqlTimestampType;
 pub use rows_values::POWERS_10;
 pub use rows_values::ParseDecimalError;
 pub use rows_values::Row;
-pub use rows_values::RowsError;
 pub use rows_values::TIMEF_INT_OFS;
 pub use rows_values::TIMEF_OFS;
 pub use rows_values::Value;

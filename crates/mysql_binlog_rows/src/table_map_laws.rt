@@ -3,7 +3,7 @@
 
 ghost use Rattle.std.specs.Prelude.{◌≡◌, ◌↔◌, ℕ, List, Ok, true};
 ghost use Rattle.wire_buf.specs.Encoding.{Begins};
-ghost use Rattle.rows_values.specs.Readings.{Reading};
+ghost use Rattle.rows_errors.specs.Readings.{Reading};
 ghost use Rattle.rows_meta.specs.Entries.{NumberEncoding, StringEncoding, PairEncoding, lenenc_at, string_at, pair_at};
 ghost use Rattle.rows_meta.specs.MetadataFields.{FieldEncoding, tagged_at};
 ghost use Rattle.rows_meta.specs.Members.{MembersEncoding, members_at};

@@ -4,8 +4,8 @@ ghost use Rattle.std.specs.Prelude.{◌+◌, IfOk, IfErr};
 ghost use Rattle.rows_packed_times.specs.PackedTimes.{fraction_len, time2, datetime2, timestamp2};
 ghost use Rattle.mysql_binlog_rows.specs.ReadTimes.{ReadsValue, ReadFallsShort};
 
+use rows_errors::RowsError;
 use rows_packed_times::{datetime_of, fraction_size, time_of, timestamp_of};
-use rows_values::RowsError;
 use std::io::Read;
 use wire_buf::read_exact;
 

@@ -1,11 +1,11 @@
 -- What is kept of a cell is determined by its bytes.
 use Rattle.std.proofs.Common.{◌≡◌, ℕ, List, Ok, Err, refl, sym, ap, subst, ◌∙◌}
 use Rattle.wire_buf.specs.Encoding.{Reads, Lacks, Alone}
-use Rattle.rows_values.specs.declared.fault.RowsError.{RowsError}
+use Rattle.rows_errors.specs.declared.fault.RowsError.{RowsError}
 use Rattle.rows_values.specs.declared.rows.value.Value.{Value}
 use Rattle.rows_values.specs.declared.rows.value.Value.TheVariants as plain
 use Rattle.rows_jsonb.specs.JsonbValues.{JsonbValue}
-use Rattle.rows_values.specs.Readings.{Reading}
+use Rattle.rows_errors.specs.Readings.{Reading}
 use Rattle.rows_jsonb.specs.Items.{Walked, all_found}
 use Rattle.rows_jsonb.specs.JsonDiffs.{Diff}
 use Rattle.rows_cells.specs.declared.format.CellFormat.{CellFormat}

@@ -1,3 +1,6 @@
 pub mod FieldLemmas
 pub mod CellLemmas
 pub mod KeptLemmas
+pub mod RowLemmas
+pub mod CursorLemmas
+pub mod ImageLemmas

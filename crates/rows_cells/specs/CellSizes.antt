@@ -1,8 +1,8 @@
 -- The size of a cell, by its format (MySQL's source, libs/mysql/binlog/event/rows_event.h, the table of column types).
 use Rattle.std.specs.Prelude.{ℕ, ◌+◌, ◌-◌, nat_le, if◌then◌else◌}
 use Rattle.rows_values.specs.PackedTimes.{fraction_len}
-use Rattle.rows_values.specs.declared.fault.RowsError.{RowsError}
-use Rattle.rows_values.specs.declared.fault.RowsError.TheVariants.{Metadata, Cell, Decimal as BadDecimal}
+use Rattle.rows_errors.specs.declared.fault.RowsError.{RowsError}
+use Rattle.rows_errors.specs.declared.fault.RowsError.TheVariants.{Metadata, Cell, Decimal as BadDecimal}
 use Rattle.rows_values.specs.Decimals.{packed_size}
 use Rattle.rows_cells.specs.declared.format.Width.{Width}
 use Rattle.rows_cells.specs.declared.format.Width.TheVariants as width

@@ -8,11 +8,11 @@ use Rattle.rows_values.specs.PackedTimes.{fraction_len, time2, datetime2, timest
 use Rattle.rows_values.specs.TimeFields.{span_fields, date_fields}
 use Rattle.rows_values.specs.TimeTexts.{padded_decimal}
 use Rattle.rows_values.specs.declared.times.mysql_time.MysqlTimestampType.TheVariants.{MYSQL_TIMESTAMP_DATETIME}
-use Rattle.rows_values.specs.declared.fault.RowsError.{RowsError}
-use Rattle.rows_values.specs.declared.fault.RowsError.TheVariants.{Metadata, Cell, Decimal as BadDecimal}
+use Rattle.rows_errors.specs.declared.fault.RowsError.{RowsError}
+use Rattle.rows_errors.specs.declared.fault.RowsError.TheVariants.{Metadata, Cell, Decimal as BadDecimal}
 use Rattle.rows_values.specs.Unpacked.{packed_text}
 use Rattle.rows_jsonb.specs.JsonbValues.{document}
-use Rattle.rows_values.specs.Readings.{Reading, ◌>>=◌}
+use Rattle.rows_errors.specs.Readings.{Reading, ◌>>=◌}
 use Rattle.rows_jsonb.specs.Items.{items_at}
 use Rattle.rows_jsonb.specs.JsonDiffs.{diff_at}
 use Rattle.rows_cells.specs.declared.format.Width.TheVariants as width

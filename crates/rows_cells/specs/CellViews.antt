@@ -3,8 +3,8 @@ use Rattle.std.specs.Prelude.{◌≡◌, ⊤, ℕ, ◌+◌, List, [], map, Optio
 use Rattle.std.specs.declared.result.Result.TheVariants.{Ok, Err}
 use Rattle.std.specs.Fmt.{decimal}
 use Rattle.rows_values.specs.Unpacked.{packed_text}
-use Rattle.rows_values.specs.declared.fault.RowsError.{RowsError}
-use Rattle.rows_values.specs.declared.fault.RowsError.TheVariants.{Decimal as BadDecimal}
+use Rattle.rows_errors.specs.declared.fault.RowsError.{RowsError}
+use Rattle.rows_errors.specs.declared.fault.RowsError.TheVariants.{Decimal as BadDecimal}
 use Rattle.rows_values.specs.declared.rows.value.Value.{Value}
 use Rattle.rows_values.specs.declared.rows.value.Value.TheVariants as value
 use Rattle.rows_jsonb.specs.JsonbValues.{document}

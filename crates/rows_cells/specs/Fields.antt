@@ -2,8 +2,8 @@
 use Rattle.std.specs.Prelude.{ℕ, List, length, take, drop, nat_le, if◌then◌else◌}
 use Rattle.std.specs.declared.result.Result.TheVariants.{Ok, Err}
 use Rattle.byteorder.specs.Endian.{little_number}
-use Rattle.rows_values.specs.declared.fault.RowsError.TheVariants.{EndOfBody}
-use Rattle.rows_values.specs.Readings.{Reading, ◌>>=◌}
+use Rattle.rows_errors.specs.declared.fault.RowsError.TheVariants.{EndOfBody}
+use Rattle.rows_errors.specs.Readings.{Reading, ◌>>=◌}
 
 -- the first n bytes, and the bytes after them
 abbrev pub at_width : ℕ → List ℕ → Reading (List ℕ × List ℕ)

@@ -5,3 +5,7 @@ pub mod CellValues
 pub mod CellViews
 pub mod Cells
 pub mod BinlogValues
+pub mod Images
+pub mod ImageViews
+pub mod EventRows
+pub mod RowViews

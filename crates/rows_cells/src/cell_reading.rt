@@ -2,7 +2,7 @@
 
 ghost use Rattle.std.specs.Prelude.{◌≡◌, ◌≤◌, IfOk, IfSome, IfNone, Ok, length, take, drop};
 ghost use Rattle.rows_values.specs.Unpacked.{packed_text};
-ghost use Rattle.rows_values.specs.Readings.{map_reading};
+ghost use Rattle.rows_errors.specs.Readings.{map_reading};
 ghost use Rattle.rows_cells.specs.CellSizes.{cell_size, decimal_size};
 ghost use Rattle.rows_cells.specs.declared.format.Width.TheVariants.{One};
 ghost use Rattle.rows_cells.specs.declared.format.CellFormat.TheVariants.{Signed, Unsigned, Counted, Datetime2, Time2};
@@ -14,9 +14,10 @@ use crate::cell::CellRef;
 use crate::fields::{signed, split_counted, split_prefix, unsigned};
 use crate::format::{CellFormat, Width};
 use byteorder::{ByteOrder, LittleEndian};
+use rows_errors::RowsError;
 use rows_jsonb::{Value, check_json_diffs};
 use rows_values::{
-    RowsError, datetime_of, decimal_bin_size, fraction_size, packs_decimal, time_of, timestamp_of,
+    datetime_of, decimal_bin_size, fraction_size, packs_decimal, time_of, timestamp_of,
 };
 use wire_buf::ParseBuf;
 

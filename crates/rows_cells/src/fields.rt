@@ -3,13 +3,13 @@
 ghost use Rattle.std.specs.Prelude.{◌≡◌, ◌≤◌, length};
 ghost use Rattle.byteorder.specs.Endian.{little_number};
 ghost use Rattle.wire_buf.specs.Numbers.{little_signed};
-ghost use Rattle.rows_values.specs.Readings.{map_reading};
+ghost use Rattle.rows_errors.specs.Readings.{map_reading};
 ghost use Rattle.rows_cells.specs.Fields.{at_width, counted_at};
 ghost use Rattle.rows_cells.specs.CellSizes.{width_bytes};
 
 use crate::format::Width;
 use byteorder::{ByteOrder, LittleEndian};
-use rows_values::RowsError;
+use rows_errors::RowsError;
 
 /// Splits off the first `len` bytes, and returns them and the rest; `EndOfBody` if there are fewer.
 #[inline(always)]

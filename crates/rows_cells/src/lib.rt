@@ -1,8 +1,10 @@
-//! The cells of rows in a binary log: the format of a column's cells, by its type and metadata, and the cell itself, borrowed
-//! from the bytes of a rows event.
+//! The cells of rows in a binary log, borrowed from the bytes of a rows event; the images of rows, which say what cells there are;
+//! and the rows of an event.
 //!
-//! `specs/ColumnFormats.antt` defines the format of a column's cells, `specs/CellFormats.antt` their size, `specs/CellValues.antt`
-//! their values, `specs/Cells.antt` which bytes encode a cell, and `specs/BinlogValues.antt` what callers keep of it.
+//! `specs/ColumnFormats.antt` defines the format of a column's cells, by the column's type and metadata, `specs/CellSizes.antt` the
+//! size of a cell, `specs/CellValues.antt` the values of cells, `specs/Cells.antt` which bytes encode a cell, and
+//! `specs/BinlogValues.antt` what callers keep of it. `specs/Images.antt` defines which bytes encode an image: the columns that it
+//! has, which of its cells are NULL, and the cells in order. `specs/EventRows.antt` defines which bytes encode a row.
 #![tactic(auto)]
 
 mod binlog_value;
@@ -12,7 +14,9 @@ mod column_format;
 mod conversions;
 mod fields;
 mod format;
+mod image;
 mod owned;
+mod rows;
 mod value_field;
 
 pub use binlog_value::BinlogValue;
@@ -24,4 +28,6 @@ pub use cell_reading::{
 pub use conversions::BinlogValueToValueError;
 pub use fields::split_prefix;
 pub use format::{CellFormat, Width};
+pub use image::{ImageCells, ImageColumn, ImageField, ImagePlan};
+pub use rows::{RowPart, RowPlan, RowsCursor};
 pub use value_field::BinlogValueCtx;

@@ -6,13 +6,14 @@ ghost use Rattle.rows_values.specs.TimeTexts.{padded_decimal};
 ghost use Rattle.rows_values.specs.Unpacked.{packed_text};
 ghost use Rattle.rows_cells.specs.CellValues.{new_date as new_date_value, old_time as old_time_value, old_datetime as old_datetime_value, timestamp_text as timestamp_text_of, cell_micros_text};
 ghost use Rattle.rows_cells.specs.CellViews.{cell_value, cell_value_of, Holds, HasNoValue, IsReadable};
-ghost use Rattle.rows_values.specs.declared.fault.RowsError.TheVariants.{Memory, Decimal as BadDecimal};
+ghost use Rattle.rows_errors.specs.declared.fault.RowsError.TheVariants.{Memory, Decimal as BadDecimal};
 
 use crate::binlog_value::BinlogValue;
 use crate::cell::CellRef;
 use itoa::Buffer;
+use rows_errors::RowsError;
 use rows_jsonb::{Value as JsonbValue, json_diffs};
-use rows_values::{RowsError, Value, datetime_from_packed, put_decimal_text, time_from_packed};
+use rows_values::{Value, datetime_from_packed, put_decimal_text, time_from_packed};
 use std::alloc::{AllocError, Global};
 use wire_buf::ParseBuf;
 

@@ -2,14 +2,14 @@
 
 ghost use Rattle.std.specs.Prelude.{◌≡◌, ◌⊎◌, Err};
 ghost use Rattle.wire_buf.specs.Encoding.{Alone};
-ghost use Rattle.rows_values.specs.declared.fault.RowsError.TheVariants.{Memory};
+ghost use Rattle.rows_errors.specs.declared.fault.RowsError.TheVariants.{Memory};
 ghost use Rattle.rows_cells.specs.Cells.{cell_at};
 ghost use Rattle.rows_cells.specs.BinlogValues.{Kept, kept_view, IsKeptCell, format_of_ctx};
 
 use crate::binlog_value::BinlogValue;
 use crate::cell_reading::read_cell;
 use crate::format::CellFormat;
-use rows_values::RowsError;
+use rows_errors::RowsError;
 use std::alloc::Global;
 use wire_buf::{AnySize, MyDeserialize, ParseBuf};
 use wire_consts::ColumnType;

@@ -6,12 +6,12 @@ use Rattle.std.specs.Rc.{rc_slice_items}
 use Rattle.std.specs.declared.result.Result.{Result}
 use Rattle.rows_values.specs.Columns.{parts_of}
 use Rattle.rows_values.specs.declared.rows.column.Column.{Column}
-use Rattle.rows_values.specs.declared.fault.RowsError.{RowsError}
-use Rattle.rows_values.specs.declared.fault.RowsError.TheVariants.{Memory}
-use Rattle.rows_values.specs.Readings.{Reading, ◌>>=◌}
-use Rattle.rows_images.specs.Images.{ColumnValue, ImageShape, image_at}
-use Rattle.rows_images.specs.declared.image.ImageColumn.{ImageColumn}
-use Rattle.rows_images.specs.EventRows.{images_at, row_at}
+use Rattle.rows_errors.specs.declared.fault.RowsError.{RowsError}
+use Rattle.rows_errors.specs.declared.fault.RowsError.TheVariants.{Memory}
+use Rattle.rows_errors.specs.Readings.{Reading, ◌>>=◌}
+use Rattle.rows_cells.specs.Images.{ColumnValue, ImageShape, image_at}
+use Rattle.rows_cells.specs.declared.image.ImageColumn.{ImageColumn}
+use Rattle.rows_cells.specs.EventRows.{images_at, row_at}
 use Rattle.rows_events.specs.RowImages.{IsReadRow, IsRowOf, image_read}
 use Rattle.rows_events.specs.declared.binlog_row.BinlogRow.{BinlogRow}
 use Rattle.rows_events.specs.declared.row_image.RowImage.{RowImage}

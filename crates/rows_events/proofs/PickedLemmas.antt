@@ -6,8 +6,8 @@ use Rattle.std.proofs.Math.Seq.{drop-cons}
 use Rattle.std.proofs.lemmas.List.{append-nil, map-append, drop_all}
 use Rattle.std.specs.Iterator.{YieldsFirstBy}
 use Rattle.std.specs.declared.result.Result.{Result}
-use Rattle.rows_values.specs.declared.fault.RowsError.{RowsError}
-use Rattle.rows_values.specs.Readings.{Reading, map_reading}
+use Rattle.rows_errors.specs.declared.fault.RowsError.{RowsError}
+use Rattle.rows_errors.specs.Readings.{Reading, map_reading}
 use Rattle.rows_meta.specs.MetadataViews.{name_view, remaining_names}
 use Rattle.rows_meta.specs.declared.names.ColumnName.{ColumnName}
 use Rattle.rows_meta.specs.declared.names.IterNames.{IterNames}

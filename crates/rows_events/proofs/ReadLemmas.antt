@@ -1,13 +1,13 @@
 -- The values of an image, in order.
 use Rattle.std.proofs.Common.{◌≡◌, ℕ, List, [], ◌∷◌, ◌++◌, Option, Some, Ok, Err, refl, sym, ap, ◌∙◌, append_assoc}
 use Rattle.std.specs.List.{AllZip}
-use Rattle.rows_values.specs.declared.fault.RowsError.{RowsError}
-use Rattle.rows_values.specs.Readings.{Reading, ◌>>=◌}
+use Rattle.rows_errors.specs.declared.fault.RowsError.{RowsError}
+use Rattle.rows_errors.specs.Readings.{Reading, ◌>>=◌}
 use Rattle.rows_cells.specs.CellViews.{cell_value, Holds}
-use Rattle.rows_images.specs.Images.{ColumnValue}
-use Rattle.rows_images.specs.ImageViews.{remaining_cells}
+use Rattle.rows_cells.specs.Images.{ColumnValue}
+use Rattle.rows_cells.specs.ImageViews.{remaining_cells}
 use Rattle.rows_cells.specs.declared.cell.CellRef.{CellRef}
-use Rattle.rows_images.specs.declared.image.ImageCells.{ImageCells}
+use Rattle.rows_cells.specs.declared.image.ImageCells.{ImageCells}
 use Rattle.rows_cells.specs.declared.binlog_value.BinlogValue.{BinlogValue}
 use Rattle.rows_events.specs.RowImages.{IsHeld, ReadsValues}
 

@@ -6,19 +6,19 @@ use Rattle.std.specs.List.{AllZip}
 use Rattle.std.specs.Option.{option_map}
 use Rattle.std.specs.Rc.{rc_slice_items}
 use Rattle.wire_buf.specs.Encoding.{Begins, Lacks, Reads, Alone}
-use Rattle.rows_values.specs.BitLists.{len_of, bit_at}
+use Rattle.rows_meta.specs.BitLists.{len_of, bit_at}
 use Rattle.rows_values.specs.Columns.{ColumnParts, parts_of}
 use Rattle.rows_values.specs.declared.rows.column.Column.{Column}
-use Rattle.rows_values.specs.declared.fault.RowsError.{RowsError}
-use Rattle.rows_values.specs.declared.fault.RowsError.TheVariants.{Metadata, Memory}
-use Rattle.rows_values.specs.Readings.{Reading}
+use Rattle.rows_errors.specs.declared.fault.RowsError.{RowsError}
+use Rattle.rows_errors.specs.declared.fault.RowsError.TheVariants.{Metadata, Memory}
+use Rattle.rows_errors.specs.Readings.{Reading}
 use Rattle.rows_cells.specs.BinlogValues.{Kept, kept_view}
-use Rattle.rows_images.specs.Images.{ColumnValue, ImageShape, IsImage, image_at}
+use Rattle.rows_cells.specs.Images.{ColumnValue, ImageShape, IsImage, image_at}
 use Rattle.rows_cells.specs.declared.binlog_value.BinlogValue.{BinlogValue}
-use Rattle.rows_images.specs.declared.image.ImageColumn.{ImageColumn}
+use Rattle.rows_cells.specs.declared.image.ImageColumn.{ImageColumn}
 use Rattle.rows_cells.proofs.FieldLemmas.{ok_pair}
 use Rattle.rows_cells.proofs.KeptLemmas.{kept_of, one_kept}
-use Rattle.rows_images.proofs.RowLemmas.{image-is, image-here}
+use Rattle.rows_cells.proofs.RowLemmas.{image-is, image-here}
 use Rattle.rows_events.specs.PlanViews.{IsPlanOf, planned}
 use Rattle.rows_events.specs.PickedColumns.{picked_as, definition}
 use Rattle.rows_events.specs.ImageShapes.{table_plan, map_plan, shape_picked}

@@ -2,13 +2,13 @@
 use Rattle.std.proofs.Common.{◌≡◌, ◌⊎◌, inl, inr, ℕ, Bool, false, List, [], ◌∷◌, map, Option, Some, None, Ok, Err, refl, sym, ap, ◌∙◌, if◌then◌else◌}
 use Rattle.std.specs.Prelude.{filter, nat_lt, IfOk, IfErr}
 use Rattle.std.specs.declared.result.Result.{Result}
-use Rattle.rows_values.specs.BitLists.{bit_of, bit_at, len_of, lowest_bit}
-use Rattle.rows_values.specs.declared.bits.Bits.{Bits}
-use Rattle.rows_values.specs.declared.fault.RowsError.{RowsError}
-use Rattle.rows_values.specs.declared.fault.RowsError.TheVariants.{EmptyPair, Memory}
-use Rattle.rows_values.specs.Readings.{Reading, ◌>>=◌}
-use Rattle.rows_images.specs.Images.{ImageShape}
-use Rattle.rows_images.specs.declared.image.ImageColumn.{ImageColumn}
+use Rattle.rows_meta.specs.BitLists.{bit_of, bit_at, len_of, lowest_bit}
+use Rattle.rows_meta.specs.declared.bits.Bits.{Bits}
+use Rattle.rows_errors.specs.declared.fault.RowsError.{RowsError}
+use Rattle.rows_errors.specs.declared.fault.RowsError.TheVariants.{EmptyPair, Memory}
+use Rattle.rows_errors.specs.Readings.{Reading, ◌>>=◌}
+use Rattle.rows_cells.specs.Images.{ImageShape}
+use Rattle.rows_cells.specs.declared.image.ImageColumn.{ImageColumn}
 use Rattle.rows_events.specs.Plans.{PlannedColumn}
 use Rattle.rows_events.specs.PickedColumns.{is_picked, picked_as, bit_is_set, image_column, definition}
 use Rattle.std.specs.Rc.{rc_slice_items}

@@ -1,6 +1,6 @@
 -- The specification's values for the crate's columns of images.
 use Rattle.std.specs.Prelude.{List, [], ◌∷◌, if◌then◌else◌}
-use Rattle.rows_images.specs.Images.{ImageShape}
+use Rattle.rows_cells.specs.Images.{ImageShape}
 use Rattle.rows_events.specs.ImageShapes.{shape_of}
 use Rattle.rows_events.specs.declared.event_columns.EventColumns.{EventColumns}
 

@@ -3,8 +3,8 @@ use Rattle.std.specs.Prelude.{◌≡◌, ℕ, Bool, false, List, [], ◌∷◌, 
 use Rattle.std.specs.Rc.{rc_slice_items}
 use Rattle.std.specs.declared.result.Result.TheVariants.{Ok}
 use Rattle.rows_values.specs.Columns.{parts_of}
-use Rattle.rows_images.specs.Images.{ColumnValue, ImageShape}
-use Rattle.rows_images.specs.EventRows.{images_at, row_at}
+use Rattle.rows_cells.specs.Images.{ColumnValue, ImageShape}
+use Rattle.rows_cells.specs.EventRows.{images_at, row_at}
 use Rattle.rows_events.specs.PickedColumns.{definition, picked_as}
 use Rattle.rows_events.specs.RowImages.{image_read, IsRowOf}
 use Rattle.rows_events.specs.declared.binlog_row.BinlogRow.{BinlogRow}

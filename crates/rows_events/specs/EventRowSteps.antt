@@ -3,11 +3,11 @@ use Rattle.std.specs.Borrow.{Bor}
 use Rattle.std.specs.Prelude.{◌≡◌, ◌⊎◌, ⊤, ℕ, List, [], Option, Some, None}
 use Rattle.std.specs.declared.result.Result.{Result}
 use Rattle.std.specs.declared.result.Result.TheVariants.{Ok, Err}
-use Rattle.rows_values.specs.declared.fault.RowsError.{RowsError}
-use Rattle.rows_values.specs.declared.fault.RowsError.TheVariants.{Memory}
-use Rattle.rows_images.specs.Images.{ColumnValue}
-use Rattle.rows_images.specs.RowViews.{row_shape}
-use Rattle.rows_images.specs.declared.rows.RowPlan.{RowPlan}
+use Rattle.rows_errors.specs.declared.fault.RowsError.{RowsError}
+use Rattle.rows_errors.specs.declared.fault.RowsError.TheVariants.{Memory}
+use Rattle.rows_cells.specs.Images.{ColumnValue}
+use Rattle.rows_cells.specs.RowViews.{row_shape}
+use Rattle.rows_cells.specs.declared.rows.RowPlan.{RowPlan}
 use Rattle.rows_events.specs.declared.binlog_row.BinlogRow.{BinlogRow}
 use Rattle.rows_events.specs.EventShapes.{event_shapes, row_read}
 use Rattle.rows_events.specs.EventImages.{ReadsEventImages}

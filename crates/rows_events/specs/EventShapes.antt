@@ -1,12 +1,12 @@
 -- The layouts of an event's images, by the plan of its table: the columns of the table in each; and the rows that are read with them (MySQL Internals: Rows_event).
 use Rattle.std.specs.Prelude.{ℕ, Bool, false, List, [], ◌∷◌, Option, Some, None, nat_lt, if◌then◌else◌}
 use Rattle.std.specs.declared.result.Result.TheVariants.{Ok, Err}
-use Rattle.rows_values.specs.BitLists.{lowest_bit}
-use Rattle.rows_values.specs.declared.fault.RowsError.TheVariants.{EmptyPair}
-use Rattle.rows_values.specs.Readings.{Reading, ◌>>=◌}
+use Rattle.rows_meta.specs.BitLists.{lowest_bit}
+use Rattle.rows_errors.specs.declared.fault.RowsError.TheVariants.{EmptyPair}
+use Rattle.rows_errors.specs.Readings.{Reading, ◌>>=◌}
 use Rattle.rows_jsonb.specs.Items.{Walked, items_at}
-use Rattle.rows_images.specs.Images.{ColumnValue, ImageShape}
-use Rattle.rows_images.specs.EventRows.{row_at}
+use Rattle.rows_cells.specs.Images.{ColumnValue, ImageShape}
+use Rattle.rows_cells.specs.EventRows.{row_at}
 use Rattle.rows_events.specs.ImageShapes.{TablePlan, shape_picked}
 use Rattle.rows_events.specs.RowsEventTypes.{images_of, has_partial_after}
 use Rattle.rows_events.specs.RowsEvents.{RowsBody}

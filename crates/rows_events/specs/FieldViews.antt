@@ -3,8 +3,8 @@ use Rattle.std.specs.Prelude.{◌≡◌, ⊤, ℕ, List, Option, Some, None}
 use Rattle.std.specs.Option.{option_map}
 use Rattle.wire_forms.specs.RawTexts.{raw_string}
 use Rattle.wire_forms.specs.declared.raw_bytes.RawBytes.{RawBytes}
-use Rattle.rows_values.specs.declared.bits.Bits.{Bits}
-use Rattle.rows_values.specs.BitLists.{bit_of, len_of, lowest_bit}
+use Rattle.rows_meta.specs.declared.bits.Bits.{Bits}
+use Rattle.rows_meta.specs.BitLists.{bit_of, len_of, lowest_bit}
 use Rattle.rows_events.specs.declared.optional_field.OptionalField.{OptionalField}
 use Rattle.rows_events.specs.declared.extra_data.ExtraData.{ExtraData}
 

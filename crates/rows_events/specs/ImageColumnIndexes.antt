@@ -2,7 +2,7 @@
 use Rattle.std.specs.Prelude.{ℕ, List, length, Option, Some, None, option_map, slice_get}
 use Rattle.std.specs.Rc.{rc_slice_items}
 use Rattle.std.specs.declared.rc.RcSlice.{RcSlice}
-use Rattle.rows_images.specs.declared.image.ImageColumn.{ImageColumn}
+use Rattle.rows_cells.specs.declared.image.ImageColumn.{ImageColumn}
 
 -- the columns of the image, if the row was read from one
 abbrev pub image_items : {Z : Type 0} → Option (RcSlice ImageColumn Z) → Option (List ImageColumn)

@@ -1,8 +1,8 @@
 -- The layout of row images by the plan of their table: the columns in each, and the formats of their cells (the crate, row.rs).
 use Rattle.std.specs.Prelude.{ℕ, Bool, List, [], Option, Some, None, if◌then◌else◌}
 use Rattle.std.specs.declared.result.Result.TheVariants.{Ok}
-use Rattle.rows_values.specs.Readings.{Reading, ◌>>=◌}
-use Rattle.rows_images.specs.Images.{ImageShape}
+use Rattle.rows_errors.specs.Readings.{Reading, ◌>>=◌}
+use Rattle.rows_cells.specs.Images.{ImageShape}
 use Rattle.rows_meta.specs.MapViews.{map_of}
 use Rattle.rows_meta.specs.declared.table_map.TableMapEvent.{TableMapEvent}
 use Rattle.rows_events.specs.declared.plan.ColumnPlan.{ColumnPlan}

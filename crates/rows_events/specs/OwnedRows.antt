@@ -3,7 +3,7 @@ use Rattle.std.specs.Prelude.{ℕ, List, Option, slice_get}
 use Rattle.std.specs.Option.{option_flatten}
 use Rattle.std.specs.Rc.{rc_slice_items}
 use Rattle.rows_values.specs.declared.rows.column.Column.{Column}
-use Rattle.rows_images.specs.declared.image.ImageColumn.{ImageColumn}
+use Rattle.rows_cells.specs.declared.image.ImageColumn.{ImageColumn}
 use Rattle.rows_cells.specs.declared.binlog_value.BinlogValue.{BinlogValue}
 use Rattle.rows_events.specs.declared.binlog_row.BinlogRow.{BinlogRow}
 use Rattle.rows_events.specs.ImageColumnIndexes.{image_items}

@@ -3,8 +3,8 @@ use Rattle.std.specs.Prelude.{ℕ, ◌+◌, Bool, false, List, ◌++◌, map, fi
 use Rattle.std.specs.declared.result.Result.TheVariants.{Ok}
 use Rattle.wire_consts.specs.declared.column_flags.ColumnFlags.{ColumnFlags}
 use Rattle.rows_values.specs.Columns.{ColumnParts}
-use Rattle.rows_values.specs.Readings.{Reading, ◌>>=◌}
-use Rattle.rows_images.specs.declared.image.ImageColumn.{ImageColumn}
+use Rattle.rows_errors.specs.Readings.{Reading, ◌>>=◌}
+use Rattle.rows_cells.specs.declared.image.ImageColumn.{ImageColumn}
 use Rattle.rows_events.specs.Plans.{PlannedColumn}
 
 -- the bit; false if there is none

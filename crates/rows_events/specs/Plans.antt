@@ -5,11 +5,11 @@ use Rattle.std.specs.declared.result.Result.TheVariants.{Ok, Err}
 use Rattle.wire_consts.specs.ColumnTypes.{is_numeric, is_character, is_enum_or_set}
 use Rattle.wire_consts.specs.declared.column_type.ColumnType.{ColumnType}
 use Rattle.wire_consts.specs.declared.column_type.ColumnType.TheVariants.{MYSQL_TYPE_JSON}
-use Rattle.rows_values.specs.BitLists.{count_below}
-use Rattle.rows_values.specs.declared.fault.RowsError.TheVariants.{Metadata, Cell}
-use Rattle.rows_values.specs.Readings.{Reading, ◌>>=◌}
+use Rattle.rows_meta.specs.BitLists.{count_below}
+use Rattle.rows_errors.specs.declared.fault.RowsError.TheVariants.{Metadata, Cell}
+use Rattle.rows_errors.specs.Readings.{Reading, ◌>>=◌}
 use Rattle.rows_cells.specs.ColumnFormats.{column_format}
-use Rattle.rows_images.specs.declared.image.ImageColumn.{ImageColumn}
+use Rattle.rows_cells.specs.declared.image.ImageColumn.{ImageColumn}
 use Rattle.rows_meta.specs.ColumnMetadata.{ColumnMeta}
 use Rattle.rows_meta.specs.ColumnViews.{real_type_of}
 use Rattle.rows_meta.specs.declared.bad_column_type.BadColumnType.{BadColumnType}

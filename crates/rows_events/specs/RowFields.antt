@@ -3,14 +3,14 @@ use Rattle.std.specs.Prelude.{◌≡◌, ◌⊎◌, ℕ, List, map, Option, Some
 use Rattle.std.specs.List.{AllZip}
 use Rattle.std.specs.Option.{option_map}
 use Rattle.std.specs.declared.result.Result.TheVariants.{Ok, Err}
-use Rattle.rows_values.specs.BitLists.{len_of, bit_at}
+use Rattle.rows_meta.specs.BitLists.{len_of, bit_at}
 use Rattle.rows_values.specs.Columns.{ColumnParts, parts_of}
-use Rattle.rows_values.specs.declared.fault.RowsError.{RowsError}
-use Rattle.rows_values.specs.declared.fault.RowsError.TheVariants.{Metadata, Memory}
-use Rattle.rows_values.specs.Readings.{Reading, ◌>>=◌}
+use Rattle.rows_errors.specs.declared.fault.RowsError.{RowsError}
+use Rattle.rows_errors.specs.declared.fault.RowsError.TheVariants.{Metadata, Memory}
+use Rattle.rows_errors.specs.Readings.{Reading, ◌>>=◌}
 use Rattle.rows_cells.specs.BinlogValues.{Kept, IsKeptOf, kept_view}
-use Rattle.rows_images.specs.Images.{ColumnValue, ImageShape, IsImage, image_at}
-use Rattle.rows_images.specs.declared.image.ImageColumn.{ImageColumn}
+use Rattle.rows_cells.specs.Images.{ColumnValue, ImageShape, IsImage, image_at}
+use Rattle.rows_cells.specs.declared.image.ImageColumn.{ImageColumn}
 use Rattle.rows_meta.specs.MapViews.{map_of}
 use Rattle.rows_events.specs.PlanViews.{plan_of}
 use Rattle.rows_events.specs.PickedColumns.{picked_as, definition}

@@ -4,9 +4,9 @@ use Rattle.std.specs.List.{AllZip}
 use Rattle.std.specs.Rc.{rc_slice_items}
 use Rattle.std.specs.declared.result.Result.TheVariants.{Ok}
 use Rattle.rows_cells.specs.CellViews.{Holds}
-use Rattle.rows_images.specs.Images.{ColumnValue, ImageShape, image_at}
-use Rattle.rows_images.specs.ImageViews.{remaining_cells}
-use Rattle.rows_images.specs.declared.image.ImageCells.{ImageCells}
+use Rattle.rows_cells.specs.Images.{ColumnValue, ImageShape, image_at}
+use Rattle.rows_cells.specs.ImageViews.{remaining_cells}
+use Rattle.rows_cells.specs.declared.image.ImageCells.{ImageCells}
 use Rattle.rows_cells.specs.declared.binlog_value.BinlogValue.{BinlogValue}
 use Rattle.rows_events.specs.declared.binlog_row.BinlogRow.{BinlogRow}
 use Rattle.rows_events.specs.declared.row_image.RowImage.{RowImage}

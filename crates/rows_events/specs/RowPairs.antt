@@ -3,9 +3,9 @@ use Rattle.std.specs.Prelude.{◌≡◌, ℕ, List, [], ◌∷◌, map, Option, 
 use Rattle.std.specs.List.{AllZip}
 use Rattle.std.specs.declared.result.Result.TheVariants.{Ok}
 use Rattle.rows_values.specs.Columns.{parts_of}
-use Rattle.rows_values.specs.Readings.{Reading}
-use Rattle.rows_images.specs.Images.{ColumnValue}
-use Rattle.rows_images.specs.declared.image.ImageColumn.{ImageColumn}
+use Rattle.rows_errors.specs.Readings.{Reading}
+use Rattle.rows_cells.specs.Images.{ColumnValue}
+use Rattle.rows_cells.specs.declared.image.ImageColumn.{ImageColumn}
 use Rattle.rows_meta.specs.MapViews.{map_of}
 use Rattle.rows_meta.specs.declared.table_map.TableMapEvent.{TableMapEvent}
 use Rattle.rows_events.specs.PickedColumns.{image_column, definition, picked_as}

@@ -1,10 +1,10 @@
 -- A walk over the columns of a table and its lists of optional metadata.
 use Rattle.std.specs.Prelude.{◌≡◌, ⊤, ℕ, suc, ◌+◌, List, [], ◌∷◌, length, drop}
-use Rattle.rows_values.specs.Readings.{Reading}
+use Rattle.rows_errors.specs.Readings.{Reading}
 use Rattle.std.specs.declared.result.Result.{Result}
 use Rattle.std.specs.declared.result.Result.TheVariants.{Ok, Err}
 use Rattle.wire_consts.specs.ColumnTypes.{is_numeric, is_character, is_enum_or_set}
-use Rattle.rows_values.specs.declared.fault.RowsError.{RowsError}
+use Rattle.rows_errors.specs.declared.fault.RowsError.{RowsError}
 use Rattle.rows_meta.specs.ColumnViews.{remaining_columns}
 use Rattle.rows_meta.specs.MetadataViews.{signs_left, remaining_names, primary_key_left, IteratesCharsets}
 use Rattle.rows_events.specs.declared.column.PlannedColumn.{PlannedColumn as CodeColumn}

@@ -4,8 +4,7 @@ ghost use Rattle.std.specs.Prelude.{◌≡◌, ◌<◌, length, map, slice_set, 
 ghost use Rattle.std.specs.Rc.{rc_slice_items};
 ghost use Rattle.rows_events.specs.ImageColumnIndexes.{image_items, value_count, column_at_index};
 
-use rows_cells::BinlogValue;
-use rows_images::ImageColumn;
+use rows_cells::{BinlogValue, ImageColumn};
 use rows_values::Column;
 use std::alloc::{AllocError, Global};
 use std::rc::RcSlice;

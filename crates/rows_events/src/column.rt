@@ -1,6 +1,6 @@
 //! A column of a plan.
 
-use rows_images::ImageColumn;
+use rows_cells::ImageColumn;
 use wire_consts::ColumnType;
 
 /// What a plan has about a column, except its name.

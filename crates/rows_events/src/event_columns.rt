@@ -1,8 +1,8 @@
 //! The columns of the images in an event's rows.
 
 ghost use Rattle.std.specs.Prelude.{◌≡◌, ◌⊎◌, ◌∷◌, [], IfOk, IfErr, OnErr, Ok, Err};
-ghost use Rattle.rows_values.specs.declared.fault.RowsError.TheVariants.{Memory};
-ghost use Rattle.rows_images.specs.RowViews.{row_shape, IsBetweenRows};
+ghost use Rattle.rows_errors.specs.declared.fault.RowsError.TheVariants.{Memory};
+ghost use Rattle.rows_cells.specs.RowViews.{row_shape, IsBetweenRows};
 ghost use Rattle.rows_events.specs.ImageShapes.{table_plan, no_columns};
 ghost use Rattle.rows_events.specs.EventShapes.{event_shapes};
 ghost use Rattle.rows_events.specs.EventColumnViews.{shapes_of};
@@ -10,8 +10,8 @@ ghost use Rattle.rows_events.specs.Views.{body_of};
 
 use crate::rows_event::RowsEvent;
 use crate::{ColumnPlan, ImageColumns};
-use rows_images::{RowPlan, RowsCursor};
-use rows_values::RowsError;
+use rows_cells::{RowPlan, RowsCursor};
+use rows_errors::RowsError;
 use std::alloc::Global;
 
 /// The columns of a rows event's images. It keeps its memory from event to event.

@@ -1,8 +1,8 @@
 //! Reading an event's images into owned rows.
 
 ghost use Rattle.std.specs.Prelude.{◌≡◌, ◌⊎◌, ◌<◌, length, IfOk, IfErr, Err};
-ghost use Rattle.rows_values.specs.declared.fault.RowsError.TheVariants.{Memory};
-ghost use Rattle.rows_images.specs.EventRows.{images_at, row_at};
+ghost use Rattle.rows_errors.specs.declared.fault.RowsError.TheVariants.{Memory};
+ghost use Rattle.rows_cells.specs.EventRows.{images_at, row_at};
 ghost use Rattle.rows_events.specs.ImageShapes.{table_plan};
 ghost use Rattle.rows_events.specs.EventShapes.{event_shapes};
 ghost use Rattle.rows_events.specs.EventImages.{shapes_read, ReadsEventImages, ReadsImages, ReadsPair};
@@ -11,7 +11,7 @@ ghost use Rattle.rows_events.specs.Views.{body_of};
 
 use crate::rows_event::RowsEvent;
 use crate::{BinlogRow, ColumnPlan, RowImage};
-use rows_values::RowsError;
+use rows_errors::RowsError;
 use std::alloc::Global;
 
 /// A row before the change and after it, as far as the event has them.
@@ -66,7 +66,7 @@ impl EventImages {
     ///
     /// - The errors of [`RowImage::read`].
     /// - `EmptyPair`: the row takes no bytes.
-    #[tactic(auto, unfolding(rows_images::specs::EventRows::row_at))]
+    #[tactic(auto, unfolding(rows_cells::specs::EventRows::row_at))]
     pub(crate) fn read<'a>(
         &self,
         alloc: Global,

@@ -1,14 +1,15 @@
 //! The columns of an image, for reading images.
 
 ghost use Rattle.std.specs.Prelude.{◌≡◌, ◌⊎◌, IfOk, IfErr, OnErr, Ok, Err, Some, None, if◌then◌else◌};
-ghost use Rattle.rows_values.specs.declared.fault.RowsError.TheVariants.{Memory};
-ghost use Rattle.rows_values.specs.BitLists.{len_of, bit_at};
-ghost use Rattle.rows_images.specs.ImageViews.{image_shape};
+ghost use Rattle.rows_errors.specs.declared.fault.RowsError.TheVariants.{Memory};
+ghost use Rattle.rows_meta.specs.BitLists.{len_of, bit_at};
+ghost use Rattle.rows_cells.specs.ImageViews.{image_shape};
 ghost use Rattle.rows_events.specs.ImageShapes.{table_plan, shape_of, shape_picked, no_columns};
 
 use crate::plan::ColumnPlan;
-use rows_images::{ImageColumn, ImagePlan};
-use rows_values::{Bits, RowsError};
+use rows_cells::{ImageColumn, ImagePlan};
+use rows_errors::RowsError;
+use rows_meta::Bits;
 use std::alloc::Global;
 
 /// The columns of an image. It keeps its memory from one image to the next.

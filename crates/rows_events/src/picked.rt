@@ -1,10 +1,10 @@
 //! The columns of a plan that are in an image, and their definitions.
 
 ghost use Rattle.std.specs.Prelude.{◌≡◌, ◌⊎◌, ◌++◌, ◌∷◌, decimal, ℕ, IfOk, IfErr, Ok, Err, [], map, option_map};
-ghost use Rattle.rows_values.specs.BitLists.{len_of, bit_at};
+ghost use Rattle.rows_meta.specs.BitLists.{len_of, bit_at};
 ghost use Rattle.rows_values.specs.Columns.{parts_of, parts_of_type};
-ghost use Rattle.rows_values.specs.declared.fault.RowsError.TheVariants.{Memory};
-ghost use Rattle.rows_values.specs.Readings.{map_reading};
+ghost use Rattle.rows_errors.specs.declared.fault.RowsError.TheVariants.{Memory};
+ghost use Rattle.rows_errors.specs.Readings.{map_reading};
 ghost use Rattle.rows_meta.specs.MetadataViews.{name_view};
 ghost use Rattle.rows_events.specs.Plans.{name_or_index};
 ghost use Rattle.rows_events.specs.PickedColumns.{bit_is_set, image_column, picked, picked_as, appended, column_flags, definition as definition_of};
@@ -14,9 +14,10 @@ use crate::column::PlannedColumn;
 use crate::plan::ColumnPlan;
 use bitflags::Flags;
 use itoa::Buffer;
-use rows_images::ImageColumn;
-use rows_meta::ColumnName;
-use rows_values::{Bits, Column, RowsError};
+use rows_cells::ImageColumn;
+use rows_errors::RowsError;
+use rows_meta::{Bits, ColumnName};
+use rows_values::Column;
 use std::alloc::{AllocError, Global};
 use wire_consts::{ColumnFlags, ColumnType};
 

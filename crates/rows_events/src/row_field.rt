@@ -4,15 +4,15 @@ ghost use Rattle.std.specs.Prelude.{◌≡◌, ◌⊎◌, IfOk, IfErr, Ok, Err, 
 ghost use Rattle.std.specs.Rc.{rc_slice_items};
 ghost use Rattle.wire_buf.specs.Encoding.{Alone};
 ghost use Rattle.rows_values.specs.Columns.{parts_of};
-ghost use Rattle.rows_values.specs.declared.fault.RowsError.TheVariants.{Memory};
+ghost use Rattle.rows_errors.specs.declared.fault.RowsError.TheVariants.{Memory};
 ghost use Rattle.rows_events.specs.RowImages.{image_read};
 ghost use Rattle.rows_events.specs.RowFields.{RowView, row_view, image_of_ctx, definitions_of_ctx, IsRowField, RowFails};
 
 use crate::binlog_row::BinlogRow;
 use crate::plan::ColumnPlan;
 use crate::row_image::RowImage;
-use rows_meta::TableMapEvent;
-use rows_values::{Bits, RowsError};
+use rows_errors::RowsError;
+use rows_meta::{Bits, TableMapEvent};
 use std::alloc::Global;
 use wire_buf::{AnySize, MyDeserialize, ParseBuf};
 

@@ -3,12 +3,12 @@
 ghost use Rattle.std.specs.Prelude.{◌≡◌, ◌⊎◌, ℕ, IfOk, IfErr, Ok, Err, map, List, [], length};
 ghost use Rattle.std.specs.List.{AllZip};
 ghost use Rattle.std.specs.Rc.{rc_slice_items};
-ghost use Rattle.rows_values.specs.BitLists.{len_of, bit_at};
+ghost use Rattle.rows_meta.specs.BitLists.{len_of, bit_at};
 ghost use Rattle.rows_values.specs.Columns.{parts_of};
-ghost use Rattle.rows_values.specs.declared.fault.RowsError.TheVariants.{Memory};
+ghost use Rattle.rows_errors.specs.declared.fault.RowsError.TheVariants.{Memory};
 ghost use Rattle.rows_cells.specs.CellViews.{cell_value, Holds, IsReadable};
-ghost use Rattle.rows_images.specs.Images.{image_at};
-ghost use Rattle.rows_images.specs.ImageViews.{image_shape, remaining_cells, cells_count};
+ghost use Rattle.rows_cells.specs.Images.{image_at};
+ghost use Rattle.rows_cells.specs.ImageViews.{image_shape, remaining_cells, cells_count};
 ghost use Rattle.rows_events.specs.PlanViews.{planned};
 ghost use Rattle.rows_events.specs.ImageShapes.{table_plan, shape_picked};
 ghost use Rattle.rows_events.specs.PickedColumns.{picked_as, definition};
@@ -17,9 +17,10 @@ ghost use Rattle.rows_events.specs.RowImages.{image_read, IsReadRow, ReadsValues
 use crate::binlog_row::BinlogRow;
 use crate::image_columns::ImageColumns;
 use crate::plan::ColumnPlan;
-use rows_cells::{BinlogValue, CellRef};
-use rows_images::{ImageCells, ImageColumn, ImagePlan};
-use rows_values::{Bits, Column, RowsError};
+use rows_cells::{BinlogValue, CellRef, ImageCells, ImageColumn, ImagePlan};
+use rows_errors::RowsError;
+use rows_meta::Bits;
+use rows_values::Column;
 use std::alloc::Global;
 use std::rc::RcSlice;
 

@@ -2,7 +2,7 @@
 
 ghost use Rattle.std.specs.Prelude.{◌≡◌, ◌⊎◌, ◌<◌, IfOk, IfErr, IsSome, Err, length};
 ghost use Rattle.std.specs.Iterator.{at_most};
-ghost use Rattle.rows_values.specs.declared.fault.RowsError.TheVariants.{Memory};
+ghost use Rattle.rows_errors.specs.declared.fault.RowsError.TheVariants.{Memory};
 ghost use Rattle.rows_events.specs.EventShapes.{event_shapes};
 ghost use Rattle.rows_events.specs.EventImages.{ReadsEventImages};
 ghost use Rattle.rows_events.specs.EventRowSteps.{source_table, IsBeforeRows, TakesRow, MakesImages, ReadsNext, PlansImages, IsRest};
@@ -13,9 +13,9 @@ use crate::ColumnPlan;
 use crate::event_columns::EventColumns;
 use crate::event_images::{EventImages, RowPair};
 use crate::rows_event::RowsEvent;
-use rows_images::RowPlan;
+use rows_cells::RowPlan;
+use rows_errors::RowsError;
 use rows_meta::TableMapEvent;
-use rows_values::RowsError;
 use std::alloc::Global;
 
 /// The source of the table's plan.

@@ -1,15 +1,15 @@
 //! The columns of a table that have a plan.
 
 ghost use Rattle.std.specs.Prelude.{◌≡◌, ℕ, [], IfOk, Ok, Err, false, is_ok};
-ghost use Rattle.rows_values.specs.Readings.{map_reading};
+ghost use Rattle.rows_errors.specs.Readings.{map_reading};
 ghost use Rattle.rows_meta.specs.Lists.{strings};
 ghost use Rattle.rows_events.specs.Plans.{Table};
 ghost use Rattle.rows_events.specs.Walks.{IsWalkAt, AreColumns};
 
 use crate::column::PlannedColumn;
 use crate::walk::ColumnWalk;
+use rows_errors::RowsError;
 use rows_meta::{ColumnNames, IterNames, OptionalMetaExtractor, TableMapEvent};
-use rows_values::RowsError;
 use std::alloc::{AllocError, Global};
 
 /// The columns of a table, from the first on, about which its table map has all that reading a row needs.

@@ -9,12 +9,11 @@ ghost use Rattle.rows_events.specs.Plans.{Table, table_columns_of, is_json, sign
 ghost use Rattle.rows_events.specs.Walks.{IsWalkAt, WalksColumn, SkipsName};
 
 use crate::column::PlannedColumn;
-use rows_cells::CellFormat;
-use rows_images::ImageColumn;
+use rows_cells::{CellFormat, ImageColumn};
+use rows_errors::RowsError;
 use rows_meta::{
     IterCharset, IterColumns, IterNames, IterPrimaryKey, IterSignedness, OptionalMetaExtractor,
 };
-use rows_values::RowsError;
 use wire_consts::ColumnType;
 
 /// The remaining columns, and the remaining entries of the optional metadata for them.

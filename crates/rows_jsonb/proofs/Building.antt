@@ -4,8 +4,8 @@ use Rattle.std.proofs.lemmas.Result.{err_from_is_err_and}
 use Rattle.std.specs.Prelude.{IsErrAnd}
 use Rattle.std.specs.declared.result.Result.{Result}
 use Rattle.std.specs.declared.result.Result.TheVariants.{Ok, Err}
-use Rattle.rows_values.specs.declared.fault.RowsError.{RowsError}
-use Rattle.rows_values.specs.declared.fault.RowsError.TheVariants.{EndOfBody, RemainingBytes, UnknownNumber, Metadata, Cell, Jsonb, Decimal, EmptyPair, Memory, Read}
+use Rattle.rows_errors.specs.declared.fault.RowsError.{RowsError}
+use Rattle.rows_errors.specs.declared.fault.RowsError.TheVariants.{EndOfBody, RemainingBytes, UnknownNumber, Metadata, Cell, Jsonb, Decimal, EmptyPair, Memory, Read}
 use Rattle.wire_buf.specs.Numbers.{little_signed}
 use Rattle.rows_values.specs.Decimals.{DecimalParts}
 use Rattle.rows_values.specs.Unpacked.{packed_value, normalized_of}
@@ -14,7 +14,7 @@ use Rattle.rows_values.specs.declared.times.mysql_time.MysqlTime.{MysqlTime}
 use Rattle.rows_values.specs.declared.times.mysql_time.MysqlTimestampType.TheVariants.{MYSQL_TIMESTAMP_DATE, MYSQL_TIMESTAMP_DATETIME}
 use Rattle.rows_jsonb.specs.JsonbLayout.{ContainerFormat}
 use Rattle.rows_jsonb.specs.JsonbValues.{JsonbValue, text, opaque, container, malformed, elem, key, elem_in, object_key, count_in, is_array_in, is_object_in}
-use Rattle.rows_values.specs.Readings.{Reading, ◌>>=◌}
+use Rattle.rows_errors.specs.Readings.{Reading, ◌>>=◌}
 use Rattle.rows_jsonb.specs.JsonTrees as tree
 use Rattle.rows_jsonb.specs.JsonTrees.{Tree, array, object, Items, no_items, item, Members, no_members, member, put}
 use Rattle.rows_jsonb.specs.DocumentTrees.{Counted, items, member_trees, utf8, leaf, time_in, decimal_in, opaque_tree, entries, bare_tree, tree_of, read_on, items_read, members_read, entries_read, values_read}

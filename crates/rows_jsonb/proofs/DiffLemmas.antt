@@ -9,9 +9,9 @@ use Rattle.wire_buf.specs.Encoding.{Begins, Reads, Lacks, Alone}
 use Rattle.wire_buf.specs.Numbers.{IsLenenc, IsLenencString}
 use Rattle.wire_buf.specs.LenencSplit.{split_lenenc}
 use Rattle.wire_buf.proofs.LenencLemmas.{split_lenenc-complete, split_lenenc-sound}
-use Rattle.rows_values.specs.declared.fault.RowsError.{RowsError}
+use Rattle.rows_errors.specs.declared.fault.RowsError.{RowsError}
 use Rattle.rows_jsonb.specs.JsonbValues.{JsonbValue, malformed}
-use Rattle.rows_values.specs.Readings.{Reading, ◌>>=◌}
+use Rattle.rows_errors.specs.Readings.{Reading, ◌>>=◌}
 use Rattle.rows_jsonb.specs.JsonDiffs.{IsJsonbFault, IsEmbedded, IsOperation, IsDiffValue, Diff, IsDiff, operation_at, text_of_length, text_at, embedded_at, diff_value_at, diff_at}
 use Rattle.rows_jsonb.specs.Items.{WalkEndsAt, items_at}
 use Rattle.rows_jsonb.proofs.ItemLemmas.{items-found}

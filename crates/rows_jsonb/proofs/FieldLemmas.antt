@@ -5,9 +5,9 @@ use Rattle.std.proofs.Math.Seq.{drop-append_seam}
 use Rattle.std.specs.Result.{OnOk, IfOk}
 use Rattle.std.specs.declared.result.Result.{Result}
 use Rattle.std.specs.declared.result.Result.TheVariants.{Ok, Err}
-use Rattle.rows_values.specs.declared.fault.RowsError.{RowsError}
+use Rattle.rows_errors.specs.declared.fault.RowsError.{RowsError}
 use Rattle.wire_buf.specs.Encoding.{Reads}
-use Rattle.rows_values.specs.Readings.{Reading, map_reading}
+use Rattle.rows_errors.specs.Readings.{Reading, map_reading}
 use Rattle.rows_jsonb.specs.JsonbFields.{IsFieldOf}
 use Rattle.rows_jsonb.specs.JsonbViews.{IsConsumed}
 

@@ -4,8 +4,8 @@ use Rattle.std.proofs.lemmas.Bool.{eqb-true}
 use Rattle.std.proofs.lemmas.Bool.Decides.{nat_tests}
 use Rattle.std.proofs.lemmas.List.{length-append, append-nil}
 use Rattle.wire_buf.specs.Encoding.{Encoding, Begins}
-use Rattle.rows_values.specs.declared.fault.RowsError.{RowsError}
-use Rattle.rows_values.specs.Readings.{Reading}
+use Rattle.rows_errors.specs.declared.fault.RowsError.{RowsError}
+use Rattle.rows_errors.specs.Readings.{Reading}
 use Rattle.rows_jsonb.specs.Items.{AreItemsEncoded, Walked, WalkEndsAt, Finds, prepend_item, after_item, found_by, walk, items_at}
 
 not_zero : (n : ℕ) → 0 < n → eqb n 0 ≡ false

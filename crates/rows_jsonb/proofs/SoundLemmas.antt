@@ -3,17 +3,17 @@ use Rattle.std.proofs.Common.{◌≡◌, ◌⊎◌, ◌<◌, ℤ, nat_lt, if◌t
 use Rattle.std.proofs.lemmas.Bool.Decides.{leb_tells}
 use Rattle.std.specs.declared.result.Result.{Result}
 use Rattle.std.specs.declared.result.Result.TheVariants.{Ok, Err}
-use Rattle.rows_values.specs.declared.fault.RowsError.{RowsError}
-use Rattle.rows_values.specs.declared.fault.RowsError.TheVariants.{EndOfBody, RemainingBytes, UnknownNumber, Metadata, Cell, Jsonb, Decimal, EmptyPair, Memory, Read}
+use Rattle.rows_errors.specs.declared.fault.RowsError.{RowsError}
+use Rattle.rows_errors.specs.declared.fault.RowsError.TheVariants.{EndOfBody, RemainingBytes, UnknownNumber, Metadata, Cell, Jsonb, Decimal, EmptyPair, Memory, Read}
 use Rattle.rows_values.specs.Decimals.{DecimalParts}
 use Rattle.rows_values.specs.declared.times.mysql_time.MysqlTime.{MysqlTime}
 use Rattle.wire_forms.specs.Sevens.{sevens_split}
 use Rattle.rows_jsonb.specs.JsonbLayout.{ContainerFormat, value_entry_offset}
 use Rattle.rows_jsonb.specs.JsonbTypes.{jsonb_type_of, literal_of}
-use Rattle.rows_values.specs.declared.fault.JsonbError.{JsonbError}
+use Rattle.rows_errors.specs.declared.fault.JsonbError.{JsonbError}
 use Rattle.rows_jsonb.specs.JsonbValues as seen
 use Rattle.rows_jsonb.specs.JsonbValues.{JsonbValue, text, container, malformed, is_column_type, sized, literal, literal_at, counted_string, counted_at, opaque_at, container_in, container_at, json_value_at, of_type, document, pointed, entry_of, entry_at, elem, key_in, key}
-use Rattle.rows_values.specs.Readings.{Reading, ◌>>=◌}
+use Rattle.rows_errors.specs.Readings.{Reading, ◌>>=◌}
 use Rattle.rows_jsonb.specs.JsonTrees.{Tree, Members, no_members, put}
 use Rattle.rows_jsonb.specs.DocumentTrees.{Counted, items, member_trees, utf8, time_in, decimal_in, opaque_tree, entries, bare_tree, tree_of, within_budget}
 use Rattle.rows_jsonb.specs.JsonDiffs.{IsJsonbFault}

@@ -10,7 +10,7 @@ use Rattle.rows_values.specs.declared.times.mysql_time.MysqlTime.{MysqlTime}
 use Rattle.rows_values.specs.declared.times.mysql_time.MysqlTimestampType.TheVariants.{MYSQL_TIMESTAMP_DATE, MYSQL_TIMESTAMP_DATETIME}
 use Rattle.rows_jsonb.specs.JsonbLayout.{ContainerFormat}
 use Rattle.rows_jsonb.specs.JsonbValues.{JsonbValue, null, boolean, i16, u16, i32, u32, i64, u64, double, text, opaque, container, malformed, document, elem, key}
-use Rattle.rows_values.specs.Readings.{Reading, ◌>>=◌}
+use Rattle.rows_errors.specs.Readings.{Reading, ◌>>=◌}
 use Rattle.rows_jsonb.specs.JsonTrees as tree
 use Rattle.rows_jsonb.specs.JsonTrees.{Tree, scalar, array, object, Items, no_items, item, Members, no_members, member, put}
 

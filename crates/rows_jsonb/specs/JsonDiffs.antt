@@ -4,10 +4,10 @@ use Rattle.std.specs.declared.result.Result.TheVariants.{Ok, Err}
 use Rattle.wire_buf.specs.Encoding.{Encoding, Alone, Both, Then}
 use Rattle.wire_buf.specs.Numbers.{IsLenencString}
 use Rattle.wire_buf.specs.LenencSplit.{split_lenenc}
-use Rattle.rows_values.specs.declared.fault.RowsError.{RowsError}
-use Rattle.rows_values.specs.declared.fault.RowsError.TheVariants.{Jsonb}
+use Rattle.rows_errors.specs.declared.fault.RowsError.{RowsError}
+use Rattle.rows_errors.specs.declared.fault.RowsError.TheVariants.{Jsonb}
 use Rattle.rows_jsonb.specs.JsonbValues.{JsonbValue, malformed, document}
-use Rattle.rows_values.specs.Readings.{Reading, ◌>>=◌}
+use Rattle.rows_errors.specs.Readings.{Reading, ◌>>=◌}
 use Rattle.rows_jsonb.specs.declared.diff.JsonDiffOperation.{JsonDiffOperation}
 use Rattle.rows_jsonb.specs.declared.diff.JsonDiffOperation.TheVariants.{REPLACE, INSERT, REMOVE}
 

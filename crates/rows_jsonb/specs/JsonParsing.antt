@@ -2,9 +2,9 @@
 use Rattle.std.specs.Prelude.{◌≡◌, ◌⊎◌, ◌<◌, ◌+◌, ℕ, Some, None}
 use Rattle.std.specs.declared.result.Result.{Result}
 use Rattle.std.specs.declared.result.Result.TheVariants.{Ok, Err}
-use Rattle.rows_values.specs.declared.fault.RowsError.{RowsError}
-use Rattle.rows_values.specs.declared.fault.RowsError.TheVariants.{Jsonb, Memory}
-use Rattle.rows_values.specs.Readings.{Reading}
+use Rattle.rows_errors.specs.declared.fault.RowsError.{RowsError}
+use Rattle.rows_errors.specs.declared.fault.RowsError.TheVariants.{Jsonb, Memory}
+use Rattle.rows_errors.specs.Readings.{Reading}
 use Rattle.rows_jsonb.specs.JsonbValues.{JsonbValue, malformed}
 use Rattle.rows_jsonb.specs.DocumentTrees.{Counted, tree_in, container_len, max_depth, values_read}
 

@@ -3,7 +3,7 @@ use Rattle.std.specs.Prelude.{◌≡◌, ◌++◌, ℕ, List, length}
 use Rattle.std.specs.declared.result.Result.TheVariants.{Ok}
 use Rattle.rows_jsonb.specs.JsonbLayout.{ContainerFormat}
 use Rattle.rows_jsonb.specs.JsonbValues.{JsonbValue, document, document_size, container_at, container_size}
-use Rattle.rows_values.specs.Readings.{Reading}
+use Rattle.rows_errors.specs.Readings.{Reading}
 
 -- v is what `bytes` followed by `rest` begins with, and it takes exactly `bytes`
 pub record IsFieldOf {A : Type 0} (found : List ℕ → Reading A) (taken : List ℕ → ℕ) (v : A) (bytes rest : List ℕ) : Type 0 where

@@ -7,10 +7,10 @@ use Rattle.wire_forms.specs.Sevens.{sevens_split}
 use Rattle.wire_consts.specs.declared.column_type.ColumnType.{ColumnType}
 use Rattle.wire_consts.specs.ColumnTypes.{column_type_number}
 use Rattle.wire_consts.specs.AllColumnTypes.{column_types}
-use Rattle.rows_values.specs.Readings.{Reading, ◌>>=◌}
-use Rattle.rows_values.specs.declared.fault.RowsError.{RowsError}
-use Rattle.rows_values.specs.declared.fault.RowsError.TheVariants.{Jsonb}
-use Rattle.rows_values.specs.declared.fault.JsonbError.TheVariants.{InvalidKeyOffsetPointer, InvalidValueOffsetPointer, SizeOverflow}
+use Rattle.rows_errors.specs.Readings.{Reading, ◌>>=◌}
+use Rattle.rows_errors.specs.declared.fault.RowsError.{RowsError}
+use Rattle.rows_errors.specs.declared.fault.RowsError.TheVariants.{Jsonb}
+use Rattle.rows_errors.specs.declared.fault.JsonbError.TheVariants.{InvalidKeyOffsetPointer, InvalidValueOffsetPointer, SizeOverflow}
 use Rattle.rows_jsonb.specs.JsonbTypes.{jsonb_type_of, is_inlined, literal_of}
 use Rattle.rows_jsonb.specs.JsonbLayout.{ContainerFormat, offset_size, value_entry_size, key_entry_offset, value_entry_offset, header_size}
 use Rattle.rows_jsonb.specs.declared.types.LiteralType.{LiteralType}

@@ -6,15 +6,14 @@ ghost use Rattle.wire_forms.specs.RawTexts.{raw_string};
 ghost use Rattle.rows_jsonb.specs.JsonbLayout.{format as format_of, key_entry_offset};
 ghost use Rattle.rows_jsonb.specs.JsonbValues.{elem, key, member, elem_up_to, key_up_to, elem_in, object_key, count_in, is_object_in};
 ghost use Rattle.rows_jsonb.specs.JsonbViews.{jsonb_value};
-ghost use Rattle.rows_values.specs.Readings.{map_reading};
+ghost use Rattle.rows_errors.specs.Readings.{map_reading};
 
 use crate::complex::ComplexValue;
 use crate::storage_format::{ComplexType, Object, StorageFormat};
 use crate::text::ObjectKey;
 use crate::types::JsonbType;
 use crate::value::Value;
-use rows_json_rules::check_place;
-use rows_values::{JsonbError, RowsError};
+use rows_errors::{JsonbError, RowsError, check_place};
 use std::borrow::CowSlice;
 use wire_buf::ParseBuf;
 

@@ -2,7 +2,7 @@
 
 ghost use Rattle.std.specs.Prelude.{◌≡◌, List, ℕ, take, Err, None, Some};
 ghost use Rattle.wire_buf.specs.Encoding.{Alone};
-ghost use Rattle.rows_values.specs.declared.fault.RowsError.TheVariants.{Jsonb};
+ghost use Rattle.rows_errors.specs.declared.fault.RowsError.TheVariants.{Jsonb};
 ghost use Rattle.std.specs.Cow.{cow_slice_items};
 ghost use Rattle.wire_buf.specs.Numbers.{IsCounted};
 ghost use Rattle.wire_forms.specs.Sevens.{IsVarLen};
@@ -17,7 +17,7 @@ use crate::complex::ComplexValue;
 use crate::storage_format::{ComplexType, StorageFormat};
 use crate::text::JsonbString;
 use crate::value::Value;
-use rows_values::RowsError;
+use rows_errors::RowsError;
 use std::alloc::{Allocator, Global};
 use wire_buf::{AnySize, Inner, MyDeserialize, MySerialize, ParseBuf, WireFault};
 use wire_forms::RawBytes;

@@ -7,13 +7,13 @@ ghost use Rattle.wire_forms.specs.RawTexts.{raw_string};
 ghost use Rattle.rows_jsonb.specs.JsonbLayout.{format as format_of};
 ghost use Rattle.rows_jsonb.specs.JsonbValues.{elem, key, member, entry_at_index, next_index};
 ghost use Rattle.rows_jsonb.specs.JsonbViews.{jsonb_value};
-ghost use Rattle.rows_values.specs.Readings.{map_reading};
+ghost use Rattle.rows_errors.specs.Readings.{map_reading};
 
 use crate::complex::ComplexValue;
 use crate::storage_format::{Array, Object, StorageFormat};
 use crate::text::ObjectKey;
 use crate::value::Value;
-use rows_values::RowsError;
+use rows_errors::RowsError;
 use std::borrow::CowSlice;
 
 /// Iterates over the elements of an array in order. An element that can't be read is an error, and the next elements follow.

@@ -8,12 +8,12 @@ ghost use Rattle.rows_jsonb.specs.DocumentTrees.{items, member_trees, items_read
 ghost use Rattle.rows_jsonb.specs.JsonbViews.{jsonb_value};
 ghost use Rattle.rows_jsonb.specs.JsonTreeViews.{view, scalar_view, items_view, members_view};
 ghost use Rattle.rows_jsonb.specs.JsonParsing.{ReturnsFound, Meets, Parses, HasNamelessFault};
-ghost use Rattle.rows_values.specs.declared.fault.RowsError.TheVariants.{Jsonb};
+ghost use Rattle.rows_errors.specs.declared.fault.RowsError.TheVariants.{Jsonb};
 
 use crate::dom::{JsonContainer, JsonDom, JsonNumber, JsonOpaque, JsonScalar};
 use crate::value::Value;
-use rows_json_rules::{set_member, take_value};
-use rows_values::{Decimal, MysqlTime, RowsError};
+use rows_errors::{RowsError, set_member, take_value};
+use rows_values::{Decimal, MysqlTime};
 use std::alloc::Global;
 use std::collections::BTreeMap;
 use std::str;

@@ -6,15 +6,14 @@ ghost use Rattle.wire_consts.specs.ColumnTypes.{column_type_number};
 ghost use Rattle.rows_jsonb.specs.JsonbLayout.{format as format_of};
 ghost use Rattle.rows_jsonb.specs.JsonbValues.{container, json_number_at, number_size, json_value_at, value_size, literal_at, counted_at, counted_size, opaque_at, container_at, container_size, is_column_type, document, document_size};
 ghost use Rattle.rows_jsonb.specs.JsonbViews.{jsonb_value, IsConsumed};
-ghost use Rattle.rows_values.specs.Readings.{map_reading};
+ghost use Rattle.rows_errors.specs.Readings.{map_reading};
 
 use crate::complex::ComplexValue;
 use crate::storage_format::{ComplexType, StorageFormat};
 use crate::text::{JsonbString, OpaqueValue};
 use crate::types::{JsonbType, LiteralType};
 use crate::value::Value;
-use rows_json_rules::check_place;
-use rows_values::{JsonbError, RowsError};
+use rows_errors::{JsonbError, RowsError, check_place};
 use std::borrow::CowSlice;
 use std::marker::PhantomData;
 use wire_buf::ParseBuf;

@@ -8,10 +8,10 @@ use Rattle.wire_buf.specs.Numbers.{IsLenenc, one, two, three, eight}
 use Rattle.wire_buf.specs.LenencSplit.{split_lenenc}
 use Rattle.wire_buf.proofs.LenencLemmas.{split_lenenc-complete, split_lenenc-sound}
 use Rattle.wire_forms.specs.Faults.{lenenc_fault}
-use Rattle.rows_values.specs.Faults.{rows_error}
-use Rattle.rows_values.specs.declared.fault.RowsError.{RowsError}
-use Rattle.rows_values.specs.declared.fault.RowsError.TheVariants.{EndOfBody}
-use Rattle.rows_values.specs.Readings.{Reading, ◌>>=◌}
+use Rattle.rows_errors.specs.Faults.{rows_error}
+use Rattle.rows_errors.specs.declared.fault.RowsError.{RowsError}
+use Rattle.rows_errors.specs.declared.fault.RowsError.TheVariants.{EndOfBody}
+use Rattle.rows_errors.specs.Readings.{Reading, ◌>>=◌}
 use Rattle.rows_meta.specs.Entries.{found, split_at, lenenc_at, string_at, pair_at}
 use Rattle.rows_meta.specs.MetadataFields.{tagged_at}
 use Rattle.rows_meta.specs.Members.{strings_in, members_at}

@@ -1,6 +1,6 @@
 -- Fields that are added one after the other give the last of each kind.
 use Rattle.std.proofs.Common.{◌≡◌, List, ◌∷◌, Option, Some, None, Ok, Err, refl, ap}
-use Rattle.rows_values.specs.Readings.{Reading, ◌>>=◌}
+use Rattle.rows_errors.specs.Readings.{Reading, ◌>>=◌}
 use Rattle.rows_meta.specs.MetadataFields.{Field}
 use Rattle.rows_meta.specs.Extracted.{Extracted, all_read, or_else, last_of, signs_in, charset_in, charsets_in, names_in, simple_key_in, prefixed_key_in, enum_charset_in, enum_charsets_in, lasts, extracted, with_field, nothing}
 

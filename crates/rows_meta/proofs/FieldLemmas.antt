@@ -4,9 +4,9 @@ use Rattle.wire_buf.specs.Writing.{WritesField}
 use Rattle.wire_buf.specs.Encoding.{Begins, Reads, Lacks}
 use Rattle.wire_forms.specs.Texts.{IsAll}
 use Rattle.wire_buf.proofs.EncodingLemmas.{Reads-both, Lacks-both_first}
-use Rattle.rows_values.specs.declared.fault.RowsError.{RowsError}
-use Rattle.rows_values.specs.declared.fault.RowsError.TheVariants.{Memory}
-use Rattle.rows_values.specs.Readings.{Reading, map_reading}
+use Rattle.rows_errors.specs.declared.fault.RowsError.{RowsError}
+use Rattle.rows_errors.specs.declared.fault.RowsError.TheVariants.{Memory}
+use Rattle.rows_errors.specs.Readings.{Reading, map_reading}
 use Rattle.rows_meta.specs.declared.charsets.DefaultCharset.{DefaultCharset}
 use Rattle.rows_meta.specs.MetadataViews.{default_charset_view}
 use Rattle.rows_meta.specs.Entries.{NumberEncoding, lenenc_at}

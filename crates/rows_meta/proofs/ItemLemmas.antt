@@ -2,8 +2,8 @@
 use Rattle.std.proofs.Common.{◌≡◌, ◌↔◌, ◌≤◌, ℕ, zero, suc, false, List, [], ◌∷◌, length, Ok, Err, refl, sym, ap, subst, ◌∙◌, arith}
 use Rattle.std.specs.Prelude.{◌==◌, ◌≢◌}
 use Rattle.wire_buf.specs.Encoding.{Encoding, Begins, Lacks}
-use Rattle.rows_values.specs.declared.fault.RowsError.{RowsError}
-use Rattle.rows_values.specs.Readings.{Reading}
+use Rattle.rows_errors.specs.declared.fault.RowsError.{RowsError}
+use Rattle.rows_errors.specs.Readings.{Reading}
 use Rattle.rows_meta.specs.Lists.{AreListItems, items_of, TakesBytes}
 use Rattle.rows_meta.proofs.ListLemmas.{items-ok, items-err, empty-items, some_bytes}
 

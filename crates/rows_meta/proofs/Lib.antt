@@ -19,3 +19,5 @@ pub mod LengthLemmas
 pub mod MapFaultLemmas
 pub mod EqualityLemmas
 pub mod MapLawLemmas
+pub mod EqualBitLemmas
+pub mod BitLemmas

@@ -1,7 +1,7 @@
 -- The members of a column, string by string.
 use Rattle.std.proofs.Common.{◌≡◌, ◌≤◌, ◌<◌, ℕ, suc, ◌-◌, ◌+◌, List, [], ◌∷◌, ◌++◌, map, Ok, Err, refl, sym, ap, ◌∙◌, arith, append_assoc, append-nil}
-use Rattle.rows_values.specs.declared.fault.RowsError.{RowsError}
-use Rattle.rows_values.specs.Readings.{Reading, ◌>>=◌}
+use Rattle.rows_errors.specs.declared.fault.RowsError.{RowsError}
+use Rattle.rows_errors.specs.Readings.{Reading, ◌>>=◌}
 use Rattle.rows_meta.specs.Entries.{lenenc_at, string_at}
 use Rattle.rows_meta.specs.Members.{strings_in, members_at}
 

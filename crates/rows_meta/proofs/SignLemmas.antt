@@ -1,7 +1,7 @@
 -- Bits, one at a time.
 use Rattle.std.proofs.Common.{◌≡◌, ◌≤◌, ◌<◌, ℕ, suc, ◌+◌, ◌-◌, Bool, [], ◌∷◌, Option, Some, lt-ltb, refl, ◌∙◌, arith}
 use Rattle.std.specs.Iterator.{YieldsFirst}
-use Rattle.rows_values.specs.BitLists.{bit_of, len_of, bit_at}
+use Rattle.rows_meta.specs.BitLists.{bit_of, len_of, bit_at}
 use Rattle.rows_meta.specs.declared.columns_iter.IterSignedness.{IterSignedness}
 use Rattle.rows_meta.specs.MetadataViews.{signs_left}
 use Rattle.rows_meta.specs.MetadataFields.{bits_from}

@@ -5,10 +5,10 @@ use Rattle.wire_buf.specs.Encoding.{Encoding, Alone, Both}
 use Rattle.wire_buf.specs.Numbers.{IsLenenc, IsLenencString}
 use Rattle.wire_buf.specs.LenencSplit.{split_lenenc}
 use Rattle.wire_forms.specs.Faults.{lenenc_fault}
-use Rattle.rows_values.specs.Faults.{rows_error}
-use Rattle.rows_values.specs.declared.fault.RowsError.{RowsError}
-use Rattle.rows_values.specs.declared.fault.RowsError.TheVariants.{EndOfBody}
-use Rattle.rows_values.specs.Readings.{Reading, ◌>>=◌}
+use Rattle.rows_errors.specs.Faults.{rows_error}
+use Rattle.rows_errors.specs.declared.fault.RowsError.{RowsError}
+use Rattle.rows_errors.specs.declared.fault.RowsError.TheVariants.{EndOfBody}
+use Rattle.rows_errors.specs.Readings.{Reading, ◌>>=◌}
 
 -- the encodings of entries: a length-encoded integer, a length-encoded string, two length-encoded integers
 abbrev pub NumberEncoding : Encoding ℕ

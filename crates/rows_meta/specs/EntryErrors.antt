@@ -3,9 +3,9 @@ use Rattle.std.specs.Prelude.{◌≡◌, ◌⊎◌, ℕ, List}
 use Rattle.wire_buf.specs.Encoding.{BeginsWith, Lacks}
 use Rattle.wire_buf.specs.ReadErrors.{BeginsThen}
 use Rattle.wire_forms.specs.Faults.{lenenc_fault}
-use Rattle.rows_values.specs.Faults.{rows_error}
-use Rattle.rows_values.specs.declared.fault.RowsError.{RowsError}
-use Rattle.rows_values.specs.declared.fault.RowsError.TheVariants.{EndOfBody}
+use Rattle.rows_errors.specs.Faults.{rows_error}
+use Rattle.rows_errors.specs.declared.fault.RowsError.{RowsError}
+use Rattle.rows_errors.specs.declared.fault.RowsError.TheVariants.{EndOfBody}
 use Rattle.rows_meta.specs.Entries.{NumberEncoding}
 
 -- no integer: `UnknownNumber` if the first byte is 251 or 255, otherwise `EndOfBody`

@@ -1,7 +1,7 @@
 -- What the columns of a table use from the optional metadata: the last field of each kind, or the error of the first field that can't be read (the crate, table_map_event.rs, OptionalMetaExtractor).
 use Rattle.std.specs.Prelude.{ℕ, Bool, List, [], ◌∷◌, Option, Some, None}
 use Rattle.std.specs.declared.result.Result.TheVariants.{Ok}
-use Rattle.rows_values.specs.Readings.{Reading, ◌>>=◌}
+use Rattle.rows_errors.specs.Readings.{Reading, ◌>>=◌}
 use Rattle.rows_meta.specs.MetadataFields.{Field, signedness, default_charset, column_charset, column_name, simple_primary_key, primary_key_with_prefix, enum_and_set_default_charset, enum_and_set_column_charset}
 
 -- all values, or the first error

@@ -6,8 +6,8 @@ use Rattle.wire_consts.specs.declared.geometry_type.GeometryType.TheVariants.{GE
 use Rattle.rows_consts.specs.MetadataTypes.{optional_metadata_field_type_number}
 use Rattle.rows_consts.specs.declared.optional_metadata_field_type.OptionalMetadataFieldType.{OptionalMetadataFieldType}
 use Rattle.rows_consts.specs.declared.optional_metadata_field_type.OptionalMetadataFieldType.TheVariants.{SIGNEDNESS, DEFAULT_CHARSET, COLUMN_CHARSET, COLUMN_NAME, SET_STR_VALUE, ENUM_STR_VALUE, GEOMETRY_TYPE, SIMPLE_PRIMARY_KEY, PRIMARY_KEY_WITH_PREFIX, ENUM_AND_SET_DEFAULT_CHARSET, ENUM_AND_SET_COLUMN_CHARSET, COLUMN_VISIBILITY, VECTOR_DIMENSIONALITY}
-use Rattle.rows_values.specs.declared.fault.RowsError.TheVariants.{UnknownNumber}
-use Rattle.rows_values.specs.Readings.{Reading}
+use Rattle.rows_errors.specs.declared.fault.RowsError.TheVariants.{UnknownNumber}
+use Rattle.rows_errors.specs.Readings.{Reading}
 use Rattle.rows_meta.specs.Entries.{found}
 
 -- the one of these constants that has the number, or `UnknownNumber`

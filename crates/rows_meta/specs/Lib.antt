@@ -14,3 +14,5 @@ pub mod ColumnMetadata
 pub mod ColumnViews
 pub mod Lengths
 pub mod MapViews
+pub mod BitLists
+pub mod BitCounts

@@ -2,8 +2,8 @@
 use Rattle.std.specs.Prelude.{◌≡◌, ◌≢◌, ◌<◌, ℕ, zero, suc, List, [], ◌∷◌, length}
 use Rattle.std.specs.declared.result.Result.TheVariants.{Ok, Err}
 use Rattle.wire_buf.specs.Encoding.{Encoding, Begins, Lacks}
-use Rattle.rows_values.specs.declared.fault.RowsError.{RowsError}
-use Rattle.rows_values.specs.Readings.{Reading}
+use Rattle.rows_errors.specs.declared.fault.RowsError.{RowsError}
+use Rattle.rows_errors.specs.Readings.{Reading}
 use Rattle.rows_meta.specs.Entries.{lenenc_at, string_at, pair_at}
 
 -- The items of a list: its entries in order, and, if bytes remain that don't begin with an entry, the error last. No item follows an error.

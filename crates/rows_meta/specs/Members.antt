@@ -3,7 +3,7 @@ use Rattle.std.specs.Prelude.{◌≡◌, ◌++◌, ℕ, zero, suc, List, [], ◌
 use Rattle.std.specs.declared.result.Result.TheVariants.{Ok}
 use Rattle.wire_buf.specs.Encoding.{Encoding, Alone}
 use Rattle.wire_buf.specs.Numbers.{IsLenenc, IsLenencString}
-use Rattle.rows_values.specs.Readings.{Reading, ◌>>=◌}
+use Rattle.rows_errors.specs.Readings.{Reading, ◌>>=◌}
 use Rattle.rows_meta.specs.Entries.{lenenc_at, string_at}
 use Rattle.rows_meta.specs.Lists.{items_of}
 

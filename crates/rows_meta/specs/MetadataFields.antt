@@ -6,10 +6,10 @@ use Rattle.wire_consts.specs.ColumnTypes.{column_type_number, is_numeric}
 use Rattle.wire_consts.specs.declared.column_type.ColumnType.{ColumnType}
 use Rattle.rows_consts.specs.declared.optional_metadata_field_type.OptionalMetadataFieldType.{OptionalMetadataFieldType}
 use Rattle.rows_consts.specs.declared.optional_metadata_field_type.OptionalMetadataFieldType.TheVariants.{SIGNEDNESS, DEFAULT_CHARSET, COLUMN_CHARSET, COLUMN_NAME, SET_STR_VALUE, ENUM_STR_VALUE, GEOMETRY_TYPE, SIMPLE_PRIMARY_KEY, PRIMARY_KEY_WITH_PREFIX, ENUM_AND_SET_DEFAULT_CHARSET, ENUM_AND_SET_COLUMN_CHARSET, COLUMN_VISIBILITY, VECTOR_DIMENSIONALITY}
-use Rattle.rows_values.specs.BitLists.{highest_bit}
-use Rattle.rows_values.specs.declared.fault.RowsError.TheVariants.{EndOfBody, RemainingBytes}
+use Rattle.rows_meta.specs.BitLists.{highest_bit}
+use Rattle.rows_errors.specs.declared.fault.RowsError.TheVariants.{EndOfBody, RemainingBytes}
 use Rattle.wire_consts.specs.AllColumnTypes.{column_types}
-use Rattle.rows_values.specs.Readings.{Reading, ◌>>=◌}
+use Rattle.rows_errors.specs.Readings.{Reading, ◌>>=◌}
 use Rattle.rows_meta.specs.Entries.{StringEncoding, split_at, lenenc_at, string_at}
 use Rattle.rows_meta.specs.Lists.{items_of}
 use Rattle.rows_meta.specs.KnownConstants.{field_type}

@@ -5,11 +5,11 @@ use Rattle.std.specs.declared.result.Result.TheVariants.{Ok, Err}
 use Rattle.std.specs.Iterator.{YieldsFirstBy}
 use Rattle.wire_forms.specs.RawTexts.{raw_string}
 use Rattle.wire_consts.specs.declared.geometry_type.GeometryType.{GeometryType}
-use Rattle.rows_values.specs.BitLists.{bit_of, len_of}
-use Rattle.rows_values.specs.declared.bits.Bits.{Bits}
-use Rattle.rows_values.specs.declared.fault.RowsError.{RowsError}
-use Rattle.rows_values.specs.declared.fault.RowsError.TheVariants.{Memory}
-use Rattle.rows_values.specs.Readings.{Reading, ◌>>=◌, map_reading}
+use Rattle.rows_meta.specs.BitLists.{bit_of, len_of}
+use Rattle.rows_meta.specs.declared.bits.Bits.{Bits}
+use Rattle.rows_errors.specs.declared.fault.RowsError.{RowsError}
+use Rattle.rows_errors.specs.declared.fault.RowsError.TheVariants.{Memory}
+use Rattle.rows_errors.specs.Readings.{Reading, ◌>>=◌, map_reading}
 use Rattle.rows_meta.specs.declared.entries.Entries.{Entries}
 use Rattle.rows_meta.specs.declared.charsets.DefaultCharset.{DefaultCharset}
 use Rattle.rows_meta.specs.declared.charsets.NonDefaultCharset.{NonDefaultCharset}

@@ -1,7 +1,7 @@
 -- What the optional metadata's lists give for each column of a table, in order (the crate, table_map_event.rs, OptionalMetaExtractor).
 use Rattle.std.specs.Prelude.{ℕ, zero, suc, ◌+◌, ◌%◌, ◌^◌, ◌==◌, Bool, List, [], ◌∷◌, map, Option, Some, None, option_map, if◌then◌else◌}
 use Rattle.std.specs.declared.result.Result.TheVariants.{Ok, Err}
-use Rattle.rows_values.specs.Readings.{Reading, map_reading}
+use Rattle.rows_errors.specs.Readings.{Reading, map_reading}
 use Rattle.rows_meta.specs.Lists.{numbers, pairs}
 
 -- one list after the other; no item follows an error

@@ -3,7 +3,7 @@
 ghost use Rattle.std.specs.Prelude.{◌≡◌, ◌%◌, ℕ, List, [], map, Err};
 ghost use Rattle.std.specs.Iterator.{YieldsFirst, YieldsFirstBy, item_count};
 ghost use Rattle.wire_forms.specs.Texts.{IsAll};
-ghost use Rattle.rows_values.specs.Readings.{map_reading};
+ghost use Rattle.rows_errors.specs.Readings.{map_reading};
 ghost use Rattle.rows_meta.specs.Entries.{PairEncoding, lenenc_at, pair_at};
 ghost use Rattle.rows_meta.specs.FieldEncodings.{DefaultEncoding, all_encoded, pair_encoded, default_encoded};
 ghost use Rattle.rows_meta.specs.Lists.{numbers, pairs};
@@ -12,7 +12,7 @@ ghost use Rattle.rows_meta.specs.MetadataViews.{charset as charset_of, default_c
 use crate::entries::{Entries, split_number};
 use crate::reading::{take_all, take_pair};
 use crate::writing::{put_all, put_pair};
-use rows_values::RowsError;
+use rows_errors::RowsError;
 use std::alloc::{Allocator, Global};
 use std::borrow::CowSlice;
 use wire_buf::{AnySize, Inner, MyDeserialize, MySerialize, ParseBuf, WireFault};

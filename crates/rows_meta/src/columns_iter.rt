@@ -2,12 +2,13 @@
 
 ghost use Rattle.std.specs.Prelude.{◌≡◌, ◌-◌, [], option_map};
 ghost use Rattle.std.specs.Iterator.{YieldsFirst, at_most, item_count};
-ghost use Rattle.rows_values.specs.BitLists.{len_of};
+ghost use Rattle.rows_meta.specs.BitLists.{len_of};
 ghost use Rattle.rows_meta.specs.Served.{key_indexes, first_item};
 ghost use Rattle.rows_meta.specs.MetadataViews.{bits_view, signs_left, indexes_view, keys_view, key_indexes_left, primary_key_left};
 
+use crate::Bits;
 use crate::primary_keys::{IterIndexes, IterKeys, PrimaryKeysWithPrefix, SimplePrimaryKey};
-use rows_values::{Bits, RowsError};
+use rows_errors::RowsError;
 
 /// The remaining numeric columns: whether each is unsigned.
 #[derive(Clone, Copy)]

@@ -10,7 +10,7 @@ ghost use Rattle.rows_meta.specs.MetadataViews.{dimensionalities_view, dimension
 use crate::entries::Entries;
 use crate::reading::take_all;
 use crate::writing::put_all;
-use rows_values::RowsError;
+use rows_errors::RowsError;
 use std::alloc::{Allocator, Global};
 use wire_buf::{AnySize, MyDeserialize, MySerialize, ParseBuf, WireFault};
 

@@ -3,13 +3,13 @@
 ghost use Rattle.std.specs.Prelude.{◌≡◌};
 ghost use Rattle.std.specs.Iterator.{YieldsFirst, YieldsFirstBy};
 ghost use Rattle.wire_forms.specs.Faults.{lenenc_fault};
-ghost use Rattle.rows_values.specs.Faults.{rows_error};
-ghost use Rattle.rows_values.specs.Readings.{map_reading};
+ghost use Rattle.rows_errors.specs.Faults.{rows_error};
+ghost use Rattle.rows_errors.specs.Readings.{map_reading};
 ghost use Rattle.rows_meta.specs.Entries.{lenenc_at, string_at, pair_at};
 ghost use Rattle.rows_meta.specs.MetadataFields.{tagged_at, tagged};
 ghost use Rattle.rows_meta.specs.Lists.{numbers, strings, pairs};
 
-use rows_values::RowsError;
+use rows_errors::RowsError;
 use wire_buf::ParseBuf;
 
 /// Reads a length-encoded integer; returns it and the bytes after it.

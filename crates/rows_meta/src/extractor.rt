@@ -1,19 +1,20 @@
 //! What the columns of a table use from its optional metadata.
 
 ghost use Rattle.std.specs.Prelude.{◌≡◌};
-ghost use Rattle.rows_values.specs.Readings.{map_reading};
+ghost use Rattle.rows_errors.specs.Readings.{map_reading};
 ghost use Rattle.rows_meta.specs.Lists.{strings};
 ghost use Rattle.rows_meta.specs.Extracted.{extracted, with_field, nothing};
 ghost use Rattle.rows_meta.specs.Served.{bytes_or_none, key_indexes, charset_item, signs_or_none};
 ghost use Rattle.rows_meta.specs.MetadataViews.{field_view, fields_left, extracted_view, remaining_names, names_view, signs_left, primary_key_left, IteratesCharsets};
 
+use crate::Bits;
 use crate::charsets::{ColumnCharsets, DefaultCharset};
 use crate::columns_iter::{IterPrimaryKey, IterSignedness};
 use crate::field::{OptionalMetadataField, OptionalMetadataIter};
 use crate::names::{ColumnNames, IterNames};
 use crate::primary_keys::{PrimaryKeysWithPrefix, SimplePrimaryKey};
 use crate::served_charsets::IterCharset;
-use rows_values::{Bits, RowsError};
+use rows_errors::RowsError;
 
 /// The optional metadata that columns use. Of two fields of the same type the later one counts. The contents of a list aren't
 /// checked before a column asks for its entry.

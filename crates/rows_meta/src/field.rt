@@ -2,11 +2,12 @@
 
 ghost use Rattle.std.specs.Prelude.{◌≡◌, count_by, length};
 ghost use Rattle.std.specs.Iterator.{YieldsFirstBy, item_count};
-ghost use Rattle.rows_values.specs.Readings.{map_reading};
+ghost use Rattle.rows_errors.specs.Readings.{map_reading};
 ghost use Rattle.rows_meta.specs.KnownConstants.{field_type};
 ghost use Rattle.rows_meta.specs.MetadataFields.{field_of as field_of_type, field_in, fields, bits_in, is_numeric_number, numeric_count};
 ghost use Rattle.rows_meta.specs.MetadataViews.{bits_view, field_view, fields_left};
 
+use crate::Bits;
 use crate::charsets::{ColumnCharsets, DefaultCharset};
 use crate::dimensionalities::VectorDimensionalities;
 use crate::entries::Entries;
@@ -15,7 +16,7 @@ use crate::names::ColumnNames;
 use crate::primary_keys::{PrimaryKeysWithPrefix, SimplePrimaryKey};
 use crate::str_values::{EnumsStrValues, SetsStrValues};
 use rows_consts::OptionalMetadataFieldType;
-use rows_values::{Bits, RowsError};
+use rows_errors::RowsError;
 use wire_consts::ColumnType;
 
 /// A field of the optional metadata, borrowed from the table map's bytes. MySQL Internals: Table_map_event.

@@ -11,7 +11,7 @@ ghost use Rattle.rows_meta.specs.MetadataViews.{geometry, geometry_types_view, g
 use crate::entries::Entries;
 use crate::reading::take_all;
 use crate::writing::put_all;
-use rows_values::RowsError;
+use rows_errors::RowsError;
 use std::alloc::{Allocator, Global};
 use wire_buf::{AnySize, MyDeserialize, MySerialize, ParseBuf, WireFault};
 use wire_consts::GeometryType;

@@ -2,10 +2,12 @@
 //! sets, names, keys and members of columns, read from borrowed bytes. MySQL Internals: Table_map_event.
 //!
 //! A table map is a sequence of fields (`specs/TableMaps.antt`); one definition covers reading and writing. `specs/Entries.antt`
-//! defines the encoding of the entries of a list of optional metadata, `specs/Lists.antt` the items of a list.
+//! defines the encoding of the entries of a list of optional metadata, `specs/Lists.antt` the items of a list, and
+//! `specs/BitLists.antt` the order of the bits in bytes.
 #![tactic(auto)]
 
 mod bad_column_type;
+mod bits;
 mod charsets;
 mod column_types;
 mod columns;
@@ -27,6 +29,7 @@ mod table_map;
 mod writing;
 
 pub use bad_column_type::BadColumnType;
+pub use bits::{Bits, BitsIter};
 pub use charsets::{
     ColumnCharsets, DefaultCharset, IterCharsets, IterNonDefault, NonDefaultCharset,
 };

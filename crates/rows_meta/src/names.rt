@@ -5,7 +5,7 @@ ghost use Rattle.std.specs.Cow.{cow_slice_items, cow_str_bytes, IsOwnedSlice};
 ghost use Rattle.std.specs.Iterator.{YieldsFirstBy, item_count};
 ghost use Rattle.std.specs.Str.Lossy.{utf8_lossy};
 ghost use Rattle.wire_forms.specs.Texts.{IsAll};
-ghost use Rattle.rows_values.specs.Readings.{map_reading};
+ghost use Rattle.rows_errors.specs.Readings.{map_reading};
 ghost use Rattle.rows_meta.specs.Entries.{StringEncoding, string_at};
 ghost use Rattle.rows_meta.specs.FieldEncodings.{all_encoded, string_encoded};
 ghost use Rattle.rows_meta.specs.Lists.{strings};
@@ -14,7 +14,7 @@ ghost use Rattle.rows_meta.specs.MetadataViews.{name_view, names_view, remaining
 use crate::entries::Entries;
 use crate::reading::{take_all, take_string};
 use crate::writing::put_all;
-use rows_values::RowsError;
+use rows_errors::RowsError;
 use std::alloc::{AllocError, Allocator, Global};
 use std::borrow::{CowSlice, CowStr};
 use wire_buf::{AnySize, Inner, MyDeserialize, MySerialize, ParseBuf, WireFault};

@@ -3,7 +3,7 @@
 ghost use Rattle.std.specs.Prelude.{◌≡◌, ℕ, List, [], Err};
 ghost use Rattle.std.specs.Iterator.{YieldsFirst, YieldsFirstBy, item_count};
 ghost use Rattle.wire_forms.specs.Texts.{IsAll};
-ghost use Rattle.rows_values.specs.Readings.{map_reading};
+ghost use Rattle.rows_errors.specs.Readings.{map_reading};
 ghost use Rattle.rows_meta.specs.Entries.{PairEncoding, pair_at};
 ghost use Rattle.rows_meta.specs.FieldEncodings.{all_encoded, pair_encoded};
 ghost use Rattle.rows_meta.specs.Lists.{numbers, pairs};
@@ -12,7 +12,7 @@ ghost use Rattle.rows_meta.specs.MetadataViews.{key_view, indexes_view, keys_vie
 use crate::entries::Entries;
 use crate::reading::{take_all, take_pair};
 use crate::writing::{put_all, put_pair};
-use rows_values::RowsError;
+use rows_errors::RowsError;
 use std::alloc::{Allocator, Global};
 use wire_buf::{AnySize, Inner, MyDeserialize, MySerialize, ParseBuf, WireFault};
 

@@ -6,7 +6,7 @@ ghost use Rattle.wire_forms.specs.Texts.{IsAll};
 ghost use Rattle.rows_meta.specs.Entries.{PairEncoding, StringEncoding, pair_at, string_at};
 
 use crate::entries::{split_pair, split_string};
-use rows_values::RowsError;
+use rows_errors::RowsError;
 use wire_buf::ParseBuf;
 
 /// Takes all remaining bytes: the value of a list.

@@ -2,13 +2,13 @@
 
 ghost use Rattle.std.specs.Prelude.{◌≡◌, option_map, map};
 ghost use Rattle.std.specs.Iterator.{endless};
-ghost use Rattle.rows_values.specs.Readings.{map_reading};
+ghost use Rattle.rows_errors.specs.Readings.{map_reading};
 ghost use Rattle.rows_meta.specs.Served.{bytes_or_none, pair_bytes, charset_entries, charset_item, default_item};
 ghost use Rattle.rows_meta.specs.Lists.{numbers, pairs};
 ghost use Rattle.rows_meta.specs.MetadataViews.{charset, default_charset_view, charsets_view, prepend_entry, entries_left, non_default_left, remaining_charsets, ReturnsCharset, IteratesCharsets};
 
 use crate::charsets::{ColumnCharsets, DefaultCharset, IterCharsets, IterNonDefault};
-use rows_values::RowsError;
+use rows_errors::RowsError;
 
 /// The next entry with a character set.
 #[derive(Clone, Copy)]

@@ -7,7 +7,7 @@ ghost use Rattle.std.specs.Str.Lossy.{utf8_lossy};
 ghost use Rattle.wire_buf.specs.Writing.{WritesField};
 ghost use Rattle.wire_buf.specs.declared.fault.WireFault.TheVariants.{Memory as WantOfMemory};
 ghost use Rattle.wire_forms.specs.Texts.{IsAll};
-ghost use Rattle.rows_values.specs.declared.fault.RowsError.TheVariants.{Memory};
+ghost use Rattle.rows_errors.specs.declared.fault.RowsError.TheVariants.{Memory};
 ghost use Rattle.rows_meta.specs.Entries.{StringEncoding, string_at};
 ghost use Rattle.rows_meta.specs.FieldEncodings.{all_encoded, string_encoded, members_encoded};
 ghost use Rattle.rows_meta.specs.Members.{MembersEncoding, members, members_at};
@@ -16,7 +16,7 @@ ghost use Rattle.rows_meta.specs.MetadataViews.{value_view, values_view, columns
 use crate::entries::{split_number, split_string};
 use crate::reading::{take_all, take_string};
 use crate::writing::put_all;
-use rows_values::RowsError;
+use rows_errors::RowsError;
 use std::alloc::{AllocError, Allocator, Global};
 use std::borrow::{CowSlice, CowStr};
 use wire_buf::{

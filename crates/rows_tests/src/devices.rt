@@ -1,7 +1,8 @@
 //! Readers and writers that fail. The values that are read and written are cases of `rows_cases`.
 
 use mysql_binlog_rows::my_timestamp_from_binary;
-use rows_values::{Decimal, RowsError};
+use rows_errors::RowsError;
+use rows_values::Decimal;
 use std::alloc::Global;
 use std::io::{self, Error, ErrorKind, Read, Write};
 use wire_buf::WireFault;

@@ -1,10 +1,10 @@
 //! The example of the documentation: the code in `docs/ROWS.md`, and its output.
 
 use feed_text::put_cell_ref;
+use rows_cells::RowPart;
+use rows_errors::RowsError;
 use rows_events::{ColumnPlan, EventColumns, RowsEvent, RowsEventCtx, RowsEventType};
-use rows_images::RowPart;
 use rows_meta::TableMapEvent;
-use rows_values::RowsError;
 use std::alloc::Global;
 use wire_buf::ParseBuf;
 

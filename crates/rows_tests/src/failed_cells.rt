@@ -3,7 +3,7 @@
 use feed_text::put_cell_ref;
 use linked_list_allocator::LocalHeap;
 use rows_cells::CellRef;
-use rows_values::RowsError;
+use rows_errors::RowsError;
 use std::alloc::Global;
 
 /// The result with this much memory, and the number of bytes in the text afterwards.

@@ -1,6 +1,6 @@
 //! Conversion of the errors of fields and of documents to errors of rows.
 
-use rows_values::{JsonbError, RowsError};
+use rows_errors::{JsonbError, RowsError};
 use wire_buf::WireFault;
 
 fn faults_of_the_wire() -> bool {

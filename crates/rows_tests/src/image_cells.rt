@@ -1,8 +1,7 @@
 //! Reading the cells of an image one by one.
 
-use rows_cells::{CellFormat, CellRef, Width};
-use rows_images::{ImageCells, ImageColumn, ImagePlan};
-use rows_values::RowsError;
+use rows_cells::{CellFormat, CellRef, ImageCells, ImageColumn, ImagePlan, Width};
+use rows_errors::RowsError;
 
 /// A column of signed integers of four bytes.
 fn long_column(column: u32) -> ImageColumn {

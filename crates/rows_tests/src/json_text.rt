@@ -3,8 +3,8 @@
 use crate::texts::Outcome;
 use feed_text::put_json;
 use linked_list_allocator::LocalHeap;
+use rows_errors::RowsError;
 use rows_jsonb::{JsonDom, Value};
-use rows_values::RowsError;
 use std::alloc::Global;
 use wire_buf::ParseBuf;
 

@@ -2,8 +2,7 @@
 
 use feed_text::put_cell_ref;
 use linked_list_allocator::LocalHeap;
-use rows_cells::{CellFormat, Width};
-use rows_images::{ImageColumn, ImagePlan, RowPart, RowPlan, RowsCursor};
+use rows_cells::{CellFormat, ImageColumn, ImagePlan, RowPart, RowPlan, RowsCursor, Width};
 use std::alloc::Global;
 
 /// A column of signed integers of four bytes.

@@ -2,7 +2,8 @@
 
 use feed_text::{put_decimal, put_value, quote};
 use linked_list_allocator::LocalHeap;
-use rows_values::{RowsError, Value};
+use rows_errors::RowsError;
+use rows_values::Value;
 use std::alloc::Global;
 
 /// The result of writing a text with limited memory.

@@ -21,6 +21,4 @@ pub mod SideLemmas
 pub mod TimeTextLemmas
 pub mod RowLemmas
 pub mod EqualLemmas
-pub mod EqualBitLemmas
-pub mod BitLemmas
 pub mod AppendLemmas

@@ -4,8 +4,8 @@ use Rattle.std.specs.Prelude.{nat_lt, slice_index}
 use Rattle.std.proofs.lemmas.Bool.Decides.{leb_tells}
 use Rattle.std.proofs.lemmas.List.{length-take}
 use Rattle.std.proofs.lemmas.Result.{IfOk-weaker, IfErr-weaker}
-use Rattle.rows_values.specs.declared.fault.RowsError.{RowsError}
-use Rattle.rows_values.specs.declared.fault.RowsError.TheVariants.{EndOfBody, Decimal as BadDecimal, Memory}
+use Rattle.rows_errors.specs.declared.fault.RowsError.{RowsError}
+use Rattle.rows_errors.specs.declared.fault.RowsError.TheVariants.{EndOfBody, Decimal as BadDecimal, Memory}
 use Rattle.rows_values.specs.declared.fields.Decimal.{Decimal}
 use Rattle.rows_values.specs.Decimals.{packed_size, decimal_parts}
 use Rattle.rows_values.specs.Unpacked.{unpacked, normalized_of, packed_value, packed_fault}

@@ -4,8 +4,8 @@ use Rattle.std.proofs.lemmas.Result.{err_from_is_err_and, IfOk-weaker, IfErr-wea
 use Rattle.std.specs.Io.KnownBytes.{Consumes}
 use Rattle.wire_buf.specs.declared.fault.WireFault.{WireFault}
 use Rattle.wire_buf.specs.Transfers.{FallsShort}
-use Rattle.rows_values.specs.declared.fault.RowsError.{RowsError}
-use Rattle.rows_values.specs.Faults.{rows_error}
+use Rattle.rows_errors.specs.declared.fault.RowsError.{RowsError}
+use Rattle.rows_errors.specs.Faults.{rows_error}
 use Rattle.rows_values.specs.declared.fields.Decimal.{Decimal}
 use Rattle.rows_values.specs.Decimals.{decimal_parts, ReadsDecimal, ReadsPacked, FailsDecimal, FailsPacked, early, following}
 

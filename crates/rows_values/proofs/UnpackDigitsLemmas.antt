@@ -13,8 +13,8 @@ use Rattle.std.specs.Int.Digits.{number_from_digits}
 use Rattle.byteorder.specs.Endian.{big_from}
 use Rattle.byteorder.specs.Numbers.{big_from-cons, big_from-lt, big_number-reads_back, length-bytes_high_first}
 use Rattle.wire_buf.specs.Encoding.{AreBytes}
-use Rattle.rows_values.specs.declared.fault.RowsError.{RowsError}
-use Rattle.rows_values.specs.declared.fault.RowsError.TheVariants.{Decimal as BadDecimal, Memory}
+use Rattle.rows_errors.specs.declared.fault.RowsError.{RowsError}
+use Rattle.rows_errors.specs.declared.fault.RowsError.TheVariants.{Decimal as BadDecimal, Memory}
 use Rattle.rows_values.specs.Digits.{AreDigits, group_size, group_bytes, nines_bytes, digits_in}
 use Rattle.rows_values.specs.Steps.{AppendsDigits, NoDigits}
 use Rattle.rows_values.proofs.GroupLemmas.{take_digits, drop_digits, append_digits, number_bound, fits_group, nines_more, nines_append}

@@ -11,8 +11,8 @@ use Rattle.wire_buf.specs.declared.fault.WireFault.TheVariants as wire
 use Rattle.wire_buf.specs.Transfers.{WritesPrefix}
 use Rattle.rows_values.specs.Digits.{AreDigits, side_size, before_bytes, after_bytes, top_flipped, signed}
 use Rattle.rows_values.specs.declared.fields.Decimal.{Decimal}
-use Rattle.rows_values.specs.declared.fault.RowsError.{RowsError}
-use Rattle.rows_values.specs.declared.fault.RowsError.TheVariants.{EndOfBody, Decimal as BadDecimal, Memory, Read}
+use Rattle.rows_errors.specs.declared.fault.RowsError.{RowsError}
+use Rattle.rows_errors.specs.declared.fault.RowsError.TheVariants.{EndOfBody, Decimal as BadDecimal, Memory, Read}
 
 -- the sign, and the digits, each 0 to 9, the highest first; a zero may be negative
 pub record DecimalParts : Type 0 where

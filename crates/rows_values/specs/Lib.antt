@@ -6,14 +6,10 @@ pub mod RemainingGroups
 pub mod Unpacked
 pub mod PackedTexts
 pub mod PackedNumbers
-pub mod Faults
 pub use Rattle.rows_packed_times.specs.PackedTimes
 pub mod TimeFields
 pub mod TimeBits
 pub mod TimeTexts
-pub mod Readings
 pub mod Values
 pub mod Columns
-pub mod BitLists
-pub mod BitCounts
 pub mod Rows

@@ -4,8 +4,8 @@ use Rattle.byteorder.specs.Endian.{big_number}
 use Rattle.rows_values.specs.Digits.{group_size, side_size, top_flipped, signed, digits_in, has_minus_bit}
 use Rattle.rows_values.specs.Decimals.{DecimalParts, packed_size, normalized}
 use Rattle.rows_values.specs.Texts.{decimal_text}
-use Rattle.rows_values.specs.declared.fault.RowsError.{RowsError}
-use Rattle.rows_values.specs.declared.fault.RowsError.TheVariants.{EndOfBody, Decimal as BadDecimal}
+use Rattle.rows_errors.specs.declared.fault.RowsError.{RowsError}
+use Rattle.rows_errors.specs.declared.fault.RowsError.TheVariants.{EndOfBody, Decimal as BadDecimal}
 
 -- two lists of digits in sequence; none if one of them is missing
 abbrev pub concat_digits : Option (List ℕ) → Option (List ℕ) → Option (List ℕ)

@@ -1,21 +1,18 @@
-//! The values in the cells of a binary log's rows, and the errors of reading rows: packed times and dates, MySQL's DECIMAL, and
-//! plain values with their columns, rows and bits.
+//! The values in the cells of a binary log's rows: packed times and dates, MySQL's DECIMAL, and plain values with their columns and
+//! rows.
 //!
 //! `rows_packed_times`, which is re-exported here, defines the number that the bytes of a cell pack, `specs/TimeFields.antt` the
 //! fields of such a number, and `specs/TimeTexts.antt` the text of a time. [`Decimal`] holds a sign and the digits before and after
 //! the point: `specs/Digits.antt` defines how digits are packed, `specs/Decimals.antt` what is read and written, `specs/Texts.antt`
 //! the text that is printed and parsed, and `specs/Unpacked.antt` which decimal given bytes pack, and its text.
-//! `specs/Values.antt` defines which values are the same and the value of a packed time, `specs/BitLists.antt` the order of the bits
-//! in bytes. [`laws`] relates these to one another, and has worked values.
+//! `specs/Values.antt` defines which values are the same and the value of a packed time.
 #![tactic(auto)]
 
 mod append;
-mod bits;
 mod decimal;
 mod digit_text;
 mod digits;
 mod display;
-mod fault;
 mod fields;
 mod group_number;
 mod groups;
@@ -29,9 +26,7 @@ mod rows;
 mod times;
 mod unpacking;
 
-pub use bits::{Bits, BitsIter};
 pub use digits::{DIG_BASE, DIG_PER_DEC, DIG_TO_BYTES, Digit, POWERS_10, decimal_bin_size};
-pub use fault::{JsonbError, RowsError};
 pub use fields::Decimal;
 pub use numbers::{DecimalNumbers, decimal_numbers};
 pub use packed_check::packs_decimal;

@@ -1,17 +1,17 @@
 //! Reads the packed format of a decimal.
 
 ghost use Rattle.std.specs.Prelude.{◌≡◌, ◌≤◌, ◌<◌, ◌-◌, ◌*◌, ◌^◌, ◌++◌, ◌/◌, ◌⊎◌, Some, None, OnOk, IfOk, IfErr, true, false, length, if◌then◌else◌};
-ghost use Rattle.rows_values.specs.declared.fault.RowsError.TheVariants.{Decimal as BadDecimal, Memory};
+ghost use Rattle.rows_errors.specs.declared.fault.RowsError.TheVariants.{Decimal as BadDecimal, Memory};
 ghost use Rattle.rows_values.specs.Digits.{AreDigits, group_size as group_size_of, side_size as side_size_of, group_bytes, nines_bytes, before_bytes, after_bytes, digits_in};
 ghost use Rattle.rows_values.specs.Steps.{AppendsDigits, NoDigits};
 ghost use Rattle.rows_values.specs.PackedTexts.{flipped_back};
 ghost use Rattle.rows_values.specs.Decimals.{decimal_parts, packed_size, some_digit, without_zero_groups, Unpacks, NonePacked, ReadsDecimal, FailsDecimal, ReadsPacked, FailsPacked};
 ghost use Rattle.rows_values.specs.Unpacked.{unpacked, normalized_of, packed_value, packed_fault};
 
-use crate::RowsError;
 use crate::digits::{DIG_PER_DEC, GROUP_BYTES, decimal_bin_size, group_size, leading, side_size};
 use crate::fields::Decimal;
 use crate::group_number::{group_number, has_minus_bit, is_first};
+use rows_errors::RowsError;
 use std::alloc::{AllocError, Global};
 use std::io::Read;
 use wire_buf::{read_exact, read_more};

@@ -1,8 +1,8 @@
 use Rattle.std.proofs.Common.{refl, subst}
-use Rattle.rows_images.specs.declared.image.ImageCells.{ImageCells}
+use Rattle.rows_cells.specs.declared.image.ImageCells.{ImageCells}
 use Rattle.feed_changes.specs.CheckedRows.{Passes, IsNextError}
 use Rattle.wire_buf.proofs.EncodingLemmas.{IfErr-of_same}
-use Rattle.rows_images.specs.ImageViews.{image_shape}
+use Rattle.rows_cells.specs.ImageViews.{image_shape}
 use Rattle.feed_changes.proofs.CheckedRowLemmas.{passes_none, passes_more, image_fails}
 use Rattle.feed_changes.proofs.checked_rows.check_image.Goals as goal
 use Rattle.feed_changes.proofs.checked_rows.check_image.Goals.{else-not-skip_integer-via-then-not-skip_integer+in_ok-check_next+else-not-branch, else-not-skip_integer-via-else-not-skip_integer}

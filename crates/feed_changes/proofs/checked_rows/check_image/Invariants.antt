@@ -1,4 +1,4 @@
-use Rattle.rows_images.specs.ImageViews.{cells_count}
+use Rattle.rows_cells.specs.ImageViews.{cells_count}
 use Rattle.feed_changes.specs.CheckedRows.{Passes}
 use Rattle.feed_changes.proofs.checked_rows.check_image.Given as goal
 

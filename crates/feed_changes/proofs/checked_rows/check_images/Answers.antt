@@ -1,8 +1,8 @@
 use Rattle.std.proofs.Common.{rules, ◌≡◌, Some, None}
 use Rattle.wire_buf.proofs.EncodingLemmas.{IfErr-of_same}
-use Rattle.rows_images.specs.ImageViews.{image_shape}
-use Rattle.rows_images.specs.RowViews.{second_shape}
-use Rattle.feed_rows.proofs.RowLineLemmas.{first_failed}
+use Rattle.rows_cells.specs.ImageViews.{image_shape}
+use Rattle.rows_cells.specs.RowViews.{second_shape}
+use Rattle.feed_rules.proofs.RowLineLemmas.{first_failed}
 use Rattle.feed_changes.proofs.CheckedRowLemmas.{first_passes, second_passes, second_fails}
 use Rattle.feed_changes.proofs.checked_rows.check_images.Goals as goal
 

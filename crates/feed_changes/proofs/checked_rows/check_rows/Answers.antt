@@ -1,6 +1,6 @@
 use Rattle.std.proofs.Common.{rules, arith, refl, ◌≡◌, ◌<◌, ◌≤◌, length}
 use Rattle.wire_buf.proofs.EncodingLemmas.{IfErr-of_same}
-use Rattle.rows_images.specs.RowViews.{row_shape}
+use Rattle.rows_cells.specs.RowViews.{row_shape}
 use Rattle.feed_changes.proofs.CheckedRowLemmas.{no_rows_yet, row_passes, rows_pass, row_fails, empty_row_fails}
 use Rattle.feed_changes.proofs.checked_rows.check_rows.Goals as goal
 

@@ -1,5 +1,5 @@
 use Rattle.std.proofs.Common.{length}
-use Rattle.rows_images.specs.RowViews.{row_shape}
+use Rattle.rows_cells.specs.RowViews.{row_shape}
 use Rattle.feed_changes.proofs.CheckedRowLemmas.{HaveTextsSoFar}
 use Rattle.feed_changes.proofs.checked_rows.check_rows.Given as goal
 

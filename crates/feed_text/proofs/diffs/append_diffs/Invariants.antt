@@ -1,6 +1,6 @@
 use Rattle.std.proofs.Common.{◌≡◌, ℕ, List, ◌++◌, length, take, drop, map, codes, Ok, Err}
 use Rattle.std.specs.List.{join_with_byte}
-use Rattle.rows_values.specs.declared.fault.RowsError.{RowsError}
+use Rattle.rows_errors.specs.declared.fault.RowsError.{RowsError}
 use Rattle.rows_jsonb.specs.JsonDiffViews.{diff_view}
 use Rattle.rows_jsonb.specs.JsonParsing.{Parses}
 use Rattle.feed_text.specs.DiffText.{diff_texts}

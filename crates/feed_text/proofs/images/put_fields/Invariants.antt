@@ -1,4 +1,4 @@
-use Rattle.rows_images.specs.ImageViews.{cells_count}
+use Rattle.rows_cells.specs.ImageViews.{cells_count}
 use Rattle.feed_text.proofs.ImageTextLemmas.{WritesWithRoom}
 use Rattle.feed_text.proofs.images.put_fields.Given as goal
 

@@ -1,5 +1,5 @@
 use Rattle.std.proofs.Common.{arith, rules, ap, ◌≡◌, ◌≤◌, ◌<◌, length}
-use Rattle.rows_images.specs.ImageViews.{image_shape, cells_count}
+use Rattle.rows_cells.specs.ImageViews.{image_shape, cells_count}
 use Rattle.feed_text.proofs.RowTextLemmas.{row_written, start_stays}
 use Rattle.feed_text.proofs.rows.put_short_row.Goals as goal
 

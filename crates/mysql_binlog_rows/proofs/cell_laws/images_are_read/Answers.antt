@@ -1,6 +1,6 @@
 use Rattle.std.proofs.Common.{ap, ◌∙◌}
-use Rattle.rows_images.specs.Images.{image_at}
-use Rattle.rows_images.proofs.RowLemmas.{image-is, image-here}
+use Rattle.rows_cells.specs.Images.{image_at}
+use Rattle.rows_cells.proofs.RowLemmas.{image-is, image-here}
 use Rattle.mysql_binlog_rows.proofs.cell_laws.images_are_read.Goals as goal
 
 pub returns : goal.returns

@@ -1,7 +1,7 @@
 use Rattle.wire_buf.specs.Encoding.{Alone}
 use Rattle.rows_jsonb.proofs.ItemLemmas.{items-found, items-only}
-use Rattle.rows_images.specs.EventRows.{IsEventRow, row_at}
-use Rattle.rows_images.proofs.RowLemmas.{row-is, row-here, row-shrinks}
+use Rattle.rows_cells.specs.EventRows.{IsEventRow, row_at}
+use Rattle.rows_cells.proofs.RowLemmas.{row-is, row-here, row-shrinks}
 use Rattle.mysql_binlog_rows.proofs.cell_laws.lists_of_rows_are_read.Goals as goal
 
 pub returns-clause-found : goal.returns-clause-found

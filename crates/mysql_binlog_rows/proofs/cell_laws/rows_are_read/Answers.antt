@@ -1,6 +1,6 @@
 use Rattle.std.proofs.Common.{ap, ◌∙◌}
-use Rattle.rows_images.specs.EventRows.{row_at}
-use Rattle.rows_images.proofs.RowLemmas.{row-is, row-here}
+use Rattle.rows_cells.specs.EventRows.{row_at}
+use Rattle.rows_cells.proofs.RowLemmas.{row-is, row-here}
 use Rattle.mysql_binlog_rows.proofs.cell_laws.rows_are_read.Goals as goal
 
 pub returns : goal.returns

@@ -1,5 +1,5 @@
 use Rattle.std.proofs.Common.{◌≡◌, ◌+◌, length}
-use Rattle.rows_images.specs.ImageViews.{cells_count}
+use Rattle.rows_cells.specs.ImageViews.{cells_count}
 use Rattle.rows_events.proofs.ReadLemmas.{HasRead}
 use Rattle.rows_events.proofs.row_image.read_values.Given as goal
 

@@ -1,4 +1,4 @@
-use Rattle.rows_images.specs.ImageViews.{cells_count}
+use Rattle.rows_cells.specs.ImageViews.{cells_count}
 use Rattle.feed_text.specs.Buffers.{text_in}
 use Rattle.feed_text.specs.ImageText.{AppendsFields}
 use Rattle.feed_text.proofs.buffer.TextBuffer.put_remaining.Given as goal

@@ -1,6 +1,6 @@
 use Rattle.std.proofs.Common.{◌≡◌, arith, rules, sym, ap, subst, List, ℕ, length, take}
 use Rattle.std.proofs.lemmas.List.{with_items_is}
-use Rattle.rows_images.specs.ImageViews.{image_shape}
+use Rattle.rows_cells.specs.ImageViews.{image_shape}
 use Rattle.feed_text.specs.Buffers.{text_in}
 use Rattle.feed_text.specs.RowText.{WritesRow}
 use Rattle.feed_text.proofs.RowTextLemmas.{rows_more}

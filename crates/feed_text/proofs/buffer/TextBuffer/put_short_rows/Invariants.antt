@@ -1,5 +1,5 @@
 use Rattle.std.proofs.Common.{length}
-use Rattle.rows_images.specs.ImageViews.{image_shape}
+use Rattle.rows_cells.specs.ImageViews.{image_shape}
 use Rattle.feed_text.specs.Buffers.{text_in}
 use Rattle.feed_text.specs.RowText.{AppendsRows}
 use Rattle.feed_text.proofs.buffer.TextBuffer.put_short_rows.Given as goal

@@ -1,6 +1,6 @@
 use Rattle.std.proofs.Common.{Ok, map, sym, ap, ◌∙◌, refl, inl, inr, rules}
 use Rattle.std.proofs.lemmas.Result.{IfOk-from_err, err_from_is_err_and}
-use Rattle.rows_values.specs.BitLists.{bit_at}
+use Rattle.rows_meta.specs.BitLists.{bit_at}
 use Rattle.rows_values.specs.Columns.{parts_of}
 use Rattle.rows_meta.specs.Lists.{strings}
 use Rattle.rows_events.specs.PickedColumns.{definition, picked_as}

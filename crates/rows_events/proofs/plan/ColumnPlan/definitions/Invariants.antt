@@ -1,6 +1,6 @@
 use Rattle.std.proofs.Common.{◌≡◌, ◌++◌, map, drop}
 use Rattle.rows_values.specs.Columns.{parts_of}
-use Rattle.rows_values.specs.BitLists.{bit_at}
+use Rattle.rows_meta.specs.BitLists.{bit_at}
 use Rattle.rows_meta.specs.Lists.{strings}
 use Rattle.rows_meta.specs.MetadataViews.{remaining_names}
 use Rattle.rows_events.specs.PlanViews.{columns_from}

@@ -1,7 +1,7 @@
 use Rattle.std.proofs.Common.{List, Ok, inl, inr, refl, sym, ap, ◌∙◌}
 use Rattle.std.proofs.lemmas.Result.{IfOk-from_err, err_from_is_err_and}
-use Rattle.rows_values.specs.BitLists.{bit_at}
-use Rattle.rows_values.specs.Readings.{Reading}
+use Rattle.rows_meta.specs.BitLists.{bit_at}
+use Rattle.rows_errors.specs.Readings.{Reading}
 use Rattle.rows_meta.specs.Lists.{strings}
 use Rattle.rows_events.specs.Plans.{PlannedColumn}
 use Rattle.rows_events.specs.PickedColumns.{image_column, picked_as, appended}

@@ -1,5 +1,5 @@
 use Rattle.std.proofs.Common.{◌≡◌, ◌++◌, map, drop}
-use Rattle.rows_values.specs.BitLists.{bit_at}
+use Rattle.rows_meta.specs.BitLists.{bit_at}
 use Rattle.rows_meta.specs.Lists.{strings}
 use Rattle.rows_events.specs.PlanViews.{columns_from}
 use Rattle.rows_events.specs.PickedColumns.{picked, image_column}

@@ -1,5 +1,5 @@
 use Rattle.std.proofs.Common.{◌≡◌, arith}
-use Rattle.rows_values.specs.BitLists.{len_of}
+use Rattle.rows_meta.specs.BitLists.{len_of}
 use Rattle.rows_events.proofs.RowFieldLemmas.{planned_image, planned_definitions}
 use Rattle.rows_events.proofs.row_field.BinlogRowCtx.image.Goals as goal
 

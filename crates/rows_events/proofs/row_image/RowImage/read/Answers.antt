@@ -1,7 +1,7 @@
 use Rattle.std.proofs.Common.{inl}
 use Rattle.std.proofs.lemmas.Result.{IfOk-from_err, err_from_is_err_and}
 use Rattle.std.proofs.Common.{length, sym, ap, ◌∙◌}
-use Rattle.rows_images.specs.Images.{ImageShape}
+use Rattle.rows_cells.specs.Images.{ImageShape}
 use Rattle.rows_events.proofs.row_image.RowImage.read.Goals as goal
 
 pub of_image-row-requires : goal.of_image-row-requires

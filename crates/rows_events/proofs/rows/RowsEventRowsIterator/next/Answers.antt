@@ -1,5 +1,5 @@
 use Rattle.std.proofs.Common.{◌≡◌, ◌⊎◌, Err, refl, inl, inr}
-use Rattle.rows_values.specs.declared.fault.RowsError.TheVariants.{Memory}
+use Rattle.rows_errors.specs.declared.fault.RowsError.TheVariants.{Memory}
 use Rattle.rows_events.specs.EventShapes.{row_read}
 use Rattle.rows_events.proofs.rows.RowsEventRowsIterator.next.Goals as goal
 

@@ -4,8 +4,8 @@ use Rattle.std.proofs.lemmas.Bool.{lt-ltb, le-ltb}
 use Rattle.std.proofs.lemmas.List.{length-drop, take_rest}
 use Rattle.std.proofs.lemmas.Result.{err_from_is_err_and}
 use Rattle.byteorder.specs.Endian.{little_number}
-use Rattle.rows_values.specs.declared.fault.RowsError.TheVariants.{Jsonb}
-use Rattle.rows_values.specs.declared.fault.JsonbError.TheVariants.{InvalidKeyOffsetPointer}
+use Rattle.rows_errors.specs.declared.fault.RowsError.TheVariants.{Jsonb}
+use Rattle.rows_errors.specs.declared.fault.JsonbError.TheVariants.{InvalidKeyOffsetPointer}
 use Rattle.rows_jsonb.specs.JsonbLayout.{format, offset_size, key_entry_offset, header_size}
 use Rattle.rows_jsonb.specs.JsonbValues.{key, key_in}
 use Rattle.rows_jsonb.proofs.FormatLemmas.{key_entry_ends, key_within}

@@ -1,5 +1,5 @@
 use Rattle.std.proofs.Common.{ap, map}
-use Rattle.rows_values.specs.Readings.{map_reading}
+use Rattle.rows_errors.specs.Readings.{map_reading}
 use Rattle.rows_meta.specs.Served.{pair_entry}
 use Rattle.rows_meta.proofs.ServedLemmas.{no_charsets, chain_fault}
 use Rattle.rows_meta.proofs.served_charsets.CharsetEntries.take_entry.Goals as goal

@@ -1,5 +1,5 @@
 use Rattle.std.proofs.Common.{List, [], sym, ap, ◌∙◌}
-use Rattle.rows_values.specs.Readings.{Reading}
+use Rattle.rows_errors.specs.Readings.{Reading}
 use Rattle.rows_meta.specs.Served.{CharsetEntry, charset_after, next_index}
 use Rattle.rows_meta.specs.MetadataViews.{entries_left}
 use Rattle.rows_meta.proofs.ServedLemmas.{default-first, default-then, fault-first, fault-then, plain-first, plain-then, same-first, same-then, other-first, other-then}

@@ -1,5 +1,5 @@
 use Rattle.std.proofs.Common.{inl, inr, ap, Some, Err}
-use Rattle.rows_values.specs.declared.fault.RowsError.{RowsError}
+use Rattle.rows_errors.specs.declared.fault.RowsError.{RowsError}
 use Rattle.rows_meta.specs.Members.{members_at}
 use Rattle.rows_meta.proofs.EntryLemmas.{members-takes}
 use Rattle.rows_meta.proofs.ListLemmas.{items-none, items-ok, items-err, empty-items}

@@ -1,5 +1,5 @@
 use Rattle.std.proofs.Common.{◌≡◌, ◌⊎◌, inl, inr}
-use Rattle.rows_values.specs.declared.fault.RowsError.TheVariants.{Memory}
+use Rattle.rows_errors.specs.declared.fault.RowsError.TheVariants.{Memory}
 use Rattle.wire_buf.specs.Encoding.{Lacks}
 use Rattle.rows_meta.specs.Members.{MembersEncoding, members_at}
 use Rattle.rows_meta.proofs.MemberLawLemmas.{members-law}

@@ -1,9 +1,0 @@
-pub mod Damage
-pub mod Sums
-pub mod SplitEvents
-pub mod UsualDescriptions
-pub mod HeldDescriptions
-pub mod EventCheckers
-pub mod Events
-pub mod MagicNumbers
-pub mod ReadVerdicts

@@ -1,0 +1,16 @@
+pub mod PairReaders
+pub mod ReaderLemmas
+pub mod BodyLemmas
+pub mod BodyKindLemmas
+pub mod KindReadLemmas
+pub mod KnownBodyLemmas
+pub mod PartLemmas
+pub mod DescriptionLemmas
+pub mod SoundLemmas
+pub mod CheckedBodyLemmas
+pub mod InForceLemmas
+pub mod DamageLemmas
+pub mod AcceptedLemmas
+pub mod EventLemmas
+pub mod MagicNumberLemmas
+pub mod LoopLemmas

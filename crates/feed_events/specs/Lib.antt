@@ -1,0 +1,17 @@
+pub mod Words
+pub mod Readers
+pub mod Bodies
+pub mod Events
+pub mod Kinds
+pub mod BodiesOfMaps
+pub mod KindViews
+pub mod Verdicts
+pub mod Damage
+pub mod Sums
+pub mod SplitEvents
+pub mod UsualDescriptions
+pub mod HeldDescriptions
+pub mod EventCheckers
+pub mod LogFormat
+pub mod MagicNumbers
+pub mod ReadVerdicts

@@ -1,4 +1,0 @@
-pub mod Words
-pub mod Streams
-pub mod Requests
-pub mod RequestErrors

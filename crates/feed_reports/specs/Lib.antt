@@ -1,4 +1,0 @@
-pub mod Writing
-pub mod Reports
-pub mod ReportSteps
-pub mod Waiting

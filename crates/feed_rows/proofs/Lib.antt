@@ -1,4 +1,0 @@
-pub mod RowLineLemmas
-pub mod TableLemmas
-pub mod MapBodyLemmas
-pub mod KnownImageLemmas

@@ -1,9 +1,0 @@
-pub mod PacketLemmas
-pub mod WaitingLemmas
-pub mod RequestLemmas
-pub mod SendingLemmas
-pub mod AnswerLemmas
-pub mod SeekLemmas
-pub mod PassingLemmas
-pub mod FileLemmas
-pub mod FieldLemmas

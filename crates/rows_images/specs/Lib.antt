@@ -1,4 +1,0 @@
-pub mod Images
-pub mod ImageViews
-pub mod EventRows
-pub mod RowViews
