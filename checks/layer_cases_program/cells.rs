@@ -9,7 +9,7 @@ use rows_values::Value;
 use std::alloc::Global;
 use std::io::Write;
 use wire_buf::ParseBuf;
-use wire_consts::ColumnType;
+use wire_constants::ColumnType;
 
 /// The column type with this number.
 fn type_of(number: &[u8]) -> Result<ColumnType, Fault> {

@@ -2,7 +2,7 @@
 
 use crate::words::{Fault, bytes_of, put_bytes, put_rest};
 use rows_errors::RowsError;
-use rows_meta::{
+use rows_table_map::{
     ColumnCharsets, ColumnName, ColumnNames, DefaultCharset, EnumStrValue, EnumStrValues,
     EnumsStrValues, GeometryTypes, NonDefaultCharset, PrimaryKeyWithPrefix, PrimaryKeysWithPrefix,
     SetStrValue, SetStrValues, SetsStrValues, SimplePrimaryKey, VectorDimensionalities,

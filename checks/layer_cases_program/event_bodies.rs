@@ -13,12 +13,12 @@ use events_frames::{
 };
 use events_gtids::{AnonymousGtidEvent, GtidEvent};
 use events_queries::QueryEvent;
-use events_rows::{
+use events_typed_rows::{
     DeleteRowsEvent, DeleteRowsEventV1, PartialUpdateRowsEvent, UpdateRowsEvent, UpdateRowsEventV1,
     WriteRowsEvent, WriteRowsEventV1,
 };
-use rows_consts::BinlogVersion;
-use rows_meta::TableMapEvent;
+use rows_constants::BinlogVersion;
+use rows_table_map::TableMapEvent;
 use std::alloc::{AllocError, Global};
 use std::fmt::Debug;
 use wire_buf::{MySerialize, WireFault};

@@ -4,8 +4,8 @@ use crate::event_memory::{put_value_written, written};
 use crate::event_words::{body_of, description_with, put_debug, put_unless};
 use crate::words::{Fault, byte_of, put_text};
 use events_frames::{BinlogCtx, FormatDescriptionEvent};
-use events_stream::EventData;
-use rows_consts::EventType;
+use events_owned::EventData;
+use rows_constants::EventType;
 use std::alloc::Global;
 
 /// The `Debug` text of a body.

@@ -7,7 +7,7 @@ use crate::event_words::{
 };
 use crate::words::{Fault, bytes_of, number_of, only_bytes_of, put_bytes, put_text, put_written};
 use events_frames::{BinlogEventFooter, EventParts, FormatDescriptionEvent};
-use rows_consts::{BinlogChecksumAlg, BinlogVersion, EventType};
+use rows_constants::{BinlogChecksumAlg, BinlogVersion, EventType};
 use std::alloc::{AllocError, Global};
 use std::borrow::CowSlice;
 use wire_buf::MySerialize;

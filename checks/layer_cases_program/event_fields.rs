@@ -7,7 +7,7 @@ use events_bodies::{
     BeginLoadQueryEvent, IncidentEvent, IntvarEvent, RandEvent, RowsQueryEvent, UserVarEvent,
 };
 use events_frames::{RotateEvent, XidEvent};
-use rows_more_consts::{IncidentType, IntvarEventType};
+use rows_constants_extra::{IncidentType, IntvarEventType};
 use std::alloc::{AllocError, Global};
 use std::borrow::CowSlice;
 

@@ -7,8 +7,8 @@ use events_frames::{
     BinlogEventHeader, EventError, EventParts, EventStreamReader, FormatDescriptionEvent, XidEvent,
     calc_checksum,
 };
-use events_stream::{BinlogFile, Event, EventData, write_event};
-use rows_consts::{BinlogChecksumAlg, BinlogVersion};
+use events_owned::{BinlogFile, Event, EventData, write_event};
+use rows_constants::{BinlogChecksumAlg, BinlogVersion};
 use std::alloc::Global;
 use std::rc::Rc;
 use wire_buf::Watched;

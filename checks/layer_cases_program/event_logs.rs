@@ -4,8 +4,8 @@ use crate::event_files::{added, put_events, put_file_of};
 use crate::event_words::{put_field, put_unless};
 use crate::words::{Fault, byte_of, bytes_of, put_text};
 use events_frames::{BinlogEventHeader, BinlogFileHeader};
-use events_stream::BinlogFile;
-use rows_consts::BinlogVersion;
+use events_owned::BinlogFile;
+use rows_constants::BinlogVersion;
 use std::alloc::Global;
 use wire_buf::MySerialize;
 

@@ -7,7 +7,7 @@ use crate::words::{Fault, bytes_of, only_bytes_of, put_bytes, put_rest, put_text
 use events_bodies::ExecuteLoadQueryEvent;
 use events_frames::{QueryTexts, read_body};
 use events_queries::{QueryEvent, StatusVar, StatusVars, StatusVarsIterator};
-use rows_more_consts::{LoadDuplicateHandling, StatusVarKey};
+use rows_constants_extra::{LoadDuplicateHandling, StatusVarKey};
 use std::alloc::{AllocError, Global};
 use std::borrow::CowSlice;
 use wire_buf::ParseBuf;

@@ -3,9 +3,9 @@
 use crate::event_words::{put_field, put_unless};
 use crate::words::{Fault, bytes_of, put_text};
 use events_frames::{EventError, EventParts, EventStreamReader};
-use events_stream::ReadEvents;
+use events_owned::ReadEvents;
 use feed_text::quote;
-use rows_consts::BinlogVersion;
+use rows_constants::BinlogVersion;
 use std::alloc::{AllocError, Global};
 use wire_buf::Watched;
 

@@ -6,13 +6,13 @@ use crate::event_words::{description_with, put_debug, put_field, put_text_field,
 use crate::tables::event_type_of;
 use crate::words::{Fault, bytes_of, put_bits, put_bytes, put_text};
 use events_frames::{BinlogCtx, EventError, read_struct};
-use events_rows::{
+use events_typed_rows::{
     DeleteRows, DeleteRowsV1, PartialUpdateRows, RowsEventData, RowsEventOf, RowsKind, UpdateRows,
     UpdateRowsV1, WriteRows, WriteRowsV1,
 };
 use rows_errors::RowsError;
-use rows_events::{BinlogRow, ColumnPlan, RowsEvent, RowsEventRows, RowsEventType};
-use rows_meta::{Bits, TableMapEvent};
+use rows_event_body::{BinlogRow, ColumnPlan, RowsEvent, RowsEventRows, RowsEventType};
+use rows_table_map::{Bits, TableMapEvent};
 use std::alloc::{AllocError, Global};
 
 impl<'a> Body<'a> for TableMapEvent<'a> {

@@ -2,7 +2,7 @@
 
 use crate::words::{Fault, bytes_of, done, put_bytes, put_name, put_text};
 use events_frames::{BinlogEventFooter, FormatDescriptionEvent};
-use rows_consts::{BinlogChecksumAlg, BinlogVersion};
+use rows_constants::{BinlogChecksumAlg, BinlogVersion};
 use std::alloc::Global;
 use std::borrow::{CowSlice, CowStr};
 use std::fmt::Debug;

@@ -3,9 +3,9 @@
 use crate::feed_values::{put_comma, put_transaction};
 use crate::words::{Fault, bytes_of, done, number_of, put_bytes, put_text};
 use crc32::crc32;
-use feed_events::Verdict;
-use feed_follower::ChangeFollower;
-use feed_streams::{Follower, RequestError, Served, request, serve, serve_semi};
+use feed_change_follower::ChangeFollower;
+use feed_checks::Verdict;
+use feed_replication::{Follower, RequestError, Served, request, serve, serve_semi};
 use std::alloc::Global;
 use std::io::Write;
 use wire_buf::Watched;

@@ -3,10 +3,10 @@
 use crate::words::{Fault, bytes_of, done, number_of, put_number, put_text};
 use crc32::crc32;
 use events_frames::QueryTexts;
-use feed_changes::{
+use feed_change_log::{
     Change, ChangeLog, CommittedTransaction, Filter, OwnedTransaction, Stop, TableRows, What,
 };
-use feed_events::{Gtid, Verdict};
+use feed_checks::{Gtid, Verdict};
 use feed_text::{put_cell_ref, quote};
 use rows_cells::RowPart;
 use std::alloc::Global;

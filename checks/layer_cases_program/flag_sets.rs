@@ -3,12 +3,12 @@
 use crate::wire_constants::narrow;
 use crate::words::{Fault, done, put_text};
 use bitflags::Flags;
-use rows_consts::{EventFlags, RowsEventFlags, SemiSyncFlags};
-use rows_more_consts::{GtidFlags, UserVarFlags};
+use rows_constants::{EventFlags, RowsEventFlags, SemiSyncFlags};
+use rows_constants_extra::{GtidFlags, UserVarFlags};
 use std::fmt::Display;
 use std::io::Write;
-use wire_consts::ColumnFlags;
-use wire_more_forms::{Flags2, SqlMode};
+use wire_constants::ColumnFlags;
+use wire_fields_extra::{Flags2, SqlMode};
 
 /// Appends the bits of a set of flags and the names of the flags, or the text of the error, which must have the bits; the known
 /// ones, if others are set too; and the bits of no flags, if there are any.

@@ -2,15 +2,15 @@
 
 use crate::json_values::put_constant as put_constant_of_json;
 use crate::words::{Fault, done, number_of, put_number, put_text};
-use rows_consts::{BinlogChecksumAlg, BinlogVersion, EventType, OptionalMetadataFieldType};
-use rows_more_consts::{
+use rows_constants::{BinlogChecksumAlg, BinlogVersion, EventType, OptionalMetadataFieldType};
+use rows_constants_extra::{
     BinlogRowValueOptions, Gno, IncidentType, IntvarEventType, LoadDuplicateHandling, StatusVarKey,
     TransactionPayloadCompressionType, TransactionPayloadFields,
 };
 use std::alloc::Global;
 use std::fmt::{Debug, Display};
 use std::io::Write;
-use wire_consts::{ColumnType, Constant, GeometryType};
+use wire_constants::{ColumnType, Constant, GeometryType};
 
 /// Appends the name of the constant with this number, or the text of the error; returns whether there is such a constant.
 fn put_constant<P: PartialEq + Drop, C: Constant<P> + Debug, E: Display + Drop>(

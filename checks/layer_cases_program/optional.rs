@@ -4,7 +4,7 @@ use crate::words::{
     Fault, bytes_of, done, put_bits, put_error, put_item, put_name, put_number, put_text,
 };
 use rows_errors::RowsError;
-use rows_meta::{
+use rows_table_map::{
     Bits, ColumnCharsets, ColumnName, ColumnNames, ColumnsStrValues, DefaultCharset, GeometryTypes,
     IterCharset, IterNames, IterPrimaryKey, IterSignedness, OptionalMetaExtractor,
     OptionalMetadataField as Field, OptionalMetadataIter, PrimaryKeysWithPrefix, SimplePrimaryKey,

@@ -7,13 +7,13 @@ use crate::wire_words::{len_of, name_and_argument};
 use crate::words::{Fault, done, put_number, put_text};
 use feed_text::put_value;
 use rows_cells::{BinlogValue, CellFormat, ImageColumn, Width};
-use rows_events::BinlogRow;
+use rows_event_body::BinlogRow;
 use rows_jsonb::Value as JsonbValue;
 use rows_values::Column;
 use std::alloc::Global;
 use std::io::Write;
 use std::rc::RcSlice;
-use wire_consts::ColumnType;
+use wire_constants::ColumnType;
 
 /// A value of a row, or None.
 type Cell = Option<BinlogValue<'static>>;

@@ -4,12 +4,12 @@ use crate::wire_constants::narrow;
 use crate::wire_words::{len_of, name_and_argument};
 use crate::words::{Fault, bytes_of, done, put_bits, put_name, put_number, put_text, put_type};
 use feed_text::put_value;
-use rows_meta::Bits;
+use rows_table_map::Bits;
 use rows_values::{Column, Row, Value, new_row_raw};
 use std::alloc::Global;
 use std::io::Write;
 use std::rc::RcSlice;
-use wire_consts::{ColumnFlags, ColumnType};
+use wire_constants::{ColumnFlags, ColumnType};
 
 /// The numbers of a word, with `,` between them.
 fn numbers_of(alloc: Global, word: &str) -> Result<Vec<u32>, Fault> {

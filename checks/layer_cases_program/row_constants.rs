@@ -2,13 +2,13 @@
 
 use crate::wire_constants::narrow;
 use crate::words::{Fault, done, put_number, put_text};
-use rows_consts::{
+use rows_constants::{
     BINLOG_CHECKSUM_ALG_DESC_LEN, BINLOG_CHECKSUM_LEN, BinlogChecksumAlg, BinlogVersion,
     CHECKSUM_VERSION_PRODUCT, ENCODED_SID_LENGTH, EventType, GTID_HEADER_LEN,
     LOGICAL_TIMESTAMP_TYPECODE, OptionalMetadataFieldType, QUERY_HEADER_LEN, ROTATE_HEADER_LEN,
     ROWS_HEADER_LEN_V1, ROWS_HEADER_LEN_V2, SERVER_VER_LEN, TABLE_MAP_HEADER_LEN,
 };
-use rows_more_consts::{
+use rows_constants_extra::{
     BinlogRowValueOptions, Gno, IncidentType, IntvarEventType, LoadDuplicateHandling,
     TransactionPayloadFields,
 };

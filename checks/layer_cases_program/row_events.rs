@@ -5,8 +5,8 @@ use crate::words::{
     Fault, bytes_of, done, put_bits, put_bytes, put_number, put_text, put_written, small_len_of,
 };
 use rows_errors::RowsError;
-use rows_events::{RowsEvent, RowsEventType};
-use rows_meta::Bits;
+use rows_event_body::{RowsEvent, RowsEventType};
+use rows_table_map::Bits;
 use std::alloc::Global;
 use std::io::Write;
 use wire_buf::MySerialize;

@@ -5,10 +5,10 @@ use crate::tables::{event_of, map_of, parsed_map};
 use crate::wire_words::len_of;
 use crate::words::{Fault, bytes_of, done, put_bytes, put_number, put_rest, put_text, put_type};
 use rows_cells::{CellRef, RowPart};
-use rows_events::{
+use rows_event_body::{
     BinlogRow, BinlogRowCtx, ColumnPlan, EventColumns, ImageColumns, RowImage, RowsEvent,
 };
-use rows_meta::{Bits, TableMapEvent};
+use rows_table_map::{Bits, TableMapEvent};
 use rows_values::Column;
 use std::alloc::Global;
 use std::io::Write;

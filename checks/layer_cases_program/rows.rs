@@ -4,9 +4,9 @@ use crate::tables::Table;
 use crate::words::{Fault, put_error};
 use feed_text::{TextBuffer, put_cell, put_cell_ref};
 use rows_errors::RowsError;
-use rows_events::{BinlogRow, BinlogRowCtx, ColumnPlan, EventColumns, RowsEvent, RowsEventRows};
+use rows_event_body::{BinlogRow, BinlogRowCtx, ColumnPlan, EventColumns, RowsEvent, RowsEventRows};
 use rows_cells::{ImageCells, ImagePlan, RowPart, RowPlan, RowsCursor};
-use rows_meta::Bits;
+use rows_table_map::Bits;
 use std::alloc::Global;
 use wire_buf::ParseBuf;
 

@@ -7,8 +7,8 @@ use crate::words::{
 };
 use feed_text::quote;
 use rows_errors::RowsError;
-use rows_events::{ColumnPlan, RowsEvent};
-use rows_meta::TableMapEvent;
+use rows_event_body::{ColumnPlan, RowsEvent};
+use rows_table_map::TableMapEvent;
 use rows_values::Column;
 use std::alloc::Global;
 use std::io::Write;

@@ -4,8 +4,8 @@ use crate::rows::put_rows;
 use crate::table_maps::{put_definitions, put_each_column, put_reach};
 use crate::words::{Fault, bytes_of};
 use rows_errors::RowsError;
-use rows_events::{ColumnPlan, RowsEvent, RowsEventCtx, RowsEventType};
-use rows_meta::TableMapEvent;
+use rows_event_body::{ColumnPlan, RowsEvent, RowsEventCtx, RowsEventType};
+use rows_table_map::TableMapEvent;
 use std::alloc::{AllocError, Global};
 use wire_buf::{ParseBuf, WireFault};
 

@@ -6,11 +6,11 @@ use crate::words::{Fault, done, put_number, put_text};
 use std::alloc::Global;
 use std::fmt::{Debug, Display};
 use std::io::Write;
-use wire_consts::{
+use wire_constants::{
     ColumnType, Constant, DEFAULT_MAX_ALLOWED_PACKET, GeometryType, MAX_PAYLOAD_LEN,
     UTF8_GENERAL_CI, UTF8MB4_GENERAL_CI,
 };
-use wire_more_forms::{Command, ItemResult};
+use wire_fields_extra::{Command, ItemResult};
 
 /// The number of a word, in a narrower type.
 pub(crate) fn narrow<N: TryFrom<i128>>(word: &str) -> Result<N, Fault>

@@ -8,12 +8,12 @@ use std::alloc::Global;
 use std::fmt::Debug;
 use std::io::Write;
 use wire_buf::{AnySize, FixedSize, MyDeserialize, MySerialize, ParseBuf, WireSize};
-use wire_consts::{ColumnFlags, ColumnType, Constant, GeometryType};
-use wire_forms::{
+use wire_constants::{ColumnFlags, ColumnType, Constant, GeometryType};
+use wire_fields::{
     BareU8Bytes, BytesRepr, FixedLengthText, IntRepr, LeU16, LeU24, RawBytes, RawConst, RawFlags,
     RawInt, Skip,
 };
-use wire_more_forms::{
+use wire_fields_extra::{
     Const, ConstBytes, ConstBytesValue, ConstU8, ConstU32, Either, ItemResult, SeqRepr, Unknown,
 };
 

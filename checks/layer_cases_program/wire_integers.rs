@@ -6,14 +6,14 @@ use std::alloc::Global;
 use std::fmt::Display;
 use std::io::Write;
 use wire_buf::{MyDeserialize, MySerialize, ParseBuf, WireFault, WireSize};
-use wire_forms::{
+use wire_fields::{
     BeI16, BeI24, BeI32, BeI40, BeI48, BeI56, BeI64, BeI128, BeU16, BeU24, BeU32, BeU40, BeU48,
     BeU56, BeU64, BeU128, BufMutExt, IntRepr, LeI16, LeI24, LeI32, LeI40, LeI48, LeI56, LeI64,
     LeI128, LeU16, LeU24, LeU32, LeU40, LeU48, LeU56, LeU64, LeU128, LenEnc, RawInt, VarLen,
     lenenc_int_len,
 };
-use wire_more_forms::laws::read_back;
-use wire_more_forms::{
+use wire_fields_extra::laws::read_back;
+use wire_fields_extra::{
     LeU32LowerHalf, LeU32UpperHalf, ReadMysqlExt, WriteMysqlExt, read_varlen_uint, varlen_uint_size,
     write_varlen_uint,
 };

@@ -5,7 +5,7 @@ use crate::words::{Fault, byte_of, bytes_of, done, put_number, put_text};
 use bytes::BytesMut;
 use std::alloc::Global;
 use std::io::Write;
-use wire_consts::DEFAULT_MAX_ALLOWED_PACKET;
+use wire_constants::DEFAULT_MAX_ALLOWED_PACKET;
 use wire_packets::{
     ChunkDecoder, ChunkInfo, PACKET_HEADER_LEN, PacketCodec, PacketCodecError, decode_pieces,
     packet_to_chunks, split_version,

@@ -6,12 +6,12 @@ use std::alloc::Global;
 use std::borrow::CowSlice;
 use std::io::Write;
 use wire_buf::{Inner, MyDeserialize, MySerialize, ParseBuf, WireSize};
-use wire_consts::ColumnType;
-use wire_forms::{
+use wire_constants::ColumnType;
+use wire_fields::{
     BeU16, BeU24, BeU32, BeU40, BeU48, BeU56, BeU64, BeU128, IntRepr, LeU16, LeU24, LeU32, LeU40,
     LeU48, LeU56, LeU64, LeU128, RawBytes, RawInt, U8Bytes,
 };
-use wire_more_forms::{RawSeq, Seq, SeqRepr, Unknown};
+use wire_fields_extra::{RawSeq, Seq, SeqRepr, Unknown};
 
 /// Appends a remark if the constant `SIZE` of a field isn't the one of its type `Size`.
 fn put_sizes<'de, V: MyDeserialize<'de>>(out: &mut Vec<u8>) -> Result<(), Fault> {

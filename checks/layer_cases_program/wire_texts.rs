@@ -7,12 +7,12 @@ use std::alloc::Global;
 use std::borrow::CowSlice;
 use std::io::Write;
 use wire_buf::{MyDeserialize, MySerialize, ParseBuf, WireFault, WireSize};
-use wire_forms::{
+use wire_fields::{
     BareU8Bytes, BareU16Bytes, BufMutExt, BytesRepr, EofBytes, FixedLengthText, LenEnc, RawBytes,
     U8Bytes, VarLen, lenenc_str_len,
 };
-use wire_more_forms::{NullBytes, ReadMysqlExt, U32Bytes, WriteMysqlExt};
-use wire_more_forms::laws::read_back_bytes;
+use wire_fields_extra::{NullBytes, ReadMysqlExt, U32Bytes, WriteMysqlExt};
+use wire_fields_extra::laws::read_back_bytes;
 
 /// What a case does with a representation.
 #[derive(Clone, Copy)]

@@ -3,13 +3,13 @@
 use events_frames::EventError;
 use feed_text::quote;
 use rows_errors::RowsError;
-use rows_meta::Bits;
+use rows_table_map::Bits;
 use rows_values::ParseDecimalError;
 use std::alloc::{AllocError, AllocFailed, Global};
 use std::borrow::CowStr;
 use std::io::{self, Write};
 use wire_buf::WireFault;
-use wire_consts::ColumnType;
+use wire_constants::ColumnType;
 
 /// Why a call has no result.
 #[derive(Clone, Copy, Debug)]

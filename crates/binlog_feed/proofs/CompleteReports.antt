@@ -1,10 +1,10 @@
 -- The transactions of a report are complete.
 use Rattle.std.proofs.Common.{ℕ, Bool, true, false, List, []}
-use Rattle.feed_rules.specs.Laws.{Each, IsCompleteAtEvent}
-use Rattle.feed_rules.specs.Rules.{good, rules, shown}
+use Rattle.feed_transactions.specs.ReportLaws.{Each, IsCompleteAtEvent}
+use Rattle.feed_transactions.specs.Rules.{good, rules, shown}
 use Rattle.binlog_feed.proofs.WholeLemmas.{all-whole}
-use Rattle.feed_events.specs.LogFormat.{has_magic_number}
-use Rattle.feed_rules.specs.Reports.{file_events, file_transactions}
+use Rattle.feed_checks.specs.LogFormat.{has_magic_number}
+use Rattle.feed_transactions.specs.Reports.{file_events, file_transactions}
 
 -- a file without its magic number shows nothing
 shown_if : (f : List ℕ → ℕ) (b : List ℕ) (is : Bool) → Each (IsCompleteAtEvent (good (rules f) (file_events b))) (elim is [ true ↦ shown (rules f) (file_events b) | false ↦ [] ])

@@ -5,7 +5,7 @@ use Rattle.std.proofs.lemmas.Bool.Decides.{leb_tells, eqb_tells}
 use Rattle.wire_buf.specs.LenencSplit.{split_number, split_lenenc}
 use Rattle.wire_buf.specs.Numbers.{IsLenenc}
 use Rattle.wire_buf.specs.Encoding.{Begins, Reads, Lacks, Alone}
-use Rattle.rows_meta.specs.TableMaps.{little_endian}
+use Rattle.rows_table_map.specs.TableMaps.{little_endian}
 use Rattle.events_gtids.specs.Gtids.{GtidBody, IsClock, IsGtid}
 use Rattle.events_gtids.specs.OptionalFields.{ReadsOptional}
 use Rattle.events_gtids.specs.Stamps.{IsStamp, top_bit}
@@ -13,10 +13,10 @@ use Rattle.events_gtids.proofs.ClockLemmas.{clock_reads, numbers_lack, other_typ
 use Rattle.events_gtids.proofs.GtidLemmas.{IsHead, Fields, FieldsRow, FieldsSettled, fields_read, gtid_reads, whole}
 use Rattle.events_gtids.proofs.OptionalLemmas.{Tail}
 use Rattle.events_gtids.proofs.AnnouncedPairLemmas.{alone_reads, twice_reads, first_lacks, second_lacks}
-use Rattle.feed_events.specs.Bodies.{gtid_in}
-use Rattle.feed_events.specs.Readers.{Reader, IsReaderOf}
-use Rattle.feed_events.proofs.BodyKindLemmas.{IsGtidHead, gtid_here, gtid_none, whole_read}
-use Rattle.feed_events.proofs.ReaderLemmas.{number_reader, lenenc_reader, text_reader, both_reader, some_is}
+use Rattle.feed_checks.specs.BodyReaders.{gtid_in}
+use Rattle.feed_checks.specs.Readers.{Reader, IsReaderOf}
+use Rattle.feed_checks.proofs.BodyKindLemmas.{IsGtidHead, gtid_here, gtid_none, whole_read}
+use Rattle.feed_checks.proofs.ReaderLemmas.{number_reader, lenenc_reader, text_reader, both_reader, some_is}
 
 -- the flags, the UUID and the number precede the optional fields
 prefix_here : (g : GtidBody) (body : List ℕ) (h : IsGtid g body []) → IsGtidHead (g.flags, (g.sid, (g.gno, h.0.suffix))) body []

@@ -2,18 +2,18 @@
 use Rattle.std.proofs.Common.{◌≡◌, ℕ, ◌+◌, List, [], ◌∷◌, ◌++◌, length, drop, Option, refl, sym, ap, subst, ◌∙◌, append_assoc}
 use Rattle.std.proofs.lemmas.List.{append_cancel_left, drop-drop}
 use Rattle.std.proofs.Math.Seq.{drop-append_seam}
-use Rattle.feed_events.specs.Events.{Event, in_force}
-use Rattle.feed_rules.specs.Checks.{fault_of}
-use Rattle.feed_events.specs.declared.verdict.Verdict.{Verdict}
-use Rattle.feed_rules.specs.Rules.{rules, up_to_fault, fault_after, shown_after, shown}
-use Rattle.feed_rules.specs.Transactions.{Transaction}
-use Rattle.feed_rules.proofs.RuleLemmas.{AreGood, fault_after-seen}
-use Rattle.feed_rules.proofs.BetweenLemmas.{AreLike, between-like, faults-like, shows-like}
-use Rattle.feed_events.specs.LogFormat.{AreEvents, EventsEnd, events, events_end, end_of, joined, remaining_bytes}
-use Rattle.feed_rules.specs.Reports.{Report, file_events, file_end, end_verdict, verdict_or}
-use Rattle.feed_events.proofs.EventLemmas.{events-law, events-seen, joined-append}
-use Rattle.feed_streams.specs.Positions.{events_before, past_at, events_from}
-use Rattle.feed_streams.proofs.RunLemmas.{good-all, shows-prefix, with_magic-transactions}
+use Rattle.feed_checks.specs.EventFields.{Event, in_force}
+use Rattle.feed_transactions.specs.Checks.{fault_of}
+use Rattle.feed_checks.specs.declared.verdict.Verdict.{Verdict}
+use Rattle.feed_transactions.specs.Rules.{rules, up_to_fault, fault_after, shown_after, shown}
+use Rattle.feed_transactions.specs.Transactions.{Transaction}
+use Rattle.feed_transactions.proofs.RuleLemmas.{AreGood, fault_after-seen}
+use Rattle.feed_transactions.proofs.BetweenLemmas.{AreLike, between-like, faults-like, shows-like}
+use Rattle.feed_checks.specs.LogFormat.{AreEvents, EventsEnd, events, events_end, end_of, joined, remaining_bytes}
+use Rattle.feed_transactions.specs.Reports.{Report, file_events, file_end, end_verdict, verdict_or}
+use Rattle.feed_checks.proofs.EventLemmas.{events-law, events-seen, joined-append}
+use Rattle.feed_replication.specs.Positions.{events_before, past_at, events_from}
+use Rattle.feed_replication.proofs.RunLemmas.{good-all, shows-prefix, with_magic-transactions}
 use Rattle.binlog_feed.specs.Rests.{IsUndamagedUpTo, HasRest}
 use Rattle.binlog_feed.proofs.RestLemmas.{IsPosition, is-position, split-at, good-of, with_magic-verdict}
 

@@ -1,8 +1,8 @@
 -- What the kinds of earlier events imply.
 use Rattle.std.proofs.Common.{◌≡◌, true, List, [], ◌∷◌, None, refl, ap, ◌∙◌}
-use Rattle.feed_events.specs.Words.{before_newest}
-use Rattle.feed_events.specs.Kinds.{Kind, Format, NextGtid, Begin, Commit, Rollback, Statement, Map, Rows, RealRotate, Ignored, Unshown, Unknown, BadBody, open_change, is_inside, is_begin, since_begin}
-use Rattle.feed_rules.specs.Laws.{IsOpen}
+use Rattle.feed_checks.specs.PastLists.{before_newest}
+use Rattle.feed_checks.specs.Kinds.{Kind, Format, NextGtid, Begin, Commit, Rollback, Statement, Map, Rows, RealRotate, Ignored, Unshown, Unknown, BadBody, open_change, is_inside, is_begin, since_begin}
+use Rattle.feed_transactions.specs.ReportLaws.{IsOpen}
 
 -- one more kind of a transaction that is open
 longer : (k : Kind) (past : List Kind) → open_change k ≡ None → since_begin (k ∷ past) ≡ k ∷ since_begin past → before_newest is_begin (k ∷ past) ≡ before_newest is_begin past → IsOpen past → IsOpen (k ∷ past)

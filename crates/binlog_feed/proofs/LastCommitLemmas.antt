@@ -5,20 +5,20 @@ use Rattle.wire_buf.specs.Encoding.{AreBytes}
 use Rattle.wire_packets.specs.Framing.{max_chunk_len, framing, next_sequence_id}
 use Rattle.wire_packets.specs.Reading.{payload_len_at, has_chunk_of, chunk_payload, after_chunk}
 use Rattle.wire_packets.specs.Packets.{payload_in, packets_in, packets}
-use Rattle.feed_events.specs.Words.{onto}
-use Rattle.feed_events.specs.Events.{Event}
-use Rattle.feed_rules.specs.Laws.{Each}
-use Rattle.feed_rules.specs.Rules.{rules, good, shown}
-use Rattle.feed_rules.specs.Transactions.{Transaction}
-use Rattle.feed_rules.specs.Reports.{file_events, file_transactions}
-use Rattle.feed_streams.specs.Words.{prefix_while}
-use Rattle.feed_streams.specs.declared.format.PayloadFormat.{PayloadFormat as Format}
-use Rattle.feed_streams.specs.declared.format.PayloadFormat.TheVariants.{Plain, SemiSync}
-use Rattle.feed_streams.specs.Streams.{holds_event, event_in, event_payloads, stream_events, stream_transactions}
-use Rattle.feed_streams.specs.declared.step.Step.{Step}
-use Rattle.feed_streams.specs.Headline.{IsFollowable}
-use Rattle.feed_streams.specs.Runs.{run}
-use Rattle.feed_streams.proofs.RunLemmas.{with_magic-transactions, once}
+use Rattle.feed_checks.specs.PastLists.{onto}
+use Rattle.feed_checks.specs.EventFields.{Event}
+use Rattle.feed_transactions.specs.ReportLaws.{Each}
+use Rattle.feed_transactions.specs.Rules.{rules, good, shown}
+use Rattle.feed_transactions.specs.Transactions.{Transaction}
+use Rattle.feed_transactions.specs.Reports.{file_events, file_transactions}
+use Rattle.feed_replication.specs.PrefixLists.{prefix_while}
+use Rattle.feed_replication.specs.declared.format.PayloadFormat.{PayloadFormat as Format}
+use Rattle.feed_replication.specs.declared.format.PayloadFormat.TheVariants.{Plain, SemiSync}
+use Rattle.feed_replication.specs.Streams.{holds_event, event_in, event_payloads, stream_events, stream_transactions}
+use Rattle.feed_replication.specs.declared.step.Step.{Step}
+use Rattle.feed_replication.specs.Headline.{IsFollowable}
+use Rattle.feed_replication.specs.Runs.{run}
+use Rattle.feed_replication.proofs.RunLemmas.{with_magic-transactions, once}
 use Rattle.binlog_feed.specs.Lines.{HasLines}
 use Rattle.binlog_feed.specs.LastCommits.{EndsWithLastCommit}
 use Rattle.binlog_feed.proofs.FeedLemmas.{shown-has}

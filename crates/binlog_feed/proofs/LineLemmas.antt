@@ -10,14 +10,14 @@ use Rattle.rows_jsonb.specs.Items.{Walked, Finds, items_at}
 use Rattle.rows_errors.specs.Readings.{Reading, ◌>>=◌}
 use Rattle.rows_jsonb.proofs.ItemLemmas.{walk_done, walk_on, items-found}
 use Rattle.rows_errors.specs.declared.fault.RowsError.{RowsError}
-use Rattle.rows_meta.specs.TableMaps.{TableMap}
-use Rattle.rows_events.specs.EventShapes.{event_rows, event_shapes, row_read}
-use Rattle.rows_events.specs.RowsEvents.{RowsBody}
-use Rattle.feed_events.specs.declared.verdict.Verdict.{Verdict}
-use Rattle.feed_rules.specs.Rows.{Row, change_of, image_texts, row_texts, value_or_none, walked_texts, texts_of_rows, rows_by, rows_result, rows_in, fault_in, plan_by}
-use Rattle.feed_events.specs.Kinds.{Kind, Rows, newest_map}
-use Rattle.feed_rules.specs.Transactions.{Changed, lines_at}
-use Rattle.binlog_feed.specs.EventRows.{AreRowsOf}
+use Rattle.rows_table_map.specs.TableMaps.{TableMap}
+use Rattle.rows_event_body.specs.EventShapes.{event_rows, event_shapes, row_read}
+use Rattle.rows_event_body.specs.RowsEvents.{RowsBody}
+use Rattle.feed_checks.specs.declared.verdict.Verdict.{Verdict}
+use Rattle.feed_transactions.specs.MappedRows.{Row, change_of, image_texts, row_texts, value_or_none, walked_texts, texts_of_rows, rows_by, rows_result, rows_in, fault_in, plan_by}
+use Rattle.feed_checks.specs.Kinds.{Kind, Rows, newest_map}
+use Rattle.feed_transactions.specs.Transactions.{Changed, lines_at}
+use Rattle.binlog_feed.specs.RowsByMap.{AreRowsOf}
 
 not_empty : (n : ℕ) → 0 < n → (n == 0) ≡ false
 not_empty n h = search (arith, h)

@@ -3,9 +3,9 @@ use Rattle.std.proofs.Common.{◌≡◌, ℕ, Bool, true, false, inl, inr, List,
 use Rattle.std.specs.Prelude.{is_some}
 use Rattle.std.specs.List.{list_any}
 use Rattle.std.proofs.lemmas.Bool.{cases_Bool, eqb-true}
-use Rattle.rows_meta.specs.TableMaps.{TableMap}
-use Rattle.feed_events.specs.Words.{when}
-use Rattle.feed_events.specs.Kinds.{Gtid, Kind, Format, NextGtid, Begin, Commit, Rollback, Statement, Map, Rows, RealRotate, Ignored, Unshown, Unknown, BadBody, is_inside, waiting, is_waiting, since_begin, newest_map}
+use Rattle.rows_table_map.specs.TableMaps.{TableMap}
+use Rattle.feed_checks.specs.PastLists.{when}
+use Rattle.feed_checks.specs.Kinds.{Gtid, Kind, Format, NextGtid, Begin, Commit, Rollback, Statement, Map, Rows, RealRotate, Ignored, Unshown, Unknown, BadBody, is_inside, waiting, is_waiting, since_begin, newest_map}
 use Rattle.binlog_feed.specs.LookingBack.{HasNewest, IsAnyGtid, IsMap, ends_transaction, takes_gtid, replaces_gtid, replaces_map}
 
 -- this element

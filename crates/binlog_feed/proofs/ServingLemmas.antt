@@ -8,30 +8,30 @@ use Rattle.wire_packets.specs.Framing.{framings}
 use Rattle.wire_packets.specs.Packets.{packets}
 use Rattle.wire_packets.proofs.PacketLemmas.{framings_read}
 use Rattle.events_frames.specs.Events.{IsWholeEvent}
-use Rattle.feed_events.specs.declared.verdict.Verdict.{Verdict}
-use Rattle.feed_events.specs.declared.verdict.Verdict.TheVariants as verdicts
-use Rattle.feed_events.specs.Words.{first, onto}
-use Rattle.feed_events.specs.Events.{Event, in_force}
-use Rattle.feed_events.specs.Kinds.{kind_of, kinds}
-use Rattle.feed_events.specs.Damage.{body_fault, outer_fault, is_body_checked, damage_of}
-use Rattle.feed_rules.specs.Checks.{context_fault, rows_fault, inner_fault, fault_of}
-use Rattle.feed_rules.specs.Laws.{Each}
-use Rattle.feed_rules.specs.Rules.{Rules, Judge, rules, up_to_fault, fault_after, shown_after, shown, first_fault}
-use Rattle.feed_rules.specs.Transactions.{Transaction}
-use Rattle.feed_events.specs.LogFormat.{AreEvents, EventsEnd, NoBytes, BadFrame, PartOfEvent, magic_number, has_magic_number}
-use Rattle.feed_rules.specs.Reports.{Report, file_events, file_end, end_verdict, verdict_or, file_transactions, file_verdict}
-use Rattle.feed_events.proofs.EventLemmas.{events-law}
-use Rattle.feed_streams.specs.Words.{prefix_while, from_first_failing}
-use Rattle.feed_streams.specs.declared.format.PayloadFormat.{PayloadFormat as Format}
-use Rattle.feed_streams.specs.declared.format.PayloadFormat.TheVariants.{Plain, SemiSync}
-use Rattle.feed_streams.specs.Streams.{holds_event, event_in, payload_of, event_payloads, events_of, verdict_of_other, stream_events, stream_transactions, stream_verdict}
-use Rattle.feed_streams.proofs.StreamLemmas.{payload-holds, event-back}
-use Rattle.feed_streams.specs.declared.served.Served.TheVariants.{Fault}
-use Rattle.feed_streams.specs.Serving.{Answer, broken_end, closing_payload, closed_by, outcome_of, fits, fitting_payloads, sent_events, damage_from, answer, answer_bytes}
-use Rattle.feed_streams.specs.SendingSteps.{sent_of_rest}
-use Rattle.feed_streams.specs.ServerLaws.{ServesTheFile, StopsAtDamage}
-use Rattle.feed_streams.proofs.ServedAnswerLemmas.{fit, led-none}
-use Rattle.feed_streams.proofs.SeekLemmas.{events_within-zero, file-with_magic, answer-arrived}
+use Rattle.feed_checks.specs.declared.verdict.Verdict.{Verdict}
+use Rattle.feed_checks.specs.declared.verdict.Verdict.TheVariants as verdicts
+use Rattle.feed_checks.specs.PastLists.{first, onto}
+use Rattle.feed_checks.specs.EventFields.{Event, in_force}
+use Rattle.feed_checks.specs.Kinds.{kind_of, kinds}
+use Rattle.feed_checks.specs.Damage.{body_fault, outer_fault, is_body_checked, damage_of}
+use Rattle.feed_transactions.specs.Checks.{context_fault, rows_fault, inner_fault, fault_of}
+use Rattle.feed_transactions.specs.ReportLaws.{Each}
+use Rattle.feed_transactions.specs.Rules.{Rules, Judge, rules, up_to_fault, fault_after, shown_after, shown, first_fault}
+use Rattle.feed_transactions.specs.Transactions.{Transaction}
+use Rattle.feed_checks.specs.LogFormat.{AreEvents, EventsEnd, NoBytes, BadFrame, PartOfEvent, magic_number, has_magic_number}
+use Rattle.feed_transactions.specs.Reports.{Report, file_events, file_end, end_verdict, verdict_or, file_transactions, file_verdict}
+use Rattle.feed_checks.proofs.EventLemmas.{events-law}
+use Rattle.feed_replication.specs.PrefixLists.{prefix_while, from_first_failing}
+use Rattle.feed_replication.specs.declared.format.PayloadFormat.{PayloadFormat as Format}
+use Rattle.feed_replication.specs.declared.format.PayloadFormat.TheVariants.{Plain, SemiSync}
+use Rattle.feed_replication.specs.Streams.{holds_event, event_in, payload_of, event_payloads, events_of, verdict_of_other, stream_events, stream_transactions, stream_verdict}
+use Rattle.feed_replication.proofs.StreamLemmas.{payload-holds, event-back}
+use Rattle.feed_replication.specs.declared.served.Served.TheVariants.{Fault}
+use Rattle.feed_replication.specs.Serving.{Answer, broken_end, closing_payload, closed_by, outcome_of, fits, fitting_payloads, sent_events, damage_from, answer, answer_bytes}
+use Rattle.feed_replication.specs.SendingSteps.{sent_of_rest}
+use Rattle.feed_replication.specs.ServerLaws.{ServesTheFile, StopsAtDamage}
+use Rattle.feed_replication.proofs.ServedAnswerLemmas.{fit, led-none}
+use Rattle.feed_replication.proofs.SeekLemmas.{events_within-zero, file-with_magic, answer-arrived}
 
 -- ---- payloads within the limit
 

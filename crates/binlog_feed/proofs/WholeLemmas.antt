@@ -2,18 +2,18 @@
 use Rattle.std.proofs.Common.{◌≡◌, ℕ, Bool, true, false, not, List, [], ◌∷◌, ◌++◌, Option, Some, None, refl, ap, inl, inr}
 use Rattle.std.specs.Prelude.{nat_eq, codes}
 use Rattle.std.specs.List.{starts_with}
-use Rattle.feed_events.specs.declared.verdict.Verdict.{Verdict}
-use Rattle.feed_events.specs.declared.verdict.Verdict.TheVariants as verdicts
-use Rattle.feed_events.specs.Words.{first, when}
-use Rattle.feed_events.specs.Events.{Event, log_pos_of, in_force}
-use Rattle.feed_rules.specs.Rows.{Change, Insert, Update, Delete}
-use Rattle.feed_events.specs.Kinds.{Kind, Format, NextGtid, Begin, Commit, Rollback, Statement, Map, Rows, RealRotate, Ignored, Unshown, Unknown, BadBody, is_inside, waiting, kinds, kind_of}
-use Rattle.feed_events.specs.Damage.{outer_fault}
-use Rattle.feed_rules.specs.Checks.{inner_fault, fault_of}
-use Rattle.feed_rules.specs.Transactions.{Transaction, Line, Changed, Stated, committed, kind_shows, shown_by, lines_of}
-use Rattle.feed_rules.specs.Rules.{up_to_fault, shown_after, rules}
-use Rattle.feed_rules.specs.Texts.{with_line_feed, change_word, names_text, images_text, line_text}
-use Rattle.feed_rules.specs.Laws.{IsCommitted, IsCompleteTransaction, IsCompleteAtEvent, in_log_order, Each}
+use Rattle.feed_checks.specs.declared.verdict.Verdict.{Verdict}
+use Rattle.feed_checks.specs.declared.verdict.Verdict.TheVariants as verdicts
+use Rattle.feed_checks.specs.PastLists.{first, when}
+use Rattle.feed_checks.specs.EventFields.{Event, log_pos_of, in_force}
+use Rattle.feed_transactions.specs.MappedRows.{Change, Insert, Update, Delete}
+use Rattle.feed_checks.specs.Kinds.{Kind, Format, NextGtid, Begin, Commit, Rollback, Statement, Map, Rows, RealRotate, Ignored, Unshown, Unknown, BadBody, is_inside, waiting, kinds, kind_of}
+use Rattle.feed_checks.specs.Damage.{outer_fault}
+use Rattle.feed_transactions.specs.Checks.{inner_fault, fault_of}
+use Rattle.feed_transactions.specs.Transactions.{Transaction, Line, Changed, Stated, committed, kind_shows, shown_by, lines_of}
+use Rattle.feed_transactions.specs.Rules.{up_to_fault, shown_after, rules}
+use Rattle.feed_transactions.specs.TransactionTexts.{with_line_feed, change_word, names_text, images_text, line_text}
+use Rattle.feed_transactions.specs.ReportLaws.{IsCommitted, IsCompleteTransaction, IsCompleteAtEvent, in_log_order, Each}
 use Rattle.binlog_feed.proofs.KindLemmas.{inside-open}
 
 -- an event that passes all checks passes those of its kind

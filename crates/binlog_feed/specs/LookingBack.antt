@@ -1,8 +1,8 @@
 -- What earlier events imply, said of the newest event that counts.
 use Rattle.std.specs.Prelude.{◌≡◌, ℕ, Bool, true, false, List, ◌∷◌, ◌++◌, ◌==◌}
 use Rattle.std.specs.List.{list_any}
-use Rattle.rows_meta.specs.TableMaps.{TableMap}
-use Rattle.feed_events.specs.Kinds.{Kind, Format, NextGtid, Begin, Commit, Rollback, Statement, Map, Gtid}
+use Rattle.rows_table_map.specs.TableMaps.{TableMap}
+use Rattle.feed_checks.specs.Kinds.{Kind, Format, NextGtid, Begin, Commit, Rollback, Statement, Map, Gtid}
 
 -- some element has the property, and none after it passes the test; the newest comes first
 pub record HasNewest {A : Type 0} (has : A → Type 0) (test : A → Bool) (past : List A) : Type 0 where

@@ -1,9 +1,9 @@
 -- The rest of a log's report, from a position between transactions on.
 use Rattle.std.specs.Prelude.{◌≡◌, ℕ, true, List, [], ◌++◌, None}
-use Rattle.feed_rules.specs.Rules.{Rules, fault_after, shown}
-use Rattle.feed_events.specs.LogFormat.{has_magic_number}
-use Rattle.feed_rules.specs.Reports.{Report, file_transactions, file_verdict}
-use Rattle.feed_streams.specs.Positions.{events_before, is_between_transactions}
+use Rattle.feed_transactions.specs.Rules.{Rules, fault_after, shown}
+use Rattle.feed_checks.specs.LogFormat.{has_magic_number}
+use Rattle.feed_transactions.specs.Reports.{Report, file_transactions, file_verdict}
+use Rattle.feed_replication.specs.Positions.{events_before, is_between_transactions}
 
 -- the position is between transactions of a log, and no event before it is a fault
 pub record IsUndamagedUpTo (r : Rules) (b : List ℕ) (position : ℕ) : Type 0 where

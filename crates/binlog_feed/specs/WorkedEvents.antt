@@ -1,10 +1,10 @@
 -- Worked examples: small logs, and what their events show. An event is written as its type, its position (that after it in the log), and its body.
 use Rattle.std.specs.Prelude.{ℕ, ◌+◌, List, [], ◌∷◌, ◌++◌, length, drop, replicate, codes, Option}
 use Rattle.std.specs.Int.{w32, to_le_bytes}
-use Rattle.feed_events.specs.declared.verdict.Verdict.{Verdict}
-use Rattle.feed_events.specs.Events.{Event, type_of}
-use Rattle.feed_rules.specs.Rules.{rules, shown, first_fault}
-use Rattle.feed_rules.specs.Texts.{with_line_feed, text_of}
+use Rattle.feed_checks.specs.declared.verdict.Verdict.{Verdict}
+use Rattle.feed_checks.specs.EventFields.{Event, type_of}
+use Rattle.feed_transactions.specs.Rules.{rules, shown, first_fault}
+use Rattle.feed_transactions.specs.TransactionTexts.{with_line_feed, text_of}
 
 -- the text that events show, and their first fault
 pub record Shown : Type 0 where

@@ -1,11 +1,11 @@
 -- Worked reports: small files, and what is printed of each.
 use Rattle.std.specs.Prelude.{ℕ, List, [], ◌∷◌, ◌++◌, take}
-use Rattle.feed_events.specs.declared.verdict.Verdict.{Verdict}
-use Rattle.feed_events.specs.Events.{Event}
-use Rattle.feed_rules.specs.Rules.{rules}
+use Rattle.feed_checks.specs.declared.verdict.Verdict.{Verdict}
+use Rattle.feed_checks.specs.EventFields.{Event}
+use Rattle.feed_transactions.specs.Rules.{rules}
 use Rattle.binlog_feed.specs.WorkedEvents.{begin_event, map_event, write_event, with_checksum, zeros, checksummed_with, one_insert_events}
-use Rattle.feed_events.specs.LogFormat.{magic_number, joined}
-use Rattle.feed_rules.specs.Reports.{Printed, printed, file_report}
+use Rattle.feed_checks.specs.LogFormat.{magic_number, joined}
+use Rattle.feed_transactions.specs.Reports.{Printed, printed, file_report}
 
 -- what is printed of a file, with a checksum function that always returns 0
 abbrev pub printed_of : List ℕ → Printed

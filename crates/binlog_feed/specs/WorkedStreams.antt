@@ -1,14 +1,14 @@
 -- Worked streams: a server's packets, what a follower prints of them, and the request for them.
 use Rattle.std.specs.Prelude.{ℕ, ◌+◌, List, [], ◌∷◌, ◌++◌, length, take, codes}
-use Rattle.feed_events.specs.declared.verdict.Verdict.{Verdict}
-use Rattle.feed_events.specs.Events.{Event}
-use Rattle.feed_rules.specs.Rules.{rules}
+use Rattle.feed_checks.specs.declared.verdict.Verdict.{Verdict}
+use Rattle.feed_checks.specs.EventFields.{Event}
+use Rattle.feed_transactions.specs.Rules.{rules}
 use Rattle.binlog_feed.specs.WorkedEvents.{zeros, begin_event, map_event, write_event, commit_event, one_insert_events, with_checksum, checksummed_with}
-use Rattle.feed_rules.specs.Reports.{Printed, printed}
-use Rattle.feed_streams.specs.declared.format.PayloadFormat.{PayloadFormat as Format}
-use Rattle.feed_streams.specs.declared.format.PayloadFormat.TheVariants.{Plain, SemiSync}
-use Rattle.feed_streams.specs.Streams.{payload_of, stream_report, program_limit}
-use Rattle.feed_streams.specs.Acknowledgements.{acknowledgements}
+use Rattle.feed_transactions.specs.Reports.{Printed, printed}
+use Rattle.feed_replication.specs.declared.format.PayloadFormat.{PayloadFormat as Format}
+use Rattle.feed_replication.specs.declared.format.PayloadFormat.TheVariants.{Plain, SemiSync}
+use Rattle.feed_replication.specs.Streams.{payload_of, stream_report, program_limit}
+use Rattle.feed_replication.specs.Acknowledgements.{acknowledgements}
 
 -- what a stream prints, by the feed's rules with a checksum function that always returns 0
 abbrev pub stream_prints : Format → ℕ → List ℕ → Printed

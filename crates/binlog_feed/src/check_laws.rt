@@ -5,7 +5,7 @@ ghost use Rattle.events_frames.specs.Events.{header_size_field};
 ghost use Rattle.events_frames.specs.EventParts.{Parts, IsEvent, Describes, min_content_after};
 ghost use Rattle.events_frames.specs.Descriptions.{Description};
 ghost use Rattle.events_frames.specs.Footers.{ChecksumSettings};
-ghost use Rattle.feed_events.specs.Events.{Event, header_of, content, parts, description_by};
+ghost use Rattle.feed_checks.specs.EventFields.{Event, header_of, content, parts, description_by};
 
 /// The computed parts of an event are those that its format states. Bytes are an event if they are as long as their header says
 /// and long enough for their fields.

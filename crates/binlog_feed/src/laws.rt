@@ -4,34 +4,34 @@
 ghost use Rattle.std.specs.Prelude.{◌≡◌, ◌↔◌, ◌⊎◌, ℕ, List, [], drop, Some, None, true, length, false, codes, nat_eq, ◌++◌, ◌<◌, ◌/◌, ◌^◌, Option};
 ghost use Rattle.events_frames.specs.Descriptions.{Description, IsDescription};
 ghost use Rattle.events_gtids.specs.Gtids.{GtidBody, IsGtid};
-ghost use Rattle.rows_events.specs.EventShapes.{event_rows};
-ghost use Rattle.rows_events.specs.RowsEvents.{RowsBody};
-ghost use Rattle.rows_meta.specs.TableMaps.{TableMap};
-ghost use Rattle.feed_events.specs.Bodies.{gtid_in, is_description_body};
-ghost use Rattle.feed_rules.specs.Rows.{plan_by, rows_result, rows_in, fault_in};
-ghost use Rattle.feed_events.specs.Kinds.{Kind, Rows, Begin, NextGtid, kinds, newest_map, since_begin, is_inside, is_waiting, waiting, Gtid};
-ghost use Rattle.feed_rules.specs.Transactions.{lines_at, Line, Transaction};
-ghost use Rattle.binlog_feed.specs.EventRows.{AreRowsOf};
+ghost use Rattle.rows_event_body.specs.EventShapes.{event_rows};
+ghost use Rattle.rows_event_body.specs.RowsEvents.{RowsBody};
+ghost use Rattle.rows_table_map.specs.TableMaps.{TableMap};
+ghost use Rattle.feed_checks.specs.BodyReaders.{gtid_in, is_description_body};
+ghost use Rattle.feed_transactions.specs.MappedRows.{plan_by, rows_result, rows_in, fault_in};
+ghost use Rattle.feed_checks.specs.Kinds.{Kind, Rows, Begin, NextGtid, kinds, newest_map, since_begin, is_inside, is_waiting, waiting, Gtid};
+ghost use Rattle.feed_transactions.specs.Transactions.{lines_at, Line, Transaction};
+ghost use Rattle.binlog_feed.specs.RowsByMap.{AreRowsOf};
 ghost use Rattle.std.specs.List.{starts_with};
-ghost use Rattle.feed_events.specs.Events.{Event, in_force};
-ghost use Rattle.feed_rules.specs.Rules.{rules, good, shown, Rules};
-ghost use Rattle.feed_rules.specs.Texts.{line_text, begin_line, commit_line};
-ghost use Rattle.feed_rules.specs.Laws.{IsOpen, IsBetween, IsCompleteAtEvent, Each};
-ghost use Rattle.feed_events.specs.LogFormat.{events};
-ghost use Rattle.feed_rules.specs.Reports.{Report, file_events, file_transactions};
-ghost use Rattle.feed_events.specs.declared.verdict.Verdict.{Verdict};
-ghost use Rattle.feed_streams.specs.Requests.{dump_request};
-ghost use Rattle.feed_streams.specs.declared.format.PayloadFormat.{PayloadFormat as Format};
-ghost use Rattle.feed_streams.specs.Positions.{past_at, is_between_transactions};
-ghost use Rattle.feed_streams.specs.Serving.{answer};
-ghost use Rattle.feed_streams.specs.RequestedPackets.{served};
-ghost use Rattle.feed_streams.specs.ServerLaws.{ServesTheFile, StopsAtDamage, IsOfTheFile};
+ghost use Rattle.feed_checks.specs.EventFields.{Event, in_force};
+ghost use Rattle.feed_transactions.specs.Rules.{rules, good, shown, Rules};
+ghost use Rattle.feed_transactions.specs.TransactionTexts.{line_text, begin_line, commit_line};
+ghost use Rattle.feed_transactions.specs.ReportLaws.{IsOpen, IsBetween, IsCompleteAtEvent, Each};
+ghost use Rattle.feed_checks.specs.LogFormat.{events};
+ghost use Rattle.feed_transactions.specs.Reports.{Report, file_events, file_transactions};
+ghost use Rattle.feed_checks.specs.declared.verdict.Verdict.{Verdict};
+ghost use Rattle.feed_replication.specs.Requests.{dump_request};
+ghost use Rattle.feed_replication.specs.declared.format.PayloadFormat.{PayloadFormat as Format};
+ghost use Rattle.feed_replication.specs.Positions.{past_at, is_between_transactions};
+ghost use Rattle.feed_replication.specs.Serving.{answer};
+ghost use Rattle.feed_replication.specs.RequestedPackets.{served};
+ghost use Rattle.feed_replication.specs.ServerLaws.{ServesTheFile, StopsAtDamage, IsOfTheFile};
 ghost use Rattle.wire_buf.specs.Encoding.{AreBytes};
-ghost use Rattle.feed_streams.specs.Streams.{stream_transactions};
-ghost use Rattle.feed_streams.specs.declared.step.Step.{Step};
-ghost use Rattle.feed_streams.specs.Headline.{IsFollowable};
-ghost use Rattle.feed_streams.specs.AnswerLaws.{GivesTheRest};
-ghost use Rattle.feed_streams.specs.Runs.{run};
+ghost use Rattle.feed_replication.specs.Streams.{stream_transactions};
+ghost use Rattle.feed_replication.specs.declared.step.Step.{Step};
+ghost use Rattle.feed_replication.specs.Headline.{IsFollowable};
+ghost use Rattle.feed_replication.specs.AnswerLaws.{GivesTheRest};
+ghost use Rattle.feed_replication.specs.Runs.{run};
 ghost use Rattle.binlog_feed.specs.LastCommits.{EndsWithLastCommit};
 ghost use Rattle.binlog_feed.specs.Lines.{IsLine, HasLines};
 ghost use Rattle.binlog_feed.specs.LookingBack.{HasNewest, IsAnyGtid, IsMap, ends_transaction, takes_gtid, replaces_gtid, replaces_map};
@@ -51,15 +51,15 @@ pub use crate::worked_serving::{worked_damage, worked_dumps, worked_positions};
 pub use crate::worked_streams::{
     worked_acknowledgements, worked_answers, worked_ends, worked_requests,
 };
-pub use feed_kept::laws::commit_lines_are_read;
-pub use feed_kept::worked::worked_kept;
-pub use feed_rules::laws::{
-    first_events_show_the_first_transactions, plans_are_those_of_maps,
-    what_came_before_does_not_matter,
-};
+pub use feed_resume::laws::commit_lines_are_read;
+pub use feed_resume::worked::worked_kept;
 pub use feed_text::laws::{
     equal_quotes_are_of_equal_bytes, values_have_the_texts_of_cells,
     values_of_cells_have_their_texts, worked_quote, worked_times,
+};
+pub use feed_transactions::laws::{
+    first_events_show_the_first_transactions, plans_are_those_of_maps,
+    what_came_before_does_not_matter,
 };
 
 /// `gtid_in` reads a body exactly if it is in a GTID event's format, with the UUID and the number that the format states.

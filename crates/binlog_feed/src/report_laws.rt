@@ -1,8 +1,8 @@
 //! Laws of reports, each stated as the contract of a function that does nothing.
 
 ghost use Rattle.std.specs.Prelude.{◌≡◌, List, ℕ, ◌++◌};
-ghost use Rattle.feed_events.specs.Events.{Event};
-ghost use Rattle.feed_events.specs.LogFormat.{AreEvents, events, joined, remaining_bytes};
+ghost use Rattle.feed_checks.specs.EventFields.{Event};
+ghost use Rattle.feed_checks.specs.LogFormat.{AreEvents, events, joined, remaining_bytes};
 /// `events` returns the longest list of whole events that the bytes begin with: each is whole, they and the rest are the bytes,
 /// and whole events at the start of the bytes are the first of the list.
 pub fn events_are_longest()

@@ -2,13 +2,13 @@
 
 ghost use Rattle.std.specs.Prelude.{◌≡◌, ◌↔◌, ◌+◌, ◌*◌, ◌/◌, ℕ, List, ◌∷◌, Some, Result, length};
 ghost use Rattle.wire_packets.specs.Framing.{max_chunk_len, framing};
-ghost use Rattle.feed_events.specs.Events.{Event};
-ghost use Rattle.feed_streams.specs.declared.format.PayloadFormat.TheVariants.{Plain, SemiSync};
-ghost use Rattle.feed_streams.specs.Streams.{payload_of};
-ghost use Rattle.feed_streams.specs.RequestedPackets.{payload_of_packet, requested};
-ghost use Rattle.feed_streams.specs.RequestFields.{IsRequested};
-ghost use Rattle.feed_streams.specs.declared.served.Refusal.{Refusal};
-ghost use Rattle.feed_streams.specs.Serving.{closing_payload};
+ghost use Rattle.feed_checks.specs.EventFields.{Event};
+ghost use Rattle.feed_replication.specs.declared.format.PayloadFormat.TheVariants.{Plain, SemiSync};
+ghost use Rattle.feed_replication.specs.Streams.{payload_of};
+ghost use Rattle.feed_replication.specs.RequestedPackets.{payload_of_packet, requested};
+ghost use Rattle.feed_replication.specs.RequestFields.{IsRequested};
+ghost use Rattle.feed_replication.specs.declared.served.Refusal.{Refusal};
+ghost use Rattle.feed_replication.specs.Serving.{closing_payload};
 
 /// The payload of an event of n bytes has n + 1 bytes if plain, a zero byte and its own, and n + 3 if semi-synchronous. Its
 /// packet has 4 more bytes for the header of each chunk. The closing packet has 9 bytes.

@@ -2,9 +2,9 @@
 
 ghost use Rattle.std.specs.Prelude.{◌≡◌, true};
 ghost use Rattle.events_frames.specs.Events.{IsWholeEvent};
-ghost use Rattle.feed_events.specs.Events.{Event};
-ghost use Rattle.feed_streams.specs.declared.format.PayloadFormat.{PayloadFormat as Format};
-ghost use Rattle.feed_streams.specs.Streams.{holds_event, event_in, payload_of};
+ghost use Rattle.feed_checks.specs.EventFields.{Event};
+ghost use Rattle.feed_replication.specs.declared.format.PayloadFormat.{PayloadFormat as Format};
+ghost use Rattle.feed_replication.specs.Streams.{holds_event, event_in, payload_of};
 
 /// The payload made of a whole event holds an event, and it is that one.
 pub fn payloads_are_of_their_events()

@@ -1,9 +1,9 @@
 //! Worked examples, computed from the definitions: small files, the text that is printed of each, and its verdict.
 
 ghost use Rattle.std.specs.Prelude.{◌≡◌, [], ◌∷◌, ◌++◌, codes};
-ghost use Rattle.feed_events.specs.declared.verdict.Verdict.TheVariants as v;
+ghost use Rattle.feed_checks.specs.declared.verdict.Verdict.TheVariants as v;
 ghost use Rattle.binlog_feed.specs.WorkedEvents.{write_event, commit_event, one_insert_events, insert_text, one_insert_text};
-ghost use Rattle.feed_events.specs.LogFormat.{magic_number};
+ghost use Rattle.feed_checks.specs.LogFormat.{magic_number};
 ghost use Rattle.binlog_feed.specs.WorkedReports.{printed_of, prints, file_of, without_commit, without_last_byte, checksummed_file, broken_header};
 
 /// Complete files, and files that end early or are damaged.

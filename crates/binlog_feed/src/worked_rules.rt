@@ -1,7 +1,7 @@
 //! Worked examples, computed from the definitions: lists of events, the text that they show and their first fault.
 
 ghost use Rattle.std.specs.Prelude.{◌≡◌, [], ◌∷◌, ◌++◌, codes, Some, None};
-ghost use Rattle.feed_events.specs.declared.verdict.Verdict.TheVariants as v;
+ghost use Rattle.feed_checks.specs.declared.verdict.Verdict.TheVariants as v;
 ghost use Rattle.binlog_feed.specs.WorkedEvents.{shown_of, shows, zeros, flagged_event, event, query_event, begin_event, map_of_types, map_event, rows_event, write_event, write_event_of_table_8, xid_event, commit_event, gtid_event, description_event, with_checksum, broken_map, checksummed_with, one_insert_events, transaction, insert_text, one_insert_text};
 
 /// Transactions of rows.

@@ -1,15 +1,15 @@
 //! Worked examples, computed from the definitions: what is sent of small files, and the results of requests.
 
 ghost use Rattle.std.specs.Prelude.{◌≡◌, [], ◌∷◌, ◌++◌, codes, take, drop};
-ghost use Rattle.feed_events.specs.declared.verdict.Verdict.TheVariants as v;
+ghost use Rattle.feed_checks.specs.declared.verdict.Verdict.TheVariants as v;
 ghost use Rattle.binlog_feed.specs.WorkedEvents.{description_event};
 ghost use Rattle.binlog_feed.specs.WorkedReports.{without_last_byte, broken_header};
 ghost use Rattle.binlog_feed.specs.WorkedEvents.{one_insert_events};
-ghost use Rattle.feed_streams.specs.declared.format.PayloadFormat.TheVariants.{Plain, SemiSync};
+ghost use Rattle.feed_replication.specs.declared.format.PayloadFormat.TheVariants.{Plain, SemiSync};
 ghost use Rattle.binlog_feed.specs.WorkedStreams.{packets_from, closing_packet, whole_answer, semi_synchronous_answer};
-ghost use Rattle.feed_streams.specs.Streams.{program_limit};
-ghost use Rattle.feed_streams.specs.declared.served.Refusal.TheVariants as errors;
-ghost use Rattle.feed_streams.specs.declared.served.Served.TheVariants.{Whole, Refused, Fault};
+ghost use Rattle.feed_replication.specs.Streams.{program_limit};
+ghost use Rattle.feed_replication.specs.declared.served.Refusal.TheVariants as errors;
+ghost use Rattle.feed_replication.specs.declared.served.Served.TheVariants.{Whole, Refused, Fault};
 ghost use Rattle.binlog_feed.specs.WorkedServing.{serves_within, serves_from, sends, one_insert_file, checksummed_events, checksummed_file, damaged_file, sound_events, worked_dump, answers};
 
 /// Answers from a position on.

@@ -1,11 +1,11 @@
 //! Worked examples, computed from the definitions: streams, the text that they show and their verdict, and a request.
 
 ghost use Rattle.std.specs.Prelude.{◌≡◌, [], ◌∷◌, ◌++◌, codes};
-ghost use Rattle.feed_events.specs.declared.verdict.Verdict.TheVariants as v;
+ghost use Rattle.feed_checks.specs.declared.verdict.Verdict.TheVariants as v;
 ghost use Rattle.binlog_feed.specs.WorkedEvents.{insert_text, one_insert_text};
-ghost use Rattle.feed_streams.specs.Requests.{dump_request};
-ghost use Rattle.feed_streams.specs.declared.format.PayloadFormat.TheVariants.{Plain, SemiSync};
-ghost use Rattle.feed_streams.specs.Streams.{program_limit};
+ghost use Rattle.feed_replication.specs.Requests.{dump_request};
+ghost use Rattle.feed_replication.specs.declared.format.PayloadFormat.TheVariants.{Plain, SemiSync};
+ghost use Rattle.feed_replication.specs.Streams.{program_limit};
 ghost use Rattle.binlog_feed.specs.WorkedStreams.{stream_prints, prints, open_answer, whole_answer, checksummed_answer, semi_synchronous_answer, closing_packet, misnumbered_answer, truncated_misnumbered, empty_payload, long_closing_payload, short_event_payload, error_packet, worked_request, flagged_answer, misnumbered_flagged_answer, ack_of, asks_for};
 
 /// Answers of a server.

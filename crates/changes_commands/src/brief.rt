@@ -2,12 +2,12 @@
 
 use crate::events::Names;
 use crate::shown::put_gtid;
+use changes_json::Text;
 use events_frames::{EventParts, EventStreamReader, QueryTexts, RotateEvent, read_body};
-use feed_events::EventKind;
-use feed_json::Text;
-use rows_consts::EventType;
-use rows_events::RowsEvent;
-use rows_meta::TableMapEvent;
+use feed_checks::EventKind;
+use rows_constants::EventType;
+use rows_event_body::RowsEvent;
+use rows_table_map::TableMapEvent;
 
 /// How many bytes of a statement are shown, at most.
 const SHOWN_OF_STATEMENT: usize = 60;

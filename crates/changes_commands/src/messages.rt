@@ -1,7 +1,7 @@
 //! What is said to people about verdicts, and about logs and positions that don't fit.
 
-use feed_events::Verdict;
-use feed_json::Text;
+use changes_json::Text;
+use feed_checks::Verdict;
 
 /// What a verdict means.
 pub fn meaning(verdict: Verdict) -> &'static str {

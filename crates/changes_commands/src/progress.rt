@@ -1,6 +1,6 @@
 //! How far a long log was read, for people.
 
-use feed_json::Text;
+use changes_json::Text;
 use std::alloc::Global;
 use std::fs::File;
 use std::io::{IsTerminal, Write};

@@ -1,8 +1,8 @@
 //! Event types and GTIDs as text.
 
-use feed_events::Gtid;
-use feed_json::Text;
-use rows_consts::EventType;
+use changes_json::Text;
+use feed_checks::Gtid;
+use rows_constants::EventType;
 
 /// Appends the name of an event type, or its number if it has none: `WRITE_ROWS_EVENT`, `type 165`.
 pub fn put_type(number: u8, out: &mut Text) {

@@ -1,6 +1,6 @@
 -- The specification's values for the crate's GTID events.
 use Rattle.events_gtids.specs.Gtids.{GtidBody}
-use Rattle.events_gtids.specs.FieldViews.{gtid_of_fields}
+use Rattle.events_gtids.specs.OptionalFieldViews.{gtid_of_fields}
 use Rattle.events_gtids.specs.declared.gtid_event.GtidEvent.{GtidEvent}
 
 abbrev pub gtid_of : GtidEvent → GtidBody

@@ -3,6 +3,6 @@ pub mod OptionalFields
 pub mod Gtids
 pub mod SettledFacts
 pub mod GtidSetters
-pub mod FieldViews
+pub mod OptionalFieldViews
 pub mod GtidViews
 pub mod WorkedFields

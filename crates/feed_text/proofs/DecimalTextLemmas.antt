@@ -9,7 +9,7 @@ use Rattle.std.specs.Option.{option_map}
 use Rattle.wire_buf.specs.Encoding.{AreBytes}
 use Rattle.rows_values.specs.Digits.{AreDigits}
 use Rattle.rows_values.specs.Decimals.{DecimalParts, normalized, zero_value, without_zero_groups}
-use Rattle.rows_values.specs.Texts.{glyphs, significant, whole_text, fraction_text, sign_text, decimal_text}
+use Rattle.rows_values.specs.PrintedDecimals.{glyphs, significant, whole_text, fraction_text, sign_text, decimal_text}
 use Rattle.rows_values.specs.Unpacked.{unpacked, optional_text, packed_text}
 use Rattle.rows_values.proofs.GroupLemmas.{drop_digits}
 use Rattle.rows_values.proofs.UnpackLemmas.{kept_are}

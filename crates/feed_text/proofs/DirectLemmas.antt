@@ -7,7 +7,7 @@ use Rattle.std.proofs.Math.Seq.{take-length}
 use Rattle.byteorder.specs.Endian.{little_number}
 use Rattle.wire_buf.specs.Numbers.{little_signed}
 use Rattle.wire_buf.specs.Eating.{Eats}
-use Rattle.wire_forms.specs.Sevens.{sevens_split}
+use Rattle.wire_fields.specs.Sevens.{sevens_split}
 use Rattle.rows_errors.specs.Readings.{Reading, ◌>>=◌}
 use Rattle.rows_jsonb.specs.JsonTrees as tree
 use Rattle.rows_jsonb.specs.JsonTrees.{Tree}

@@ -8,7 +8,7 @@ use Rattle.std.proofs.lemmas.Fmt.{decimal_digit, decimal_step, length-decimal-le
 use Rattle.std.proofs.lemmas.List.{map-append, append-nil, length-map}
 use Rattle.rows_values.specs.TimeTexts.{padded_decimal}
 use Rattle.rows_values.specs.Digits.{digits_in}
-use Rattle.rows_values.specs.Texts.{glyphs, significant, fraction_text, sign_text}
+use Rattle.rows_values.specs.PrintedDecimals.{glyphs, significant, fraction_text, sign_text}
 use Rattle.rows_values.specs.Unpacked.{packed_text, optional_text}
 use Rattle.rows_values.specs.PackedTexts.{is_shown, lead, zero_piece}
 use Rattle.rows_values.specs.PackedNumbers.{PackNumbers}

@@ -5,7 +5,7 @@ use Rattle.std.proofs.lemmas.List.{append-nil, take-append-le, take-take}
 use Rattle.std.specs.Prelude.{take_while, not}
 use Rattle.std.specs.List.{flat_map, prefix_len}
 use Rattle.rows_errors.specs.declared.fault.RowsError.{RowsError}
-use Rattle.feed_text.specs.Pieces.{IsAppendError}
+use Rattle.feed_text.specs.TextPieces.{IsAppendError}
 use Rattle.feed_writers.specs.Quoting.{is_plain_byte, escape, quoted_byte, quoted}
 
 -- the plain bytes at the start are written unchanged

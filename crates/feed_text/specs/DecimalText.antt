@@ -4,7 +4,7 @@ use Rattle.std.specs.Fmt.{decimal}
 use Rattle.std.specs.Option.{option_map}
 use Rattle.rows_errors.specs.declared.fault.RowsError.{RowsError}
 use Rattle.rows_errors.specs.declared.fault.RowsError.TheVariants.{Memory, Decimal}
-use Rattle.rows_values.specs.Texts.{sign_text}
+use Rattle.rows_values.specs.PrintedDecimals.{sign_text}
 use Rattle.rows_values.specs.PackedTexts.{Puts}
 use Rattle.rows_values.specs.Unpacked.{packed_text}
 use Rattle.rows_values.specs.declared.numbers.DecimalNumbers.{DecimalNumbers}

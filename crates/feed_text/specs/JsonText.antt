@@ -7,7 +7,7 @@ use Rattle.hex.specs.Hex.{encode_lower}
 use Rattle.rows_values.specs.declared.times.mysql_time.MysqlTime.{MysqlTime}
 use Rattle.rows_values.specs.declared.times.mysql_time.MysqlTimestampType.{MysqlTimestampType}
 use Rattle.rows_values.specs.declared.times.mysql_time.MysqlTimestampType.TheVariants.{MYSQL_TIMESTAMP_DATE, MYSQL_TIMESTAMP_TIME}
-use Rattle.rows_values.specs.Texts.{decimal_text, sign_text}
+use Rattle.rows_values.specs.PrintedDecimals.{decimal_text, sign_text}
 use Rattle.rows_jsonb.specs.JsonTrees as tree
 use Rattle.rows_jsonb.specs.JsonTrees.{Tree, Items, no_items, item, Members, no_members, member}
 use Rattle.feed_writers.specs.Quoting.{quoted}

@@ -1,6 +1,6 @@
 pub use Rattle.feed_writers.specs.Quoting
 pub use Rattle.feed_writers.specs.TimesOfDay
-pub mod Pieces
+pub mod TextPieces
 pub mod Times
 pub mod ValueText
 pub mod DecimalText

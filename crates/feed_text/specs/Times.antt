@@ -1,7 +1,7 @@
 -- The text of the feed: dates with their time of day, and times.
 use Rattle.std.specs.Prelude.{ℕ, Bool, List, ◌∷◌, ◌++◌}
 use Rattle.std.specs.Fmt.{decimal}
-use Rattle.rows_values.specs.Texts.{sign_text}
+use Rattle.rows_values.specs.PrintedDecimals.{sign_text}
 use Rattle.feed_writers.specs.declared.times.Clock.{Clock}
 use Rattle.feed_writers.specs.declared.times.Day.{Day}
 use Rattle.feed_writers.specs.TimesOfDay.{clock_text, day_text}

@@ -8,7 +8,7 @@ ghost use Rattle.rows_cells.specs.CellViews.{cell_value};
 ghost use Rattle.feed_text.specs.CellText.{label, cell_text, Appends, IsCellError};
 ghost use Rattle.feed_text.specs.DirectText.{WritesDocument};
 ghost use Rattle.feed_text.specs.DecimalText.{quoted_decimal, AppendsSome, IsDecimalError};
-ghost use Rattle.feed_text.specs.Pieces.{IsAppendError};
+ghost use Rattle.feed_text.specs.TextPieces.{IsAppendError};
 ghost use Rattle.feed_text.specs.ShortTexts.{short_text};
 
 use crate::buffer::TextBuffer;

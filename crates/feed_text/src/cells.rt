@@ -6,7 +6,7 @@ ghost use Rattle.rows_jsonb.specs.DocumentTrees.{document_tree};
 ghost use Rattle.rows_jsonb.specs.JsonParsing.{Parses};
 ghost use Rattle.rows_cells.specs.CellViews.{cell_value};
 ghost use Rattle.feed_writers.specs.Quoting.{quoted};
-ghost use Rattle.feed_text.specs.Pieces.{IsAppendError};
+ghost use Rattle.feed_text.specs.TextPieces.{IsAppendError};
 ghost use Rattle.feed_text.specs.DecimalText.{quoted_decimal, IsDecimalError};
 ghost use Rattle.rows_jsonb.specs.JsonDiffViews.{diff_view};
 ghost use Rattle.feed_text.specs.JsonText.{document_text};

@@ -13,7 +13,7 @@ use byteorder::{ByteOrder, LittleEndian};
 use feed_writers::{put_byte, put_hexadecimal, put_number, put_signed};
 use std::alloc::Allocator;
 use wire_buf::ParseBuf;
-use wire_forms::{IntRepr, VarLen};
+use wire_fields::{IntRepr, VarLen};
 
 /// The maximum length of a number's text in bytes.
 const NUMBER_LEN_MAX: usize = 24;

@@ -3,7 +3,7 @@
 ghost use Rattle.std.specs.Prelude.{◌≡◌, ◌++◌, OnOk, IfErr, length, take};
 ghost use Rattle.rows_jsonb.specs.JsonTrees.{array, object};
 ghost use Rattle.rows_jsonb.specs.JsonTreeViews.{view, items_view, members_view};
-ghost use Rattle.feed_text.specs.Pieces.{IsAppendError};
+ghost use Rattle.feed_text.specs.TextPieces.{IsAppendError};
 ghost use Rattle.feed_text.specs.JsonText.{document_text};
 
 use crate::json_scalars::append_scalar;

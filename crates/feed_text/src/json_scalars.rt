@@ -3,9 +3,9 @@
 ghost use Rattle.std.specs.Prelude.{◌≡◌, ◌++◌, ◌∷◌, ◌≤◌, ◌+◌, OnOk, IfErr, length, take};
 ghost use Rattle.rows_jsonb.specs.JsonTrees.{time as time_scalar, opaque};
 ghost use Rattle.rows_jsonb.specs.JsonTreeViews.{scalar_view, number_view};
-ghost use Rattle.wire_consts.specs.ColumnTypes.{column_type_number};
+ghost use Rattle.wire_constants.specs.ColumnTypes.{column_type_number};
 ghost use Rattle.std.specs.Fmt.{decimal, signed_decimal};
-ghost use Rattle.feed_text.specs.Pieces.{IsAppendError};
+ghost use Rattle.feed_text.specs.TextPieces.{IsAppendError};
 ghost use Rattle.feed_text.specs.ValueText.{double_text};
 ghost use Rattle.feed_text.specs.JsonText.{scalar_text, temporal_text};
 

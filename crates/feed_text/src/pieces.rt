@@ -1,5 +1,7 @@
+//! Appending several pieces, all or none.
+
 ghost use Rattle.std.specs.Prelude.{◌≡◌, ◌++◌, OnOk, IfErr};
-ghost use Rattle.feed_text.specs.Pieces.{pieces_text, IsAppendError};
+ghost use Rattle.feed_text.specs.TextPieces.{pieces_text, IsAppendError};
 
 use rows_errors::RowsError;
 use std::alloc::Allocator;

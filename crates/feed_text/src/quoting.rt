@@ -1,7 +1,9 @@
+//! Bytes in quotes, and the bytes that a quoted text stands for.
+
 ghost use Rattle.std.specs.Prelude.{◌≡◌, ◌≤◌, ◌++◌, OnOk, IfErr, not, length, take, take_while};
 ghost use Rattle.std.specs.List.{flat_map};
 ghost use Rattle.feed_writers.specs.Quoting.{is_plain_byte, escape, quoted};
-ghost use Rattle.feed_text.specs.Pieces.{IsAppendError};
+ghost use Rattle.feed_text.specs.TextPieces.{IsAppendError};
 
 use feed_writers::{is_plain, plain_len, put_escapes};
 use rows_errors::RowsError;

@@ -1,5 +1,7 @@
+//! The text of one value.
+
 ghost use Rattle.std.specs.Prelude.{◌≡◌, ◌++◌, OnOk, IfErr};
-ghost use Rattle.feed_text.specs.Pieces.{IsAppendError};
+ghost use Rattle.feed_text.specs.TextPieces.{IsAppendError};
 ghost use Rattle.feed_text.specs.ShortTexts.{short_text};
 ghost use Rattle.feed_text.specs.ValueText.{value_text};
 

@@ -14,7 +14,7 @@ use lib.Lanes.{chunk, zip2, pick_l, put_chunk, sel_l, mask_l, top, Each1}
 use Rattle.feed_writers.specs.declared.escapes.TheConstants.{DIGITS}
 use Rattle.feed_writers.specs.declared.blocks.TheConstants.{WRITTEN, OFFSETS, LOWER, UPPER, LOWER_PAIRS, UPPER_PAIRS}
 use Rattle.feed_writers.specs.Quoting.{is_plain_byte, quoted_byte, escape}
-use Rattle.feed_writers.specs.Fields.{first_of_byte, high_digit, low_digit, field_of, stops_in, AreParts}
+use Rattle.feed_writers.specs.QuotedFields.{first_of_byte, high_digit, low_digit, field_of, stops_in, AreParts}
 use Rattle.feed_writers.proofs.EscapeLemmas.{glyph_at}
 use Rattle.feed_writers.proofs.PlainLemmas.{upto_sound, is_stop, below, tests_of, stops_by_lane, first_more, passed_count, positive}
 

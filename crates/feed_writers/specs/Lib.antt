@@ -1,4 +1,4 @@
 pub mod Quoting
 pub mod PlainBytes
-pub mod Fields
+pub mod QuotedFields
 pub mod TimesOfDay

@@ -3,7 +3,7 @@
 ghost use Rattle.std.specs.Prelude.{◌≡◌, ◌≤◌, ◌<◌, ◌+◌, ◌-◌, ◌*◌, ◌++◌, List, ℕ, length, map, take, drop, replicate, slice_index};
 ghost use Rattle.std.specs.List.{flat_map};
 ghost use Rattle.feed_writers.specs.Quoting.{quoted_byte, escape};
-ghost use Rattle.feed_writers.specs.Fields.{high_digit, low_digit, field_of, stops_in, AreParts};
+ghost use Rattle.feed_writers.specs.QuotedFields.{high_digit, low_digit, field_of, stops_in, AreParts};
 
 use crate::escapes::{DIGITS, put_escape};
 use std::simd::prelude::*;

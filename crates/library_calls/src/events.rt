@@ -2,8 +2,8 @@
 //! bytes. If `EventStreamReader` runs out of memory, the event is read again.
 
 use events_frames::{BinlogFileHeader, EventError, EventStreamReader};
-use events_stream::{Event, ReadEvents};
-use rows_consts::BinlogVersion;
+use events_owned::{Event, ReadEvents};
+use rows_constants::BinlogVersion;
 use std::alloc::Global;
 use std::io::{self, Write};
 use wire_buf::Watched;

@@ -3,8 +3,8 @@
 //! be fed, which the follower can only take if nothing was dropped.
 
 use crc32::crc32;
-use feed_events::{Verdict, name_of};
-use feed_streams::Follower;
+use feed_checks::{Verdict, name_of};
+use feed_replication::Follower;
 use std::alloc::{AllocError, Global};
 use std::io::{self, Write};
 use wire_buf::Watched;

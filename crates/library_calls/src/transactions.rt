@@ -3,8 +3,8 @@
 
 use crate::follower::{FIRST_OFFSET, NAME, PACKET_LIMIT, TEXT_LEN, put_line};
 use crc32::crc32;
-use feed_events::{Verdict, name_of};
-use feed_follower::ChangeFollower;
+use feed_change_follower::ChangeFollower;
+use feed_checks::{Verdict, name_of};
 use std::alloc::{AllocError, Global};
 use std::io::{self, Write};
 

@@ -2,13 +2,13 @@
 use Rattle.std.proofs.Common.{◌≡◌, ◌∙◌, ℕ, List, [], Some, refl, sym, ap, ap₂, subst, append-nil}
 use Rattle.std.proofs.lemmas.Option.{same_Some}
 use Rattle.wire_buf.specs.Encoding.{Reads}
-use Rattle.rows_meta.proofs.MapLawLemmas.{map_whole}
+use Rattle.rows_table_map.proofs.MapLawLemmas.{map_whole}
 use Rattle.events_frames.specs.Descriptions.{Description, IsFields, event_description_of}
 use Rattle.events_frames.proofs.LawLemmas.{written_whole}
 use Rattle.events_bodies.proofs.BodyLemmas.{incident_whole}
 use Rattle.events_queries.proofs.QueryLemmas.{query_whole}
 use Rattle.events_bodies.proofs.LoadQueryLemmas.{load_query_whole}
-use Rattle.events_stream.specs.declared.event_data.EventData.TheVariants as read
+use Rattle.events_owned.specs.declared.event_data.EventData.TheVariants as read
 use Rattle.mysql_binlog_events.specs.ReadAgain.{IsReadAsEncoded}
 use Rattle.mysql_binlog_events.specs.DataAgain.{IsDataSameAgain}
 use Rattle.mysql_binlog_events.proofs.OneWayLemmas.{whole_body}

@@ -3,7 +3,7 @@ use Rattle.std.proofs.Common.{◌≡◌, ◌++◌, ◌∙◌, ℕ, List, Option,
 use Rattle.std.specs.Io.KnownBytes.{Consumes}
 use Rattle.wire_buf.specs.Encoding.{AreBytes}
 use Rattle.wire_buf.proofs.WritingLemmas.{AreBytes-prefix, AreBytes-suffix}
-use Rattle.events_stream.specs.Files.{File}
+use Rattle.events_owned.specs.Files.{File}
 use Rattle.mysql_binlog_events.specs.WrittenAgain.{WritesAll, NoEvent, OneMore, IsFileWrittenBack}
 use Rattle.mysql_binlog_events.proofs.WrittenAgainLemmas.{written_back}
 

@@ -5,8 +5,8 @@ use Rattle.std.specs.Bool.{⊤}
 use Rattle.wire_buf.specs.Encoding.{Begins, Reads, Lacks, Alone}
 use Rattle.wire_buf.specs.Numbers.{IsLenenc}
 use Rattle.wire_buf.proofs.EncodingLemmas.{Reads-is}
-use Rattle.wire_forms.specs.Texts.{IsAll}
-use Rattle.rows_meta.specs.TableMaps.{little_endian}
+use Rattle.wire_fields.specs.ByteStrings.{IsAll}
+use Rattle.rows_table_map.specs.TableMaps.{little_endian}
 use Rattle.events_gtids.specs.Stamps.{AnnouncedPair, IsStamp, IsAnnounced, top_bit}
 use Rattle.events_gtids.specs.Gtids.{GtidBody, IsClock, IsGtid}
 use Rattle.events_gtids.proofs.AnnouncedPairLemmas.{alone_reads, twice_reads}

@@ -1,9 +1,9 @@
 -- The state of a reader after many events.
 use Rattle.std.proofs.Common.{◌≡◌, ◌∙◌, ℕ, List, [], ◌∷◌, refl, ap, Some}
 use Rattle.std.specs.Prelude.{if◌then◌else◌, ◌==◌, Option}
-use Rattle.rows_meta.specs.TableMaps.{TableMap}
+use Rattle.rows_table_map.specs.TableMaps.{TableMap}
 use Rattle.events_frames.specs.Descriptions.{Description}
-use Rattle.events_frames.specs.Readings.{ReaderState, Change, NewDescription, NewTableMap, NewFile, NothingNew, first_reading, after_change}
+use Rattle.events_frames.specs.LogReadings.{ReaderState, Change, NewDescription, NewTableMap, NewFile, NothingNew, first_reading, after_change}
 use Rattle.mysql_binlog_events.specs.Newest.{AcceptsAll, NoEvent, OneMore, newest_described, newest_table_map}
 
 description_step : (first : Description) (said : Change) (older : List Change) (old : ReaderState) → old.description ≡ newest_described first older → (after_change old said).description ≡ newest_described first (said ∷ older)

@@ -11,9 +11,9 @@ use Rattle.wire_buf.specs.LenencSplit.{split_lenenc}
 use Rattle.wire_buf.proofs.EncodingLemmas.{Both-first, Both-second, Reads-both, Reads-led, Reads-as, Reads-is, Reads-fixed, Reads-prefix, split_prefix}
 use Rattle.wire_buf.proofs.LenencLemmas.{split_lenenc-complete}
 use Rattle.wire_buf.proofs.StringLemmas.{Reads-counted}
-use Rattle.wire_forms.specs.Texts.{IsAll}
-use Rattle.wire_forms.proofs.FieldLemmas.{bytes_read, skipped}
-use Rattle.rows_meta.specs.TableMaps.{little_endian, plain_bytes, Skipped}
+use Rattle.wire_fields.specs.ByteStrings.{IsAll}
+use Rattle.wire_fields.proofs.FieldLemmas.{bytes_read, skipped}
+use Rattle.rows_table_map.specs.TableMaps.{little_endian, plain_bytes, Skipped}
 use Rattle.mysql_binlog_events.specs.ReadAgain.{IsReadAsEncoded, IsReadAgain, IsSameAgain}
 
 -- ---- fields

@@ -5,15 +5,15 @@ use Rattle.std.proofs.lemmas.List.{take_all}
 use Rattle.std.proofs.lemmas.Bool.Decides.{eqb_tells}
 use Rattle.wire_buf.specs.Encoding.{Begins, Reads, AreBytes, Alone, Both}
 use Rattle.wire_buf.specs.Numbers.{IsLongString, IsLenenc, IsShortString}
-use Rattle.rows_meta.specs.TableMaps.{IsTableMap, Skipped, little_endian, id_width}
-use Rattle.rows_meta.proofs.TableMapParts as map
-use Rattle.events_bodies.specs.Bodies.{Rand, IsRand, Intvar, IsIntvar, BeginLoadQuery, IsBeginLoadQuery, Incident, IsIncident, RowsQuery, IsRowsQuery}
+use Rattle.rows_table_map.specs.TableMaps.{IsTableMap, Skipped, little_endian, id_width}
+use Rattle.rows_table_map.proofs.TableMapParts as map
+use Rattle.events_bodies.specs.FixedBodies.{Rand, IsRand, Intvar, IsIntvar, BeginLoadQuery, IsBeginLoadQuery, Incident, IsIncident, RowsQuery, IsRowsQuery}
 use Rattle.events_frames.specs.RotateAndXid.{Rotate, IsRotate, Xid, IsXid}
 use Rattle.std.specs.Option.{option_map}
 use Rattle.byteorder.specs.Endian.{little_number}
 use Rattle.byteorder.specs.Numbers.{little_from-lt}
 use Rattle.wire_buf.proofs.WritingLemmas.{AreBytes-prefix}
-use Rattle.rows_meta.proofs.MapLawLemmas.{first_bytes, second_bytes}
+use Rattle.rows_table_map.proofs.MapLawLemmas.{first_bytes, second_bytes}
 use Rattle.events_bodies.specs.UserVars.{UserValue, UserVar, written_value, written_user_var, IsLastByte, IsUserValue, IsNullable, IsUserVar, IsValueUnless}
 use Rattle.events_bodies.proofs.UserVarLemmas.{last_none, last_some, null_reads, value_reads}
 use Rattle.mysql_binlog_events.specs.ReadAgain.{IsReadAsEncoded}

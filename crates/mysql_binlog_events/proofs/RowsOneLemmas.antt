@@ -3,16 +3,16 @@ use Rattle.std.proofs.Common.{◌≡◌, ◌++◌, ◌∙◌, ◌-◌, ℕ, List
 use Rattle.wire_buf.specs.Encoding.{Begins, Reads, Alone}
 use Rattle.wire_buf.specs.Numbers.{IsLenenc}
 use Rattle.wire_buf.proofs.EncodingLemmas.{Reads-is}
-use Rattle.rows_meta.specs.TableMaps.{little_endian, plain_bytes, id_width}
-use Rattle.rows_events.specs.Fields.{IsMaybe, IsExtra, only_if}
-use Rattle.rows_events.specs.RowsEventTypes.{images_of, has_before, has_after}
-use Rattle.rows_events.specs.RowsEvents.{IsRowsHead, IsRows, IsRowsEvent, has_extra, bits_size, written_body, written_ctx}
-use Rattle.rows_events.specs.declared.rows_event_ctx.RowsEventCtx.{RowsEventCtx}
-use Rattle.rows_events.specs.declared.rows_event_type.RowsEventType.{RowsEventType}
-use Rattle.rows_events.proofs.FieldLemmas.{there_reads, extra_reads}
-use Rattle.rows_events.proofs.RowsEventLemmas.{parts, whole, event_reads}
-use Rattle.rows_events.proofs.WritingLemmas.{written_whole}
-use Rattle.events_rows.specs.RowsContexts.{described_ctx}
+use Rattle.rows_table_map.specs.TableMaps.{little_endian, plain_bytes, id_width}
+use Rattle.rows_event_body.specs.RowsEventFields.{IsMaybe, IsExtra, only_if}
+use Rattle.rows_event_body.specs.RowsEventTypes.{images_of, has_before, has_after}
+use Rattle.rows_event_body.specs.RowsEvents.{IsRowsHead, IsRows, IsRowsEvent, has_extra, bits_size, written_body, written_ctx}
+use Rattle.rows_event_body.specs.declared.rows_event_ctx.RowsEventCtx.{RowsEventCtx}
+use Rattle.rows_event_body.specs.declared.rows_event_type.RowsEventType.{RowsEventType}
+use Rattle.rows_event_body.proofs.FieldLemmas.{there_reads, extra_reads}
+use Rattle.rows_event_body.proofs.RowsEventLemmas.{parts, whole, event_reads}
+use Rattle.rows_event_body.proofs.WritingLemmas.{written_whole}
+use Rattle.events_typed_rows.specs.RowsContexts.{described_ctx}
 use Rattle.mysql_binlog_events.specs.ReadAgain.{IsReadAsEncoded, IsRowsReadAgain, IsRowsSameAgain}
 use Rattle.mysql_binlog_events.proofs.OneWayLemmas.{one_number, one_text, one_all, one_lenenc, one_both, whole_body}
 

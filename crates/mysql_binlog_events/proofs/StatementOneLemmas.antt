@@ -1,7 +1,7 @@
 -- The encodings of events with statements are read as the same events.
 use Rattle.std.proofs.Common.{ℕ, refl}
 use Rattle.wire_buf.specs.Encoding.{Both}
-use Rattle.rows_meta.specs.TableMaps.{little_endian}
+use Rattle.rows_table_map.specs.TableMaps.{little_endian}
 use Rattle.events_frames.specs.Queries.{IsQuery}
 use Rattle.events_bodies.specs.LoadQueries.{IsLoadQuery}
 use Rattle.events_queries.proofs.QueryLemmas as query

@@ -12,13 +12,13 @@ use Rattle.wire_buf.specs.Numbers.{IsLittle}
 use Rattle.wire_buf.specs.Writing.{concat_some, both_encoded}
 use Rattle.wire_buf.proofs.LenencLemmas.{little_bytes-sound}
 use Rattle.wire_buf.proofs.WritingLemmas.{AreBytes-prefix, AreBytes-suffix}
-use Rattle.wire_forms.specs.Ints.{little_encoded}
-use Rattle.rows_meta.specs.TableMaps.{little_endian}
+use Rattle.wire_fields.specs.Ints.{little_encoded}
+use Rattle.rows_table_map.specs.TableMaps.{little_endian}
 use Rattle.events_frames.specs.Headers.{Header, IsEventHeader, header_encoded}
 use Rattle.events_frames.specs.Footers.{ChecksumSettings}
 use Rattle.events_frames.specs.EventParts.{Parts, IsChecksum, IsChecksumFooter, IsEventContent, IsEvent, describes}
-use Rattle.events_frames.specs.Checksums.{covered}
-use Rattle.events_stream.specs.WrittenEvents.{bytes_before_checksum, EndsWithSum}
+use Rattle.events_frames.specs.CoveredBytes.{covered}
+use Rattle.events_owned.specs.WrittenEvents.{bytes_before_checksum, EndsWithSum}
 use Rattle.mysql_binlog_events.specs.WrittenAgain.{IsWrittenBack, IsReadWithSum}
 
 -- ---- numbers

@@ -2,19 +2,19 @@ pub mod ReadAgain
 pub mod Newest
 pub mod DataAgain
 pub mod WrittenAgain
-pub use Rattle.events_bodies.specs.Bodies
+pub use Rattle.events_bodies.specs.FixedBodies
 pub use Rattle.events_bodies.specs.BodyViews
 pub use Rattle.events_bodies.specs.BodySizes
 pub use Rattle.events_bodies.specs.UserVars
 pub use Rattle.events_bodies.specs.UserVarViews
 pub use Rattle.events_bodies.specs.LoadQueries
 pub use Rattle.events_bodies.specs.LoadQueryViews
-pub use Rattle.events_stream.specs.BodyFormats
-pub use Rattle.events_stream.specs.DataReadings
-pub use Rattle.events_stream.specs.DataEncodings
-pub use Rattle.events_stream.specs.EqualBodies
+pub use Rattle.events_owned.specs.BodyFormats
+pub use Rattle.events_owned.specs.DataReadings
+pub use Rattle.events_owned.specs.DataEncodings
+pub use Rattle.events_owned.specs.EqualBodies
 pub use Rattle.events_frames.specs.EventErrors
-pub use Rattle.events_frames.specs.Bodies as FrameBodies
+pub use Rattle.events_frames.specs.EventBodies as FrameBodies
 pub use Rattle.events_frames.specs.FileHeaders
 pub use Rattle.events_frames.specs.Headers
 pub use Rattle.events_frames.specs.HeaderLength
@@ -25,7 +25,7 @@ pub use Rattle.events_frames.specs.EventParts
 pub use Rattle.events_frames.specs.Events
 pub use Rattle.events_frames.specs.Frames
 pub use Rattle.events_frames.specs.Sources
-pub use Rattle.events_frames.specs.Checksums
+pub use Rattle.events_frames.specs.CoveredBytes
 pub use Rattle.events_frames.specs.RotateAndXid
 pub use Rattle.events_frames.specs.RotateAndXidViews
 pub use Rattle.events_frames.specs.Queries
@@ -35,7 +35,7 @@ pub use Rattle.events_gtids.specs.OptionalFields
 pub use Rattle.events_gtids.specs.Gtids
 pub use Rattle.events_gtids.specs.SettledFacts
 pub use Rattle.events_gtids.specs.GtidSetters
-pub use Rattle.events_gtids.specs.FieldViews
+pub use Rattle.events_gtids.specs.OptionalFieldViews
 pub use Rattle.events_gtids.specs.GtidViews
 pub use Rattle.events_gtids.specs.WorkedFields
 pub use Rattle.events_queries.specs.QueryViews
@@ -43,13 +43,13 @@ pub use Rattle.events_queries.specs.StatusVars
 pub use Rattle.events_queries.specs.StatusVarsComputed
 pub use Rattle.events_queries.specs.DbNames
 pub use Rattle.events_queries.specs.StatusVarViews
-pub use Rattle.events_rows.specs.RowsContexts
-pub use Rattle.events_rows.specs.RowsViews
-pub use Rattle.events_frames.specs.Readings
+pub use Rattle.events_typed_rows.specs.RowsContexts
+pub use Rattle.events_typed_rows.specs.RowsViews
+pub use Rattle.events_frames.specs.LogReadings
 pub use Rattle.events_frames.specs.ReadingViews
-pub use Rattle.events_stream.specs.EventViews
-pub use Rattle.events_stream.specs.OwnedEvents
-pub use Rattle.events_stream.specs.OwnedBodies
-pub use Rattle.events_stream.specs.Files
-pub use Rattle.events_stream.specs.WrittenEvents
-pub use Rattle.events_stream.specs.FileViews
+pub use Rattle.events_owned.specs.EventViews
+pub use Rattle.events_owned.specs.OwnedEvents
+pub use Rattle.events_owned.specs.OwnedBodies
+pub use Rattle.events_owned.specs.Files
+pub use Rattle.events_owned.specs.WrittenEvents
+pub use Rattle.events_owned.specs.FileViews

@@ -1,9 +1,9 @@
 -- The state of a log's reader after many events, by the newest event first.
 use Rattle.std.specs.Prelude.{ℕ, ◌==◌, List, [], ◌∷◌, Option, Some, None, if◌then◌else◌}
-use Rattle.rows_meta.specs.TableMaps.{TableMap}
+use Rattle.rows_table_map.specs.TableMaps.{TableMap}
 use Rattle.events_frames.specs.Descriptions.{Description}
 use Rattle.events_frames.specs.EventParts.{Parts}
-use Rattle.events_frames.specs.Readings.{ReaderState, Change, NewDescription, NewTableMap, NewFile, NothingNew, IsAccepted}
+use Rattle.events_frames.specs.LogReadings.{ReaderState, Change, NewDescription, NewTableMap, NewFile, NothingNew, IsAccepted}
 
 -- the changes of all accepted events, the newest first
 pub data AcceptsAll (first : ReaderState) : List Change → ReaderState → Type 0 where

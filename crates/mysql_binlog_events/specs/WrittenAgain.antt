@@ -3,9 +3,9 @@ use Rattle.std.specs.Prelude.{◌≡◌, ◌<◌, ◌^◌, ◌++◌, ℕ, List, 
 use Rattle.wire_buf.specs.Encoding.{AreBytes}
 use Rattle.events_frames.specs.Footers.{ChecksumSettings}
 use Rattle.events_frames.specs.EventParts.{Parts, IsEvent}
-use Rattle.events_frames.specs.Checksums.{covered}
-use Rattle.events_stream.specs.Files.{File, ReturnsEvent}
-use Rattle.events_stream.specs.WrittenEvents.{bytes_before_checksum, IsWritten}
+use Rattle.events_frames.specs.CoveredBytes.{covered}
+use Rattle.events_owned.specs.Files.{File, ReturnsEvent}
+use Rattle.events_owned.specs.WrittenEvents.{bytes_before_checksum, IsWritten}
 
 -- the checksum of an event, if it has one, is the function's result for the event's bytes
 abbrev pub HasOwnSum : (List ℕ → ℕ → Type 0) → Parts → Type 0

@@ -1,12 +1,12 @@
 //! The laws of the parts and of the whole. Each is a function without code; its contract is the law.
 
 ghost use Rattle.std.specs.Prelude.{◌≡◌, [], ℕ, List};
-ghost use Rattle.rows_consts.specs.declared.event_type.EventType.TheVariants.{TABLE_MAP_EVENT};
-ghost use Rattle.rows_meta.specs.TableMaps.{IsTableMap, table_map_encoded, written_map};
-ghost use Rattle.rows_events.specs.RowsEvents.{IsRowsEvent};
-ghost use Rattle.rows_events.specs.declared.rows_event_ctx.RowsEventCtx.{RowsEventCtx as RowsContext};
+ghost use Rattle.rows_constants.specs.declared.event_type.EventType.TheVariants.{TABLE_MAP_EVENT};
+ghost use Rattle.rows_table_map.specs.TableMaps.{IsTableMap, table_map_encoded, written_map};
+ghost use Rattle.rows_event_body.specs.RowsEvents.{IsRowsEvent};
+ghost use Rattle.rows_event_body.specs.declared.rows_event_ctx.RowsEventCtx.{RowsEventCtx as RowsContext};
 ghost use Rattle.events_frames.specs.Descriptions.{IsDescription, post_header_length};
-ghost use Rattle.events_bodies.specs.Bodies.{IsRand, rand_encoded, IsIntvar, intvar_encoded, IsBeginLoadQuery, begin_load_query_encoded, IsIncident, incident_encoded, written_incident, IsRowsQuery, rows_query_encoded};
+ghost use Rattle.events_bodies.specs.FixedBodies.{IsRand, rand_encoded, IsIntvar, intvar_encoded, IsBeginLoadQuery, begin_load_query_encoded, IsIncident, incident_encoded, written_incident, IsRowsQuery, rows_query_encoded};
 ghost use Rattle.events_frames.specs.RotateAndXid.{IsRotate, rotate_encoded, IsXid, xid_encoded};
 ghost use Rattle.events_bodies.specs.UserVars.{IsUserVar, user_var_encoded, written_user_var};
 ghost use Rattle.events_frames.specs.Queries.{IsQuery, query_encoded, written_query};
@@ -14,7 +14,7 @@ ghost use Rattle.events_bodies.specs.LoadQueries.{IsLoadQuery, load_query_encode
 ghost use Rattle.events_gtids.specs.Gtids.{IsGtid, gtid_encoded};
 ghost use Rattle.std.specs.Fn.{FnReturnsAt};
 ghost use Rattle.mysql_binlog_events.specs.DataAgain.{IsDataSameAgain};
-ghost use Rattle.events_frames.specs.Readings.{ReaderState, Change, first_reading};
+ghost use Rattle.events_frames.specs.LogReadings.{ReaderState, Change, first_reading};
 ghost use Rattle.mysql_binlog_events.specs.Newest.{AcceptsAll, newest_described, newest_table_map};
 ghost use Rattle.mysql_binlog_events.specs.WrittenAgain.{IsWrittenBack, IsReadWithSum, IsFileWrittenBack};
 ghost use Rattle.mysql_binlog_events.specs.ReadAgain.{IsReadAsEncoded, IsReadAgain, IsSameAgain, IsDescriptionReadAgain, IsDescriptionSameAgain, IsRowsReadAgain, IsRowsSameAgain, NothingFollows, AnythingFollows};
@@ -41,13 +41,13 @@ pub use events_bodies::statement_laws::{
 pub use events_gtids::laws::{
     equal_gtids_say_the_same, gtids_are_written_back, worked_fields, worked_gtid,
 };
-pub use events_rows::laws::{
-    default_contexts_are_those_of_writing, equal_data_say_the_same, equal_events_say_the_same,
-    images_are_those_of_the_kind, types_are_read_back, worked_contexts,
-};
-pub use events_stream::laws::{
+pub use events_owned::laws::{
     equal_bodies_say_the_same, files_end_once, files_give_few_items,
     whole_events_fail_only_as_too_short,
+};
+pub use events_typed_rows::laws::{
+    default_contexts_are_those_of_writing, equal_data_say_the_same, equal_events_say_the_same,
+    images_are_those_of_the_kind, types_are_read_back, worked_contexts,
 };
 
 /// Bytes that begin with the encoding of a body are read as this body.

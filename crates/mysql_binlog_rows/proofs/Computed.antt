@@ -2,7 +2,7 @@
 use Rattle.std.specs.Prelude.{⊤}
 use Rattle.rows_values.specs.Digits.{nines_bytes, before_bytes, after_bytes, digits_in}
 use Rattle.rows_values.specs.Decimals.{without_zero_nines}
-use Rattle.rows_values.specs.Texts.{text_value, from_digit_texts, has_only_digits}
+use Rattle.rows_values.specs.PrintedDecimals.{text_value, from_digit_texts, has_only_digits}
 use Rattle.rows_values.specs.Unpacked.{unpacked, nines_digits}
 
 unfoldable pub computed : ⊤

@@ -3,15 +3,15 @@ use Rattle.std.proofs.Common.{◌≡◌, ◌⊎◌, inl, inr, ℕ, Bool, true, f
 use Rattle.wire_buf.specs.Encoding.{Lacks}
 use Rattle.wire_buf.specs.LenencSplit.{split_lenenc}
 use Rattle.wire_buf.proofs.LenencLemmas.{lenenc_lacks}
-use Rattle.wire_forms.specs.Faults.{lenenc_fault}
-use Rattle.rows_errors.specs.Faults.{rows_error}
+use Rattle.wire_fields.specs.IntFaults.{lenenc_fault}
+use Rattle.rows_errors.specs.ConvertedFaults.{rows_error}
 use Rattle.rows_errors.specs.declared.fault.RowsError.{RowsError}
 use Rattle.rows_errors.specs.declared.fault.RowsError.TheVariants.{EndOfBody}
 use Rattle.rows_errors.specs.Readings.{Reading, ◌>>=◌}
-use Rattle.rows_meta.specs.Entries.{NumberEncoding, StringEncoding, PairEncoding, found, lenenc_at, string_at, pair_at}
-use Rattle.rows_meta.specs.EntryErrors.{NumberEntryFails, StringEntryFails, PairEntryFails}
-use Rattle.rows_meta.proofs.EntryLemmas.{number-is, number-here, number_missing}
-use Rattle.rows_meta.proofs.LawLemmas.{string-law}
+use Rattle.rows_table_map.specs.Entries.{NumberEncoding, StringEncoding, PairEncoding, found, lenenc_at, string_at, pair_at}
+use Rattle.rows_table_map.specs.EntryErrors.{NumberEntryFails, StringEntryFails, PairEntryFails}
+use Rattle.rows_table_map.proofs.EntryLemmas.{number-is, number-here, number_missing}
+use Rattle.rows_table_map.proofs.LawLemmas.{string-law}
 
 err_same : {A : Type 0} (e f : RowsError) → ◌≡◌ {A = Reading A} (Err e) (Err f) → f ≡ e
 err_same e f h = cc

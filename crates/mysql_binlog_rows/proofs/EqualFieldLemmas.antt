@@ -4,15 +4,15 @@ use Rattle.std.proofs.lemmas.Bool.Decides.{Decides-like, Decides-and, Decides-eq
 use Rattle.std.specs.Cmp.{booleans_Decides}
 use Rattle.std.specs.Bool.{Decides, beq}
 use lib.Pointwise.{pointwise, pointwise_decides, bytes_decides}
-use Rattle.rows_meta.specs.BitLists.{bit_of, len_of, list_from, bit_list}
-use Rattle.rows_meta.specs.declared.bits.Bits.{Bits}
-use Rattle.rows_meta.specs.MetadataFields.{Field, bits_from, signedness, default_charset, column_charset, column_name, set_str_value, enum_str_value, geometry_types, simple_primary_key, primary_key_with_prefix, enum_and_set_default_charset, enum_and_set_column_charset, column_visibility, dimensionality}
-use Rattle.rows_meta.specs.MetadataViews.{field_view, bits_view, default_charset_view}
-use Rattle.rows_meta.specs.declared.charsets.DefaultCharset.{DefaultCharset}
-use Rattle.rows_meta.specs.declared.field.OptionalMetadataField.{OptionalMetadataField}
-use Rattle.rows_meta.specs.declared.field.OptionalMetadataField.TheVariants as made
-use Rattle.rows_meta.specs.contracts.charsets.DefaultCharsetPartialEq.TheImpl.{ghosts as charset_equality}
-use Rattle.rows_meta.specs.contracts.field.OptionalMetadataFieldPartialEq.TheImpl.{ghosts as field_equality}
+use Rattle.rows_table_map.specs.BitLists.{bit_of, len_of, list_from, bit_list}
+use Rattle.rows_table_map.specs.declared.bits.Bits.{Bits}
+use Rattle.rows_table_map.specs.MetadataFields.{Field, bits_from, signedness, default_charset, column_charset, column_name, set_str_value, enum_str_value, geometry_types, simple_primary_key, primary_key_with_prefix, enum_and_set_default_charset, enum_and_set_column_charset, column_visibility, dimensionality}
+use Rattle.rows_table_map.specs.MetadataViews.{field_view, bits_view, default_charset_view}
+use Rattle.rows_table_map.specs.declared.charsets.DefaultCharset.{DefaultCharset}
+use Rattle.rows_table_map.specs.declared.field.OptionalMetadataField.{OptionalMetadataField}
+use Rattle.rows_table_map.specs.declared.field.OptionalMetadataField.TheVariants as made
+use Rattle.rows_table_map.specs.contracts.charsets.DefaultCharsetPartialEq.TheImpl.{ghosts as charset_equality}
+use Rattle.rows_table_map.specs.contracts.field.OptionalMetadataFieldPartialEq.TheImpl.{ghosts as field_equality}
 
 -- the two definitions of a list of bits agree
 same_list : (f : ℕ → Bool) (k n : ℕ) → list_from f k n ≡ bits_from f k n

@@ -1,11 +1,11 @@
 //! Laws about rows events. Each is a function without code; its contract is the law.
 
 ghost use Rattle.std.specs.Prelude.{◌≡◌, ◌↔◌, true};
-ghost use Rattle.rows_events.specs.RowsEvents.{IsWrittenWhole};
-ghost use Rattle.rows_events.specs.Views.{body_of};
-ghost use Rattle.rows_events.specs.contracts.rows_event.RowsEventPartialEq.TheImpl.{ghosts as event_equality};
+ghost use Rattle.rows_event_body.specs.RowsEvents.{IsWrittenWhole};
+ghost use Rattle.rows_event_body.specs.Views.{body_of};
+ghost use Rattle.rows_event_body.specs.contracts.rows_event.RowsEventPartialEq.TheImpl.{ghosts as event_equality};
 
-use rows_events::RowsEvent;
+use rows_event_body::RowsEvent;
 
 /// An event that was read with the post-header lengths that servers use today is written completely. So reading the written
 /// bytes, with these lengths, gives the same event.

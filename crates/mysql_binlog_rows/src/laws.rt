@@ -1,10 +1,10 @@
 //! The laws of the parts and of the whole. Each is a function without code; its contract is the law.
 
 ghost use Rattle.std.specs.Prelude.{◌≡◌};
-ghost use Rattle.rows_events.specs.RowPairs.{planned_table, mapped_table};
-ghost use Rattle.rows_events.specs.PlanViews.{IsPlanOf};
-ghost use Rattle.rows_events.specs.declared.plan.ColumnPlan.{ColumnPlan};
-ghost use Rattle.rows_meta.specs.declared.table_map.TableMapEvent.{TableMapEvent};
+ghost use Rattle.rows_event_body.specs.RowPairs.{planned_table, mapped_table};
+ghost use Rattle.rows_event_body.specs.PlanViews.{IsPlanOf};
+ghost use Rattle.rows_event_body.specs.declared.plan.ColumnPlan.{ColumnPlan};
+ghost use Rattle.rows_table_map.specs.declared.table_map.TableMapEvent.{TableMapEvent};
 
 pub use crate::cell_laws::{
     cells_are_read, images_are_read, kept_values_are_those_of_cells, lists_of_rows_are_read,
@@ -26,7 +26,7 @@ pub use crate::value_laws::{
     packed_fields_are_read_back, texts_are_parsed_back, times_by_cases, worked_bits,
     worked_decimals, worked_time, worked_time_values, worked_unpacking,
 };
-pub use rows_more_consts::laws::{
+pub use rows_constants_extra::laws::{
     numbers_are_distinct, orders_are_of_numbers, transaction_numbers, worked_numbers,
 };
 

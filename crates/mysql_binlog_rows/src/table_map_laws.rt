@@ -4,18 +4,18 @@
 ghost use Rattle.std.specs.Prelude.{◌≡◌, ◌↔◌, ℕ, List, Ok, true};
 ghost use Rattle.wire_buf.specs.Encoding.{Begins};
 ghost use Rattle.rows_errors.specs.Readings.{Reading};
-ghost use Rattle.rows_meta.specs.Entries.{NumberEncoding, StringEncoding, PairEncoding, lenenc_at, string_at, pair_at};
-ghost use Rattle.rows_meta.specs.MetadataFields.{FieldEncoding, tagged_at};
-ghost use Rattle.rows_meta.specs.Members.{MembersEncoding, members_at};
-ghost use Rattle.rows_meta.specs.EntryErrors.{NumberEntryFails, StringEntryFails, PairEntryFails};
-ghost use Rattle.rows_meta.specs.Lists.{AreListItems, numbers, strings, pairs};
-ghost use Rattle.rows_meta.specs.MetadataViews.{field_view};
-ghost use Rattle.rows_meta.specs.contracts.field.OptionalMetadataFieldPartialEq.TheImpl.{ghosts as field_equality};
-ghost use Rattle.rows_meta.specs.TableMaps.{IsMapWrittenWhole};
-ghost use Rattle.rows_meta.specs.MapViews.{map_of};
-ghost use Rattle.rows_meta.specs.contracts.table_map.TableMapEventPartialEq.TheImpl.{ghosts as map_equality};
+ghost use Rattle.rows_table_map.specs.Entries.{NumberEncoding, StringEncoding, PairEncoding, lenenc_at, string_at, pair_at};
+ghost use Rattle.rows_table_map.specs.MetadataFields.{FieldEncoding, tagged_at};
+ghost use Rattle.rows_table_map.specs.Members.{MembersEncoding, members_at};
+ghost use Rattle.rows_table_map.specs.EntryErrors.{NumberEntryFails, StringEntryFails, PairEntryFails};
+ghost use Rattle.rows_table_map.specs.Lists.{AreListItems, numbers, strings, pairs};
+ghost use Rattle.rows_table_map.specs.MetadataViews.{field_view};
+ghost use Rattle.rows_table_map.specs.contracts.field.OptionalMetadataFieldPartialEq.TheImpl.{ghosts as field_equality};
+ghost use Rattle.rows_table_map.specs.TableMaps.{IsMapWrittenWhole};
+ghost use Rattle.rows_table_map.specs.MapViews.{map_of};
+ghost use Rattle.rows_table_map.specs.contracts.table_map.TableMapEventPartialEq.TheImpl.{ghosts as map_equality};
 
-use rows_meta::{OptionalMetadataField, TableMapEvent};
+use rows_table_map::{OptionalMetadataField, TableMapEvent};
 
 /// A table map that was read with post-header length 8, which servers use today, is written completely. So reading the written
 /// bytes, with this length, gives the same table map.

@@ -1,12 +1,12 @@
 //! Laws of times, values and decimals, and worked ones. Each is a function that does nothing, whose contract is the law.
 
 ghost use Rattle.std.specs.Prelude.{◌≡◌, ◌↔◌, ◌∷◌, [], pos, neg_ℤ, true, false, map, ◌≤◌, ◌<◌, ◌-◌, ◌*◌, ◌^◌, ◌⊎◌, ◌-ℤ◌, ◌+ℤ◌, ◌*ℤ◌, ℕ, List, drop, Some, None, codes, ◌+◌, length, Bool};
-ghost use Rattle.rows_meta.specs.BitLists.{lowest_bit, highest_bit, bit_list};
+ghost use Rattle.rows_table_map.specs.BitLists.{lowest_bit, highest_bit, bit_list};
 ghost use Rattle.rows_values.specs.Values.{SameValue, span_value, date_value};
 ghost use Rattle.rows_values.specs.Columns.{parts_of};
-ghost use Rattle.rows_values.specs.Rows.{values_of, columns_of, SameCell};
+ghost use Rattle.rows_values.specs.RowValues.{values_of, columns_of, SameCell};
 ghost use Rattle.std.specs.List.{AllZip, range_with_len};
-ghost use Rattle.rows_meta.specs.contracts.bits.BitsPartialEq.TheImpl.{ghosts as bits_equality};
+ghost use Rattle.rows_table_map.specs.contracts.bits.BitsPartialEq.TheImpl.{ghosts as bits_equality};
 ghost use Rattle.rows_values.specs.contracts.rows.value.ValuePartialEq.TheImpl.{ghosts as value_equality};
 ghost use Rattle.rows_values.specs.contracts.rows.column.ColumnPartialEq.TheImpl.{ghosts as column_equality};
 ghost use Rattle.rows_values.specs.contracts.rows.row.RowPartialEq.TheImpl.{ghosts as row_equality};
@@ -23,9 +23,9 @@ ghost use Rattle.std.specs.Cmp.Lexicographic.{slice_cmp};
 ghost use Rattle.rows_values.specs.Digits.{AreDigits, group_size};
 ghost use Rattle.rows_values.specs.Decimals.{DecimalParts, packed_encoding, packed_size, normalized, digits_number, number_cmp, IsPacked, NonePacked, Unpacks, without_zero_groups, DropsZeroGroups};
 ghost use Rattle.rows_values.specs.Unpacked.{unpacked, normalized_of, packed_text};
-ghost use Rattle.rows_values.specs.Texts.{text_value, decimal_text, shown_value};
+ghost use Rattle.rows_values.specs.PrintedDecimals.{text_value, decimal_text, shown_value};
 
-use rows_meta::Bits;
+use rows_table_map::Bits;
 use rows_values::{
     Column, DIG_BASE, DIG_PER_DEC, DIG_TO_BYTES, MysqlTime, MysqlTimestampType, POWERS_10, Row,
     Value,

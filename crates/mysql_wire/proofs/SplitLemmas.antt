@@ -7,7 +7,7 @@ use Rattle.wire_buf.specs.Encoding.{AreBytes}
 use Rattle.wire_packets.specs.Framing.{max_chunk_len}
 use Rattle.wire_packets.specs.Reading.{payload_len_at, has_chunk_of, chunk_fault, chunk_payload, after_chunk, IsHeader}
 use Rattle.wire_packets.specs.CodecState.{SplitsInto, sequence_id_after_chunks}
-use Rattle.wire_packets.specs.Laws.{HasSplit}
+use Rattle.wire_packets.specs.PacketLaws.{HasSplit}
 use Rattle.wire_packets.proofs.PacketLemmas.{order}
 use Rattle.wire_packets.proofs.ReadingLemmas.{Taken, taken_parts}
 use Rattle.wire_packets.proofs.CodecStateLemmas.{splits_none, splits_middle, splits_last}

@@ -5,6 +5,6 @@ pub use crate::packet_laws::{
     packets_end, streams_have_a_split, versions_are_their_numbers, worked_framings,
     worked_versions,
 };
-pub use wire_more_forms::laws::{
+pub use wire_fields_extra::laws::{
     encodings_are_shortest, read_back, read_back_bytes, worked_numbers, worked_widths,
 };

@@ -1,7 +1,7 @@
 //! Laws of framings, packets and versions, each proved as the contract of a function that does nothing.
 
 ghost use Rattle.std.specs.Prelude.{◌≡◌, ◌∷◌, [], codes, Some, None, ℕ, List};
-ghost use Rattle.wire_packets.specs.Laws.{FramingsAreUniquelyRead, PacketsAreAPrefix, PacketsAreLongest, PacketsEnd, StreamsHaveASplit, FramingsAreReadBack, VersionsAreTheirNumbers};
+ghost use Rattle.wire_packets.specs.PacketLaws.{FramingsAreUniquelyRead, PacketsAreAPrefix, PacketsAreLongest, PacketsEnd, StreamsHaveASplit, FramingsAreReadBack, VersionsAreTheirNumbers};
 ghost use Rattle.wire_packets.specs.Framing.{framing, next_sequence_id};
 ghost use Rattle.wire_packets.specs.Packets.{packets, packet_fault};
 ghost use Rattle.wire_packets.specs.Version.{version_of};

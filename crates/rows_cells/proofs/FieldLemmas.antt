@@ -8,7 +8,7 @@ use Rattle.wire_buf.specs.Numbers.{IsLittle}
 use Rattle.rows_errors.specs.declared.fault.RowsError.{RowsError}
 use Rattle.rows_errors.specs.declared.fault.RowsError.TheVariants.{EndOfBody}
 use Rattle.rows_errors.specs.Readings.{Reading, ◌>>=◌}
-use Rattle.rows_cells.specs.Fields.{at_width, counted_at}
+use Rattle.rows_cells.specs.CellFields.{at_width, counted_at}
 
 -- a successful step of a reading
 pub bind-ok : {A B : Type 0} (o : Reading A) (f : A → Reading B) (y : B) → (o >>= f) ≡ Ok y → (x : A) × (o ≡ Ok x) × (f x ≡ Ok y)

@@ -9,7 +9,7 @@ use Rattle.wire_buf.specs.LenencSplit.{split_lenenc}
 use Rattle.wire_buf.proofs.LenencLemmas.{split_lenenc-complete, split_lenenc-sound}
 use Rattle.rows_errors.specs.Readings.{Reading}
 use Rattle.rows_cells.specs.declared.image.ImageColumn.{ImageColumn}
-use Rattle.rows_cells.specs.Fields.{at_width}
+use Rattle.rows_cells.specs.CellFields.{at_width}
 use Rattle.rows_cells.specs.Images.{bit, format_in, IsField, field_at, ColumnValue, ImageShape, IsShared, nothing, whole, partial, AreCells, IsImage, cells_at, lenenc_error, lenenc_of, lenenc_at, bits_at, shared_at, image_at}
 use Rattle.rows_cells.specs.EventRows.{AreImages, IsEventRow, images_at, takes_some, row_at}
 use Rattle.rows_cells.proofs.FieldLemmas.{bind-ok, ok_pair, at_width-is, at_width-here}

@@ -4,7 +4,7 @@ use Rattle.std.specs.declared.result.Result.TheVariants.{Ok, Err}
 use Rattle.wire_buf.specs.Numbers.{IsLittle}
 use Rattle.rows_errors.specs.Readings.{Reading, ◌>>=◌}
 use Rattle.rows_cells.specs.declared.format.CellFormat.{CellFormat}
-use Rattle.rows_cells.specs.Fields.{at_width, counted_at}
+use Rattle.rows_cells.specs.CellFields.{at_width, counted_at}
 use Rattle.rows_cells.specs.CellSizes.{Size, exactly, after_length, unreadable, cell_size}
 use Rattle.rows_cells.specs.CellValues.{CellValue, content_value}
 

@@ -1,7 +1,7 @@
 -- The format of a column's cells, by its real type, its metadata, and whether it is unsigned (MySQL Internals: Table_map_event, metadata of column types).
 use Rattle.std.specs.Prelude.{ℕ, ◌+◌, ◌-◌, ◌*◌, ◌/◌, ◌%◌, Bool, true, false, List, [], ◌∷◌, nat_lt, ◌==◌, if◌then◌else◌}
-use Rattle.wire_consts.specs.declared.column_type.ColumnType.{ColumnType}
-use Rattle.wire_consts.specs.declared.column_type.ColumnType.TheVariants as column
+use Rattle.wire_constants.specs.declared.column_type.ColumnType.{ColumnType}
+use Rattle.wire_constants.specs.declared.column_type.ColumnType.TheVariants as column
 use Rattle.rows_cells.specs.declared.format.Width.{Width}
 use Rattle.rows_cells.specs.declared.format.Width.TheVariants as width
 use Rattle.rows_cells.specs.declared.format.CellFormat.{CellFormat}

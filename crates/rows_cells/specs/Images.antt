@@ -9,7 +9,7 @@ use Rattle.rows_errors.specs.Readings.{Reading, ◌>>=◌}
 use Rattle.rows_cells.specs.declared.format.CellFormat.{CellFormat}
 use Rattle.rows_cells.specs.declared.image.ImageColumn.{ImageColumn}
 use Rattle.rows_cells.specs.ColumnFormats.{format_by}
-use Rattle.rows_cells.specs.Fields.{at_width}
+use Rattle.rows_cells.specs.CellFields.{at_width}
 use Rattle.rows_cells.specs.CellValues.{CellValue, null}
 use Rattle.rows_cells.specs.Cells.{IsCell, cell_at}
 

@@ -1,4 +1,4 @@
-pub mod Fields
+pub mod CellFields
 pub mod CellSizes
 pub mod ColumnFormats
 pub mod CellValues

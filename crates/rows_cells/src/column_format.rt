@@ -4,7 +4,7 @@ ghost use Rattle.std.specs.Prelude.{◌≡◌};
 ghost use Rattle.rows_cells.specs.ColumnFormats.{number_format, string_format, blob_format, enum_format, greatest_string, metadata_format, column_format};
 
 use crate::format::{CellFormat, Width};
-use wire_consts::ColumnType;
+use wire_constants::ColumnType;
 
 impl CellFormat {
     /// Returns the format of the cells of a column with this real type and metadata. `is_unsigned` is the signedness that the

@@ -4,7 +4,7 @@ ghost use Rattle.std.specs.Prelude.{◌≡◌, ◌≤◌, length};
 ghost use Rattle.byteorder.specs.Endian.{little_number};
 ghost use Rattle.wire_buf.specs.Numbers.{little_signed};
 ghost use Rattle.rows_errors.specs.Readings.{map_reading};
-ghost use Rattle.rows_cells.specs.Fields.{at_width, counted_at};
+ghost use Rattle.rows_cells.specs.CellFields.{at_width, counted_at};
 ghost use Rattle.rows_cells.specs.CellSizes.{width_bytes};
 
 use crate::format::Width;

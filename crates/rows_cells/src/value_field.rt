@@ -12,7 +12,7 @@ use crate::format::CellFormat;
 use rows_errors::RowsError;
 use std::alloc::Global;
 use wire_buf::{AnySize, MyDeserialize, ParseBuf};
-use wire_consts::ColumnType;
+use wire_constants::ColumnType;
 
 /// What a table map has about a cell's column, and a rows event about the cell.
 #[derive(Clone, Copy, Debug)]

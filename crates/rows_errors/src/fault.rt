@@ -1,5 +1,7 @@
+//! The errors of rows and of JSON documents.
+
 ghost use Rattle.std.specs.Prelude.{◌≡◌, Some};
-ghost use Rattle.rows_errors.specs.Faults.{rows_error};
+ghost use Rattle.rows_errors.specs.ConvertedFaults.{rows_error};
 ghost use Rattle.rows_errors.specs.declared.fault.RowsError.TheVariants.{Memory, Jsonb};
 
 use std::alloc::{AllocError, AllocFailed};

@@ -7,7 +7,7 @@ use Rattle.rows_errors.specs.declared.fault.RowsError.{RowsError}
 use Rattle.rows_errors.specs.declared.fault.RowsError.TheVariants.{EndOfBody, RemainingBytes, UnknownNumber, Metadata, Cell, Jsonb, Decimal, EmptyPair, Memory, Read}
 use Rattle.rows_values.specs.Decimals.{DecimalParts}
 use Rattle.rows_values.specs.declared.times.mysql_time.MysqlTime.{MysqlTime}
-use Rattle.wire_forms.specs.Sevens.{sevens_split}
+use Rattle.wire_fields.specs.Sevens.{sevens_split}
 use Rattle.rows_jsonb.specs.JsonbLayout.{ContainerFormat, value_entry_offset}
 use Rattle.rows_jsonb.specs.JsonbTypes.{jsonb_type_of, literal_of}
 use Rattle.rows_errors.specs.declared.fault.JsonbError.{JsonbError}

@@ -4,8 +4,8 @@ use Rattle.std.proofs.Math.Seq.{drop-append-add}
 use Rattle.std.proofs.lemmas.Bool.Decides.{leb_tells}
 use Rattle.std.specs.declared.result.Result.TheVariants.{Ok, Err}
 use Rattle.wire_buf.specs.Encoding.{Reads, Lacks, Alone}
-use Rattle.wire_forms.specs.Sevens.{IsVarLen, sevens_split}
-use Rattle.wire_forms.proofs.SevenLemmas.{sevens_split-complete, sevens_split-sound}
+use Rattle.wire_fields.specs.Sevens.{IsVarLen, sevens_split}
+use Rattle.wire_fields.proofs.SevenLemmas.{sevens_split-complete, sevens_split-sound}
 use Rattle.rows_jsonb.specs.JsonbViews.{IsConsumed}
 use Rattle.rows_jsonb.specs.JsonbValues.{counted_string, counted_at, counted_size, string_size, malformed}
 

@@ -1,6 +1,6 @@
 -- The contents of a JSON diff.
 use Rattle.std.specs.Prelude.{option_map}
-use Rattle.wire_forms.specs.RawTexts.{raw_string}
+use Rattle.wire_fields.specs.RawTexts.{raw_string}
 use Rattle.rows_jsonb.specs.JsonDiffs.{Diff}
 use Rattle.rows_jsonb.specs.JsonbViews.{jsonb_value}
 use Rattle.rows_jsonb.specs.declared.diff.JsonDiff.{JsonDiff}

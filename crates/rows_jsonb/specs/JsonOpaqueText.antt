@@ -3,7 +3,7 @@ use Rattle.std.specs.Prelude.{ℕ, List, ◌++◌, codes}
 use Rattle.std.specs.Fmt.{decimal}
 use Rattle.base64.specs.GeneralPurpose.{encode_of}
 use Rattle.base64.specs.Engines.{standard}
-use Rattle.wire_consts.specs.ColumnTypes.{column_type_number}
+use Rattle.wire_constants.specs.ColumnTypes.{column_type_number}
 use Rattle.rows_jsonb.specs.declared.dom.JsonOpaque.{JsonOpaque}
 
 -- `base64:type`, the number of the column type, a colon, and the bytes in base64

@@ -1,7 +1,7 @@
 -- The JSON tree that a `JsonDom` represents.
 use Rattle.std.specs.Prelude.{List, [], ◌∷◌, map, String, string_bytes}
 use Rattle.std.specs.declared.alloc.Global.{Global}
-use Rattle.wire_consts.specs.ColumnTypes.{column_type_number}
+use Rattle.wire_constants.specs.ColumnTypes.{column_type_number}
 use Rattle.rows_values.specs.Decimals.{decimal_parts}
 use Rattle.rows_jsonb.specs.JsonTrees as tree
 use Rattle.rows_jsonb.specs.JsonTrees.{Tree, scalar, array, object, Items, no_items, item, Members, no_members, member}

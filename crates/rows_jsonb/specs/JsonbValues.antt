@@ -3,10 +3,10 @@ use Rattle.std.specs.Prelude.{ℕ, ℤ, ◌+◌, ◌-◌, ◌*◌, ◌^◌, ◌=
 use Rattle.std.specs.declared.result.Result.TheVariants.{Ok, Err}
 use Rattle.byteorder.specs.Endian.{little_number}
 use Rattle.wire_buf.specs.Numbers.{little_signed}
-use Rattle.wire_forms.specs.Sevens.{sevens_split}
-use Rattle.wire_consts.specs.declared.column_type.ColumnType.{ColumnType}
-use Rattle.wire_consts.specs.ColumnTypes.{column_type_number}
-use Rattle.wire_consts.specs.AllColumnTypes.{column_types}
+use Rattle.wire_fields.specs.Sevens.{sevens_split}
+use Rattle.wire_constants.specs.declared.column_type.ColumnType.{ColumnType}
+use Rattle.wire_constants.specs.ColumnTypes.{column_type_number}
+use Rattle.wire_constants.specs.AllColumnTypes.{column_types}
 use Rattle.rows_errors.specs.Readings.{Reading, ◌>>=◌}
 use Rattle.rows_errors.specs.declared.fault.RowsError.{RowsError}
 use Rattle.rows_errors.specs.declared.fault.RowsError.TheVariants.{Jsonb}

@@ -1,8 +1,8 @@
 -- The specification's values for the crate's types.
 use Rattle.std.specs.Prelude.{◌≡◌, ◌≤◌, ℕ, List, length, drop, true, false}
 use Rattle.std.specs.Cow.{cow_slice_items}
-use Rattle.wire_consts.specs.ColumnTypes.{column_type_number}
-use Rattle.wire_forms.specs.RawTexts.{raw_string}
+use Rattle.wire_constants.specs.ColumnTypes.{column_type_number}
+use Rattle.wire_fields.specs.RawTexts.{raw_string}
 use Rattle.rows_jsonb.specs.JsonbLayout.{format}
 use Rattle.rows_jsonb.specs.JsonbValues as seen
 use Rattle.rows_jsonb.specs.JsonbValues.{JsonbValue}

@@ -3,8 +3,8 @@
 ghost use Rattle.std.specs.Prelude.{◌≡◌, ◌⊎◌, IfOk, IfErr, Err, Some, option_map};
 ghost use Rattle.std.specs.Cow.{cow_str_bytes, IsOwnedSlice};
 ghost use Rattle.std.specs.Str.Lossy.{utf8_lossy};
-ghost use Rattle.wire_consts.specs.Numbering.{IsConstantOf};
-ghost use Rattle.wire_forms.specs.RawTexts.{raw_string};
+ghost use Rattle.wire_constants.specs.Numbering.{IsConstantOf};
+ghost use Rattle.wire_fields.specs.RawTexts.{raw_string};
 ghost use Rattle.rows_errors.specs.declared.fault.RowsError.TheVariants.{Memory};
 ghost use Rattle.rows_jsonb.specs.JsonDiffs.{json_diff_operation_number, Diff, IsDiff, operation_at, text_at, diff_value_at, diff_at};
 ghost use Rattle.rows_jsonb.specs.Items.{items_at, all_found, after_item, error_of};
@@ -19,7 +19,7 @@ use std::alloc::{AllocError, Global};
 use std::borrow::{CowSlice, CowStr};
 use thiserror::Error;
 use wire_buf::{AnySize, MyDeserialize, ParseBuf};
-use wire_forms::{LenEnc, RawBytes};
+use wire_fields::{LenEnc, RawBytes};
 
 /// What a JSON diff does.
 #[derive(Clone, Copy, Debug, PartialEq, Eq, Hash)]

@@ -7,7 +7,7 @@ use base64::engine::general_purpose::STANDARD;
 use rows_values::{Decimal, MysqlTime};
 use std::collections::BTreeMap;
 use std::fmt;
-use wire_consts::ColumnType;
+use wire_constants::ColumnType;
 
 /// A JSON document as a tree.
 #[derive(PartialEq, Drop)]

@@ -2,7 +2,7 @@
 
 ghost use Rattle.std.specs.Prelude.{◌≡◌, ◌<◌, option_map, true, false};
 ghost use Rattle.std.specs.Cow.{cow_slice_items};
-ghost use Rattle.wire_forms.specs.RawTexts.{raw_string};
+ghost use Rattle.wire_fields.specs.RawTexts.{raw_string};
 ghost use Rattle.rows_jsonb.specs.JsonbLayout.{format as format_of, key_entry_offset};
 ghost use Rattle.rows_jsonb.specs.JsonbValues.{elem, key, member, elem_up_to, key_up_to, elem_in, object_key, count_in, is_object_in};
 ghost use Rattle.rows_jsonb.specs.JsonbViews.{jsonb_value};

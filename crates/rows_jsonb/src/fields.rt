@@ -5,9 +5,9 @@ ghost use Rattle.wire_buf.specs.Encoding.{Alone};
 ghost use Rattle.rows_errors.specs.declared.fault.RowsError.TheVariants.{Jsonb};
 ghost use Rattle.std.specs.Cow.{cow_slice_items};
 ghost use Rattle.wire_buf.specs.Numbers.{IsCounted};
-ghost use Rattle.wire_forms.specs.Sevens.{IsVarLen};
-ghost use Rattle.wire_forms.specs.RawTexts.{raw_string};
-ghost use Rattle.wire_forms.specs.Texts.{varlen_string_encoded};
+ghost use Rattle.wire_fields.specs.Sevens.{IsVarLen};
+ghost use Rattle.wire_fields.specs.RawTexts.{raw_string};
+ghost use Rattle.wire_fields.specs.ByteStrings.{varlen_string_encoded};
 ghost use Rattle.rows_jsonb.specs.JsonbLayout.{format as format_of};
 ghost use Rattle.rows_jsonb.specs.JsonbValues.{JsonbValue, document, container, container_at};
 ghost use Rattle.rows_jsonb.specs.JsonbFields.{IsDocument, IsContainer};
@@ -20,7 +20,7 @@ use crate::value::Value;
 use rows_errors::RowsError;
 use std::alloc::{Allocator, Global};
 use wire_buf::{AnySize, Inner, MyDeserialize, MySerialize, ParseBuf, WireFault};
-use wire_forms::RawBytes;
+use wire_fields::RawBytes;
 
 impl<'de> MyDeserialize<'de> for Value<'de> {
     const SIZE: Option<usize> = None;

@@ -3,7 +3,7 @@
 ghost use Rattle.std.specs.Prelude.{◌≡◌, ◌<◌, ◌-◌, option_map, true, false};
 ghost use Rattle.std.specs.Cow.{cow_slice_items};
 ghost use Rattle.std.specs.Iterator.{at_most};
-ghost use Rattle.wire_forms.specs.RawTexts.{raw_string};
+ghost use Rattle.wire_fields.specs.RawTexts.{raw_string};
 ghost use Rattle.rows_jsonb.specs.JsonbLayout.{format as format_of};
 ghost use Rattle.rows_jsonb.specs.JsonbValues.{elem, key, member, entry_at_index, next_index};
 ghost use Rattle.rows_jsonb.specs.JsonbViews.{jsonb_value};

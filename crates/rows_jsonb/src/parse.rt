@@ -1,7 +1,7 @@
 //! Builds the tree of a value in a document.
 
 ghost use Rattle.std.specs.Prelude.{◌<◌, ◌^◌, ◌≡◌, true, None, IfErr, string_bytes};
-ghost use Rattle.wire_consts.specs.ColumnTypes.{column_type_number};
+ghost use Rattle.wire_constants.specs.ColumnTypes.{column_type_number};
 ghost use Rattle.rows_jsonb.specs.JsonTrees.{scalar, no_members};
 ghost use Rattle.rows_jsonb.specs.JsonbValues.{elem_in, object_key, count_in, is_object_in};
 ghost use Rattle.rows_jsonb.specs.DocumentTrees.{items, member_trees, items_read, members_read, values_read, tree_of, tree_in, container_len, bare_tree, opaque_tree, utf8};
@@ -18,7 +18,7 @@ use std::alloc::Global;
 use std::collections::BTreeMap;
 use std::str;
 use wire_buf::ParseBuf;
-use wire_consts::ColumnType;
+use wire_constants::ColumnType;
 
 /// Returns the text of a string or a key.
 fn text(alloc: Global, bytes: &[u8]) -> Result<String, RowsError>

@@ -2,7 +2,7 @@
 
 ghost use Rattle.std.specs.Prelude.{◌≡◌, ◌+◌, Some, drop, OnOk, option_map, if◌then◌else◌};
 ghost use Rattle.std.specs.Cow.{cow_slice_items};
-ghost use Rattle.wire_consts.specs.ColumnTypes.{column_type_number};
+ghost use Rattle.wire_constants.specs.ColumnTypes.{column_type_number};
 ghost use Rattle.rows_jsonb.specs.JsonbLayout.{format as format_of};
 ghost use Rattle.rows_jsonb.specs.JsonbValues.{container, json_number_at, number_size, json_value_at, value_size, literal_at, counted_at, counted_size, opaque_at, container_at, container_size, is_column_type, document, document_size};
 ghost use Rattle.rows_jsonb.specs.JsonbViews.{jsonb_value, IsConsumed};
@@ -17,8 +17,8 @@ use rows_errors::{JsonbError, RowsError, check_place};
 use std::borrow::CowSlice;
 use std::marker::PhantomData;
 use wire_buf::ParseBuf;
-use wire_consts::ColumnType;
-use wire_forms::{IntRepr, VarLen};
+use wire_constants::ColumnType;
+use wire_fields::{IntRepr, VarLen};
 
 /// Returns the column type with this number.
 fn known_type(number: u8) -> Option<ColumnType>

@@ -3,12 +3,12 @@
 ghost use Rattle.std.specs.Prelude.{◌≡◌, IfOk};
 ghost use Rattle.std.specs.Cow.{cow_slice_items, cow_str_bytes, IsOwnedSlice};
 ghost use Rattle.std.specs.Str.Lossy.{utf8_lossy};
-ghost use Rattle.wire_forms.specs.RawTexts.{raw_string};
+ghost use Rattle.wire_fields.specs.RawTexts.{raw_string};
 
 use std::alloc::{AllocError, Global};
 use std::borrow::{CowSlice, CowStr};
-use wire_consts::ColumnType;
-use wire_forms::{BareU16Bytes, RawBytes, VarLen};
+use wire_constants::ColumnType;
+use wire_fields::{BareU16Bytes, RawBytes, VarLen};
 
 /// The bytes of a string of a document, which may not be UTF-8.
 #[derive(PartialEq, Eq, Drop)]

@@ -1,7 +1,7 @@
 //! The types of JSON values, and the JSON literals. MySQL's source: `json_binary.h`.
 
 ghost use Rattle.std.specs.Prelude.{◌≡◌};
-ghost use Rattle.wire_consts.specs.Numbering.{IsConstantOf};
+ghost use Rattle.wire_constants.specs.Numbering.{IsConstantOf};
 ghost use Rattle.rows_jsonb.specs.JsonbTypes.{jsonb_type_number, literal_type_number, literal_of, jsonb_type_of, is_inlined};
 
 use crate::storage_format::StorageFormat;

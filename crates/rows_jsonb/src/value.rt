@@ -1,14 +1,14 @@
 //! JSON values, as encoded in a document.
 
 ghost use Rattle.std.specs.Prelude.{◌≡◌, IfOk, option_map};
-ghost use Rattle.wire_consts.specs.ColumnTypes.{column_type_number};
+ghost use Rattle.wire_constants.specs.ColumnTypes.{column_type_number};
 ghost use Rattle.rows_jsonb.specs.JsonbValues.{is_array_in, is_object_in, is_int_in, is_uint_in, is_double_in, element_count_in, field_type_in};
 
 use crate::complex::ComplexValue;
 use crate::storage_format::{Array, Large, Object, Small};
 use crate::text::{JsonbString, OpaqueValue};
 use std::alloc::{AllocError, Global};
-use wire_consts::ColumnType;
+use wire_constants::ColumnType;
 
 /// A value in a document. The elements of containers aren't read.
 #[derive(PartialEq, Drop)]

@@ -2,7 +2,7 @@
 use Rattle.std.proofs.Common.{◌≡◌, ℕ, false, eqb, List, [], ◌∷◌, ◌++◌, length, take, get_or, ◌<◌, ◌+◌, append_assoc, arith, ap, sym, ◌∙◌}
 use Rattle.std.proofs.lemmas.List.{length-take, take-take, take_all, take_at, map_more}
 use Rattle.rows_values.specs.Decimals.{DecimalParts}
-use Rattle.rows_values.specs.Texts.{glyphs, significant, sign_text, whole_text, fraction_text, decimal_text}
+use Rattle.rows_values.specs.PrintedDecimals.{glyphs, significant, sign_text, whole_text, fraction_text, decimal_text}
 
 pub kept_same : (a b : List ℕ) → b ≡ a → take (length a) b ≡ a
 kept_same a b e = ap (take (length a)) e ∙ take_all (length a) a (omega arith)

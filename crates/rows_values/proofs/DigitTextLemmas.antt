@@ -4,7 +4,7 @@ use Rattle.std.proofs.lemmas.List.{map-append, append-nil}
 use Rattle.std.proofs.lemmas.Bool.Decides.{leb_tells, eqb_tells}
 use Rattle.std.proofs.Math.Nat.{pow-suc, pow-le-pow_right, div-lt_iff_lt-mul, div-div-eq-div-mul}
 use Rattle.rows_values.specs.Digits.{digits_in}
-use Rattle.rows_values.specs.Texts.{glyphs, significant, sign_text}
+use Rattle.rows_values.specs.PrintedDecimals.{glyphs, significant, sign_text}
 use Rattle.rows_values.specs.PackedTexts.{digits_text, is_shown, lead, lead_piece}
 use Rattle.std.specs.List.{prefix_len}
 use Rattle.std.specs.Prelude.{nat_lt}

@@ -5,7 +5,7 @@ use Rattle.std.proofs.Output.{has_written_styled_append, has_written_styled_of_e
 use Rattle.std.specs.declared.fmt.Formatter.{Formatter}
 use Rattle.std.specs.Fmt.{HasWritten, HasWrittenStyled, IsPlainFormatter, IsDefaultSpec}
 use Rattle.std.specs.Result.{IsOk}
-use Rattle.rows_values.specs.Texts.{glyphs}
+use Rattle.rows_values.specs.PrintedDecimals.{glyphs}
 
 -- the characters of the first digits were written, and these digits remain
 pub record Shows {W : Type 0} (took : W → List ℕ → W → Type 0) (f : Formatter W) (digits rest : List ℕ) (g : Formatter W) : Type 0 where

@@ -7,14 +7,14 @@ use Rattle.std.specs.List.{AllZip}
 use Rattle.std.specs.Option.{option_eq}
 use lib.Pointwise.{pointwise, bytes_decides}
 use denote.Enum.Bare.{same_true, true_same}
-use Rattle.wire_consts.specs.contracts.column_type.ColumnType.{the_type as column_type}
+use Rattle.wire_constants.specs.contracts.column_type.ColumnType.{the_type as column_type}
 use Rattle.rows_values.specs.contracts.times.mysql_time.MysqlTimestampType.{the_type as time_type}
 use Rattle.rows_values.specs.declared.rows.column.Column.{Column}
 use Rattle.rows_values.specs.declared.rows.value.Value.{Value}
 use Rattle.rows_values.specs.declared.rows.row.Row.{Row}
 use Rattle.rows_values.specs.declared.times.mysql_time.MysqlTime.{MysqlTime}
 use Rattle.rows_values.specs.Columns.{parts_of}
-use Rattle.rows_values.specs.Rows.{values_of, columns_of, SameCell}
+use Rattle.rows_values.specs.RowValues.{values_of, columns_of, SameCell}
 use Rattle.rows_values.specs.Values.{SameValue}
 use Rattle.rows_values.specs.contracts.rows.value.ValuePartialEq.TheImpl.{ghosts as value_equality}
 use Rattle.rows_values.specs.contracts.rows.column.ColumnPartialEq.TheImpl.{ghosts as column_equality}

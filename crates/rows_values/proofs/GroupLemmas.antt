@@ -14,7 +14,7 @@ use Rattle.std.specs.Prelude.{not, ◌&&◌}
 use Rattle.std.specs.Char.{is_ascii_digit}
 use Rattle.std.specs.Int.{bytes_high_first}
 use Rattle.std.specs.Int.Digits.{number_from_digits, AllBelowBase}
-use Rattle.rows_values.specs.Texts.{digits_of, has_only_digits}
+use Rattle.rows_values.specs.PrintedDecimals.{digits_of, has_only_digits}
 use Rattle.rows_values.specs.Digits.{AreDigits, group_size, group_bytes, nines_bytes}
 
 pub below_base : (ds : List ℕ) → AreDigits ds → AllBelowBase 10 ds

@@ -5,7 +5,7 @@ use Rattle.std.specs.Io.KnownBytes.{Consumes}
 use Rattle.wire_buf.specs.declared.fault.WireFault.{WireFault}
 use Rattle.wire_buf.specs.Transfers.{FallsShort}
 use Rattle.rows_errors.specs.declared.fault.RowsError.{RowsError}
-use Rattle.rows_errors.specs.Faults.{rows_error}
+use Rattle.rows_errors.specs.ConvertedFaults.{rows_error}
 use Rattle.rows_values.specs.declared.fields.Decimal.{Decimal}
 use Rattle.rows_values.specs.Decimals.{decimal_parts, ReadsDecimal, ReadsPacked, FailsDecimal, FailsPacked, early, following}
 

@@ -4,7 +4,7 @@ use Rattle.std.proofs.lemmas.List.{take_more}
 use Rattle.std.proofs.lemmas.List.Elements.{AllZip-push}
 use Rattle.std.specs.List.{AllZip}
 use Rattle.rows_values.specs.declared.rows.value.Value.{Value}
-use Rattle.rows_values.specs.Rows.{SameCell}
+use Rattle.rows_values.specs.RowValues.{SameCell}
 
 pub copies_more : (xs ys : List (Option Value)) (i : ℕ) (x y : Option Value) → i < length xs → x ≡ get_or xs i x → SameCell x y
     → AllZip SameCell (take i xs) ys → AllZip SameCell (take (i + 1) xs) (ys ++ y ∷ [])

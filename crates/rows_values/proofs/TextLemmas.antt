@@ -6,7 +6,7 @@ use Rattle.std.specs.List.{prefix_len, list_all, before_first, after_first, posi
 use Rattle.std.specs.Char.{is_ascii_digit}
 use Rattle.rows_values.specs.Digits.{AreDigits}
 use Rattle.rows_values.specs.Decimals.{DecimalParts, only_zeros}
-use Rattle.rows_values.specs.Texts.{glyphs, significant, whole_text, fraction_text, sign_text, decimal_text, one_zero, has_minus, after_sign, digits_of, are_zeros, has_only_digits, from_digit_texts, text_value, shown_digits, shown_value}
+use Rattle.rows_values.specs.PrintedDecimals.{glyphs, significant, whole_text, fraction_text, sign_text, decimal_text, one_zero, has_minus, after_sign, digits_of, are_zeros, has_only_digits, from_digit_texts, text_value, shown_digits, shown_value}
 use Rattle.rows_values.proofs.GroupLemmas.{drop_digits}
 
 -- a single zero, or a first digit that isn't zero

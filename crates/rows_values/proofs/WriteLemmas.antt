@@ -6,7 +6,7 @@ use Rattle.std.proofs.lemmas.Bool.{and_parts}
 use Rattle.std.proofs.lemmas.List.{length-append, length-take-le, append-nil, map-append}
 use Rattle.std.proofs.Math.Seq.{take-append_seam}
 use Rattle.rows_values.specs.Digits.{side_size, digits_in, has_minus_bit}
-use Rattle.rows_values.specs.Texts.{glyphs, significant, sign_text, whole_text, fraction_text, decimal_text}
+use Rattle.rows_values.specs.PrintedDecimals.{glyphs, significant, sign_text, whole_text, fraction_text, decimal_text}
 use Rattle.rows_values.specs.Decimals.{DecimalParts, only_zeros, without_zero_groups, first_group, normalized, packed_size}
 use Rattle.rows_values.specs.Unpacked.{concat_digits, exact_digits, group_digits, nines_digits, before_digits, after_digits, valued, plain_bytes, sides_value, unpacked, optional_text}
 use Rattle.rows_values.specs.PackedTexts.{digits_text, is_shown, lead, lead_piece, zero_piece, flipped_back, Leads, Follows, FollowsOrNone, Fraction, FractionOrNone, PutsOrNone}

@@ -1,7 +1,7 @@
 -- The parts of a column's definition.
 use Rattle.std.specs.Prelude.{ℕ, List, []}
-use Rattle.wire_consts.specs.declared.column_type.ColumnType.{ColumnType}
-use Rattle.wire_consts.specs.declared.column_flags.ColumnFlags.{ColumnFlags}
+use Rattle.wire_constants.specs.declared.column_type.ColumnType.{ColumnType}
+use Rattle.wire_constants.specs.declared.column_flags.ColumnFlags.{ColumnFlags}
 use Rattle.rows_values.specs.declared.rows.column.Column.{Column}
 
 pub record ColumnParts : Type 0 where

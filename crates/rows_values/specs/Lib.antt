@@ -1,6 +1,6 @@
 pub mod Digits
 pub mod Decimals
-pub mod Texts
+pub mod PrintedDecimals
 pub mod Steps
 pub mod RemainingGroups
 pub mod Unpacked
@@ -12,4 +12,4 @@ pub mod TimeBits
 pub mod TimeTexts
 pub mod Values
 pub mod Columns
-pub mod Rows
+pub mod RowValues

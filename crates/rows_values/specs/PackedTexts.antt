@@ -1,7 +1,7 @@
 -- The steps that write the text of a decimal into a buffer from its packed bytes. Unpacked defines the text.
 use Rattle.std.specs.Prelude.{◌≡◌, ◌≤◌, ◌+◌, ℕ, List, [], ◌∷◌, ◌++◌, take, length, Bool, false, nat_lt, Option, Some, None, if◌then◌else◌}
 use Rattle.rows_values.specs.Digits.{top_flipped, signed, digits_in}
-use Rattle.rows_values.specs.Texts.{glyphs, significant, fraction_text, sign_text}
+use Rattle.rows_values.specs.PrintedDecimals.{glyphs, significant, fraction_text, sign_text}
 
 -- the last k digits of a number, as their characters
 abbrev pub digits_text : ℕ → ℕ → List ℕ

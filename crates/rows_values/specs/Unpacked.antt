@@ -3,7 +3,7 @@ use Rattle.std.specs.Prelude.{ℕ, zero, suc, ◌*◌, ◌/◌, ◌%◌, ◌-◌
 use Rattle.byteorder.specs.Endian.{big_number}
 use Rattle.rows_values.specs.Digits.{group_size, side_size, top_flipped, signed, digits_in, has_minus_bit}
 use Rattle.rows_values.specs.Decimals.{DecimalParts, packed_size, normalized}
-use Rattle.rows_values.specs.Texts.{decimal_text}
+use Rattle.rows_values.specs.PrintedDecimals.{decimal_text}
 use Rattle.rows_errors.specs.declared.fault.RowsError.{RowsError}
 use Rattle.rows_errors.specs.declared.fault.RowsError.TheVariants.{EndOfBody, Decimal as BadDecimal}
 

@@ -3,7 +3,7 @@
 ghost use Rattle.std.specs.Prelude.{◌≡◌, ◌++◌, OnOk, OnErr, length, take};
 ghost use Rattle.rows_values.specs.Digits.{AreDigits};
 ghost use Rattle.rows_values.specs.Decimals.{decimal_parts};
-ghost use Rattle.rows_values.specs.Texts.{decimal_text, sign_text, glyphs, whole_text, fraction_text};
+ghost use Rattle.rows_values.specs.PrintedDecimals.{decimal_text, sign_text, glyphs, whole_text, fraction_text};
 
 use crate::display::significant;
 use crate::fields::Decimal;

@@ -4,7 +4,7 @@ ghost use Rattle.std.specs.Prelude.{◌≡◌, ◌≤◌, ◌==◌, Some, length
 ghost use Rattle.std.specs.Fmt.{WritesStyledOnOk};
 ghost use Rattle.rows_values.specs.Digits.{AreDigits};
 ghost use Rattle.rows_values.specs.Decimals.{decimal_parts};
-ghost use Rattle.rows_values.specs.Texts.{decimal_text, sign_text, glyphs, whole_text, fraction_text, significant as significant_of};
+ghost use Rattle.rows_values.specs.PrintedDecimals.{decimal_text, sign_text, glyphs, whole_text, fraction_text, significant as significant_of};
 
 use crate::digits::leading;
 use crate::fields::Decimal;

@@ -1,3 +1,5 @@
+//! The fields of times, dates and decimals.
+
 ghost use Rattle.std.specs.Prelude.{◌≤◌, ◌<◌, ◌+◌, length};
 ghost use Rattle.rows_values.specs.Digits.{AreDigits};
 

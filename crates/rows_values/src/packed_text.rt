@@ -4,7 +4,7 @@ ghost use Rattle.std.specs.Prelude.{◌≡◌, ◌≤◌, ◌<◌, ◌+◌, ◌-
 ghost use Rattle.byteorder.specs.Endian.{big_number};
 ghost use Rattle.rows_values.specs.Digits.{side_size as side_size_of, digits_in};
 ghost use Rattle.rows_values.specs.Unpacked.{before_digits, after_digits, packed_text};
-ghost use Rattle.rows_values.specs.Texts.{sign_text};
+ghost use Rattle.rows_values.specs.PrintedDecimals.{sign_text};
 ghost use Rattle.rows_values.specs.PackedTexts.{flipped_back, is_shown, lead_piece, zero_piece, LeadsOrNone, FollowsOrNone, FractionOrNone, PutsOrNone};
 
 use crate::digit_text::{digit_count, put_byte, put_last_digits};

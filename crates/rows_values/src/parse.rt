@@ -6,7 +6,7 @@ ghost use Rattle.std.specs.List.{before_first, after_first, list_all};
 ghost use Rattle.std.specs.Char.{is_ascii_digit};
 ghost use Rattle.rows_values.specs.Decimals.{decimal_parts};
 ghost use Rattle.rows_values.specs.declared.parse.ParseDecimalError.TheVariants.{Memory, Text};
-ghost use Rattle.rows_values.specs.Texts.{text_value, from_digit_texts as sequence_as, has_only_digits as is_sequence_as, one_zero as one_zero_of, has_minus, after_sign, digits_of as digits_in, are_zeros as are_zeros_in, are_allowed as are_allowed_in, IsTextFault};
+ghost use Rattle.rows_values.specs.PrintedDecimals.{text_value, from_digit_texts as sequence_as, has_only_digits as is_sequence_as, one_zero as one_zero_of, has_minus, after_sign, digits_of as digits_in, are_zeros as are_zeros_in, are_allowed as are_allowed_in, IsTextFault};
 
 use crate::digits::leading;
 use crate::fields::Decimal;

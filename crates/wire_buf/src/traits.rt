@@ -1,3 +1,5 @@
+//! The traits of values that are encoded in bytes.
+
 ghost use Rattle.std.specs.Prelude.{◌≡◌, ◌⊎◌, ⊤, List, ℕ, length, OnOk, IfOk, IfErr, Option, Some, None};
 ghost use Rattle.wire_buf.specs.Encoding.{Reads, Lacks, HasSize, HasRoom};
 ghost use Rattle.wire_buf.specs.Writing.{WritesField, WriteFails};

@@ -5,7 +5,7 @@ use Rattle.wire_packets.specs.Packets.{packets}
 use Rattle.wire_packets.specs.Reading.{payload_len_at, has_chunk_of, chunk_fault}
 use Rattle.wire_packets.specs.Framing.{framings, sequence_id_after, chunks, max_chunk_len}
 use Rattle.wire_packets.specs.CodecState.{SplitsInto, HasRead, Halts, Stops, Waits, GivesPacket, sequence_id_after_chunks, codec_limit}
-use Rattle.wire_packets.specs.Pieces.{Drains, joined_pieces, IsReading}
+use Rattle.wire_packets.specs.StreamPieces.{Drains, joined_pieces, IsReading}
 use Rattle.wire_packets.specs.declared.packet_codec.PacketCodec.{PacketCodec}
 use Rattle.wire_packets.specs.declared.error.PacketCodecError.{PacketCodecError}
 use Rattle.wire_packets.specs.declared.error.PacketCodecError.TheVariants.{Memory, PacketTooLarge, PacketsOutOfSync}

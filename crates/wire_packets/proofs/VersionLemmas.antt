@@ -9,7 +9,7 @@ use Rattle.std.proofs.Math.Seq.{drop-append_seam}
 use mathlib.Core.Bool.{true≢false}
 use Rattle.std.proofs.lemmas.List.Sums.{take_while-cons, fold_push}
 use Rattle.wire_packets.specs.Version.{version_digits_number, leading_digits, number_at, after_point, numbers_at, IsVersionNumber, IsVersion}
-use Rattle.wire_packets.specs.Laws.{VersionsAreTheirNumbers}
+use Rattle.wire_packets.specs.PacketLaws.{VersionsAreTheirNumbers}
 
 -- the elements before the first that fails, by its index
 pub take_while-at : (p : ℕ → Bool) (x : List ℕ) (k : ℕ) → k ≤ length x → ((j : ℕ) → j < k → p (get_or x j 0) ≡ true) → (k < length x → p (get_or x k 0) ≡ false) → take_while p x ≡ take k x

@@ -4,6 +4,6 @@ pub mod NextChunk
 pub mod Chunks
 pub mod Packets
 pub mod CodecState
-pub mod Pieces
-pub mod Laws
+pub mod StreamPieces
+pub mod PacketLaws
 pub mod Version

@@ -1,3 +1,5 @@
+//! Reading one chunk of a packet.
+
 ghost use Rattle.std.specs.Prelude.{◌≡◌, ◌+◌, ◌≤◌, ◌++◌, length, OnOk, IfOk, IfSome};
 ghost use Rattle.wire_packets.specs.Reading.{payload_len_at};
 ghost use Rattle.wire_packets.specs.Chunks.{held_header, EatsHeader, DecodesChunk};
@@ -5,7 +7,7 @@ ghost use Rattle.wire_packets.specs.Chunks.{held_header, EatsHeader, DecodesChun
 use crate::error::PacketCodecError;
 use crate::header::{PACKET_HEADER_LEN, is_over_limit, read_header};
 use bytes::BytesMut;
-use wire_consts::MAX_PAYLOAD_LEN;
+use wire_constants::MAX_PAYLOAD_LEN;
 
 /// Whether a chunk ends its packet, and the chunk's sequence id.
 #[derive(Clone, Copy, Debug, PartialEq, Eq)]

@@ -1,3 +1,5 @@
+//! The errors of packets.
+
 ghost use Rattle.std.specs.Prelude.{◌≡◌};
 ghost use Rattle.wire_packets.specs.declared.error.PacketCodecError.TheVariants.{Io, Memory};
 

@@ -1,10 +1,12 @@
+//! Writing a payload as chunks.
+
 ghost use Rattle.std.specs.Prelude.{◌≡◌, ◌≤◌, ◌+◌, ◌*◌, ◌++◌, length, OnOk, OnErr, IfOk, IsOkUnless};
 ghost use Rattle.wire_packets.specs.Framing.{max_chunk_len, chunk, framing, next_sequence_id};
 
 use crate::error::PacketCodecError;
 use crate::header::PACKET_HEADER_LEN;
 use bytes::BytesMut;
-use wire_consts::MAX_PAYLOAD_LEN;
+use wire_constants::MAX_PAYLOAD_LEN;
 
 /// Appends the framing of a payload to `dst`. Returns the sequence id of the chunk after it.
 ///

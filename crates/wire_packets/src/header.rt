@@ -1,3 +1,5 @@
+//! The header of a chunk.
+
 ghost use Rattle.std.specs.Prelude.{◌≡◌, ◌<◌, ◌≤◌, ◌+◌, ◌++◌, ℕ, List, ◌↔◌, true, IsTrue, IsNone, IfSome, None, Some, length};
 ghost use Rattle.wire_packets.specs.Framing.{max_chunk_len, chunk};
 ghost use Rattle.wire_packets.specs.NextChunk.{IsNextChunk, HasHeader};
@@ -6,7 +8,7 @@ ghost use Rattle.wire_packets.specs.Reading.{has_chunk_of, payload_len_at, chunk
 
 use crate::error::PacketCodecError;
 use byteorder::{ByteOrder, LittleEndian};
-use wire_consts::MAX_PAYLOAD_LEN;
+use wire_constants::MAX_PAYLOAD_LEN;
 
 /// The length of a chunk's header, in bytes: three bytes of length, and the sequence id.
 pub const PACKET_HEADER_LEN: usize = 4;

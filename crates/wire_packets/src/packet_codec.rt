@@ -1,3 +1,5 @@
+//! Packets over a stream that is cut anywhere.
+
 ghost use Rattle.std.specs.Prelude.{◌≡◌, ℕ, ◌+◌, ◌<◌, ◌≤◌, ◌++◌, List, [], true, length, take, drop, OnOk, OnErr, IfOk, IfErr, IfSome, None, Some, Err, IsErrOf, ◌↔◌, ◌⊎◌};
 ghost use Rattle.wire_packets.specs.Framing.{framing, next_sequence_id};
 
@@ -5,7 +7,7 @@ use crate::error::PacketCodecError;
 use crate::framing::packet_to_chunks;
 use crate::header::{NextChunk, PACKET_HEADER_LEN, next_chunk, whole_packet_len};
 use bytes::BytesMut;
-use wire_consts::{DEFAULT_MAX_ALLOWED_PACKET, MAX_PAYLOAD_LEN};
+use wire_constants::{DEFAULT_MAX_ALLOWED_PACKET, MAX_PAYLOAD_LEN};
 
 /// Writes payloads as packets, and reads packets from a stream that arrives in pieces of any size.
 ///

@@ -1,6 +1,8 @@
+//! The packets of a list of pieces.
+
 ghost use Rattle.std.specs.Prelude.{◌≡◌, ℕ, List, [], ◌++◌, IfErr, IfSome, IfNone, Some};
 ghost use Rattle.wire_packets.specs.CodecState.{HasRead, codec_limit, codec_fault};
-ghost use Rattle.wire_packets.specs.Pieces.{TakesPackets, IsReading, DrainsStream, vec_items, joined_pieces};
+ghost use Rattle.wire_packets.specs.StreamPieces.{TakesPackets, IsReading, DrainsStream, vec_items, joined_pieces};
 
 use crate::error::PacketCodecError;
 use crate::packet_codec::PacketCodec;

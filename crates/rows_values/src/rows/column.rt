@@ -1,3 +1,5 @@
+//! The definition of a column.
+
 ghost use Rattle.std.specs.Prelude.{◌≡◌, IfOk};
 ghost use Rattle.std.specs.Str.Lossy.{utf8_lossy};
 ghost use Rattle.std.specs.Cow.{cow_str_bytes};
@@ -6,7 +8,7 @@ ghost use Rattle.rows_values.specs.Columns.{parts_of, parts_of_type};
 use std::alloc::{AllocError, Global};
 use std::borrow::CowStr;
 use std::str;
-use wire_consts::{ColumnFlags, ColumnType};
+use wire_constants::{ColumnFlags, ColumnType};
 
 /// The definition of a column, as far as a binary log has it.
 #[derive(Debug, PartialEq, Eq, Drop)]

@@ -1,7 +1,9 @@
+//! A row: its columns and their values.
+
 ghost use Rattle.std.specs.Prelude.{◌≡◌, option_copied, length, slice_get, IfOk, Option, Some, None};
 ghost use Rattle.std.specs.List.{AllZip};
 ghost use Rattle.std.specs.Rc.{rc_slice_items};
-ghost use Rattle.rows_values.specs.Rows.{values_of, value_at, columns_of, SameCell};
+ghost use Rattle.rows_values.specs.RowValues.{values_of, value_at, columns_of, SameCell};
 
 use crate::rows::{Column, Value};
 use std::alloc::{AllocError, Global};

@@ -1,3 +1,5 @@
+//! The value of a cell.
+
 ghost use Rattle.std.specs.Prelude.{◌≡◌, IfOk};
 ghost use Rattle.rows_values.specs.Values.{SameValue, span_value, date_value};
 

@@ -1,3 +1,5 @@
+//! MySQL's `MYSQL_TIME`, and its text.
+
 ghost use Rattle.std.specs.Prelude.{◌≡◌};
 ghost use Rattle.rows_values.specs.declared.times.mysql_time.MysqlTimestampType.TheVariants.{MYSQL_TIMESTAMP_DATE, MYSQL_TIMESTAMP_DATETIME};
 ghost use Rattle.rows_values.specs.TimeFields.{packed_whole, packed_micros, span_fields, date_fields};

@@ -1,4 +1,4 @@
-use Rattle.feed_events.proofs.DescriptionLemmas.{description_one}
+use Rattle.feed_checks.proofs.DescriptionLemmas.{description_one}
 use Rattle.binlog_feed.proofs.check_laws.descriptions_are_read.Goals as goal
 
 pub returns : goal.returns

@@ -1,4 +1,4 @@
-use Rattle.feed_events.proofs.PartLemmas.{event_here, event_one}
+use Rattle.feed_checks.proofs.PartLemmas.{event_here, event_one}
 use Rattle.binlog_feed.proofs.check_laws.parts_are_those_of_events.Goals as goal
 
 pub returns-clause-one : goal.returns-clause-one

@@ -1,4 +1,4 @@
-use Rattle.feed_events.proofs.BodyLemmas.{query_body, rotate_body, xid_body, table_map_body, rows_event_body}
+use Rattle.feed_checks.proofs.BodyLemmas.{query_body, rotate_body, xid_body, table_map_body, rows_event_body}
 use Rattle.binlog_feed.proofs.kind_laws.bodies_are_read.Goals as goal
 
 pub returns-clause-query : goal.returns-clause-query

@@ -1,4 +1,4 @@
-use Rattle.feed_events.proofs.KnownBodyLemmas.{description_bodies}
+use Rattle.feed_checks.proofs.KnownBodyLemmas.{description_bodies}
 use Rattle.binlog_feed.proofs.GtidFieldLemmas.{gtid_found, gtid_there}
 use Rattle.binlog_feed.proofs.laws.gtids_are_read.Goals as goal
 

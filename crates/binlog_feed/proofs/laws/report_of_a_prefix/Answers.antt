@@ -1,4 +1,4 @@
-use Rattle.feed_rules.proofs.PrefixLemmas.{file_transactions-append}
+use Rattle.feed_transactions.proofs.PrefixLemmas.{file_transactions-append}
 use Rattle.binlog_feed.proofs.laws.report_of_a_prefix.Goals as goal
 
 pub returns : goal.returns

@@ -1,7 +1,7 @@
 use Rattle.std.proofs.Common.{sym, subst}
-use Rattle.feed_streams.specs.Serving.{Answer}
-use Rattle.feed_streams.specs.ServerLaws.{IsOfTheFile}
-use Rattle.feed_streams.proofs.FieldLemmas.{same-request, answered, answer-of-file}
+use Rattle.feed_replication.specs.Serving.{Answer}
+use Rattle.feed_replication.specs.ServerLaws.{IsOfTheFile}
+use Rattle.feed_replication.proofs.FieldLemmas.{same-request, answered, answer-of-file}
 use Rattle.binlog_feed.proofs.laws.requests_are_their_fields.Goals as goal
 
 pub returns-clause-equal : goal.returns-clause-equal

@@ -1,4 +1,4 @@
-use Rattle.feed_events.proofs.EventLemmas.{events-law, events-seen}
+use Rattle.feed_checks.proofs.EventLemmas.{events-law, events-seen}
 use Rattle.binlog_feed.proofs.report_laws.events_are_longest.Goals as goal
 
 pub returns-clause-whole : goal.returns-clause-whole

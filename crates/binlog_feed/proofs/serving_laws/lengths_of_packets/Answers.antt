@@ -1,8 +1,8 @@
 use Rattle.std.proofs.Common.{arith}
-use Rattle.feed_streams.specs.declared.format.PayloadFormat.TheVariants.{Plain, SemiSync}
-use Rattle.feed_streams.specs.Streams.{payload_of}
-use Rattle.feed_streams.specs.Serving.{closing_payload}
-use Rattle.feed_streams.proofs.RequestLemmas.{framing-length}
+use Rattle.feed_replication.specs.declared.format.PayloadFormat.TheVariants.{Plain, SemiSync}
+use Rattle.feed_replication.specs.Streams.{payload_of}
+use Rattle.feed_replication.specs.Serving.{closing_payload}
+use Rattle.feed_replication.proofs.RequestLemmas.{framing-length}
 use Rattle.binlog_feed.proofs.serving_laws.lengths_of_packets.Goals as goal
 
 pub returns-clause-plain : goal.returns-clause-plain

@@ -1,4 +1,4 @@
-use Rattle.feed_streams.proofs.FileLemmas.{requested_is, is_requested}
+use Rattle.feed_replication.proofs.FileLemmas.{requested_is, is_requested}
 use Rattle.binlog_feed.proofs.serving_laws.requests_are_computed.Goals as goal
 
 pub returns : goal.returns

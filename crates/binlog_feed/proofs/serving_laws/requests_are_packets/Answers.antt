@@ -1,4 +1,4 @@
-use Rattle.feed_streams.proofs.RequestLemmas.{packet_is, packet_from}
+use Rattle.feed_replication.proofs.RequestLemmas.{packet_is, packet_from}
 use Rattle.binlog_feed.proofs.serving_laws.requests_are_packets.Goals as goal
 
 pub returns : goal.returns

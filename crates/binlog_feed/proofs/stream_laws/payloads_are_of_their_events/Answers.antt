@@ -1,4 +1,4 @@
-use Rattle.feed_streams.proofs.StreamLemmas.{payload-holds, event-back}
+use Rattle.feed_replication.proofs.StreamLemmas.{payload-holds, event-back}
 use Rattle.binlog_feed.proofs.stream_laws.payloads_are_of_their_events.Goals as goal
 
 pub returns : goal.returns

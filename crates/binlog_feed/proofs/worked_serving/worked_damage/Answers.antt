@@ -3,15 +3,15 @@ use Rattle.wire_buf.specs.LenencSplit.{split_number, split_lenenc}
 use Rattle.wire_packets.specs.Framing.{slice_of, chunks, framings, sequence_id_after}
 use Rattle.wire_packets.specs.Packets.{payload_in, packets_in}
 use Rattle.wire_packets.specs.Version.{number_at, after_point, numbers_at}
-use Rattle.feed_events.specs.Bodies.{rotate_in, table_map_in}
-use Rattle.feed_events.specs.Events.{parts, description_of, in_force}
-use Rattle.feed_events.specs.Kinds.{kind_by}
-use Rattle.feed_events.specs.Damage.{frame_fault, algorithm_fault, checksum_fault, size_fault, damage_of}
-use Rattle.feed_rules.specs.Rules.{up_to_fault, fault_after}
-use Rattle.feed_events.specs.LogFormat.{events_in}
-use Rattle.feed_streams.specs.RequestedPackets.{payload_of_packet}
-use Rattle.feed_streams.specs.Positions.{events_within, is_event_boundary}
-use Rattle.feed_streams.specs.Serving.{damage_before, rejection_or_fault, answer}
+use Rattle.feed_checks.specs.BodyReaders.{rotate_in, table_map_in}
+use Rattle.feed_checks.specs.EventFields.{parts, description_of, in_force}
+use Rattle.feed_checks.specs.Kinds.{kind_by}
+use Rattle.feed_checks.specs.Damage.{frame_fault, algorithm_fault, checksum_fault, size_fault, damage_of}
+use Rattle.feed_transactions.specs.Rules.{up_to_fault, fault_after}
+use Rattle.feed_checks.specs.LogFormat.{events_in}
+use Rattle.feed_replication.specs.RequestedPackets.{payload_of_packet}
+use Rattle.feed_replication.specs.Positions.{events_within, is_event_boundary}
+use Rattle.feed_replication.specs.Serving.{damage_before, rejection_or_fault, answer}
 use Rattle.binlog_feed.proofs.worked_serving.worked_damage.Goals as goal
 
 pub returns-clause-checksummed : goal.returns-clause-checksummed

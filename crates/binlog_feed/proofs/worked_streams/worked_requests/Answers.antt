@@ -1,6 +1,6 @@
 use Rattle.std.proofs.Common.{refl}
 use Rattle.wire_packets.specs.Framing.{slice_of, chunks}
-use Rattle.feed_streams.specs.Requests.{dump_request}
+use Rattle.feed_replication.specs.Requests.{dump_request}
 use Rattle.binlog_feed.proofs.worked_streams.worked_requests.Goals as goal
 
 pub returns : goal.returns

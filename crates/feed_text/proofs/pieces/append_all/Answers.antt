@@ -1,6 +1,6 @@
 use Rattle.std.proofs.Common.{◌++◌, ap, ◌∙◌, arith}
 use Rattle.std.proofs.lemmas.List.{take_all}
-use Rattle.feed_text.specs.Pieces.{pieces_text}
+use Rattle.feed_text.specs.TextPieces.{pieces_text}
 use Rattle.feed_text.proofs.PieceLemmas.{piece_put}
 use Rattle.feed_text.proofs.pieces.append_all.Goals as goal
 

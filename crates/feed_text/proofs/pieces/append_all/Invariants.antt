@@ -1,5 +1,5 @@
 use Rattle.std.proofs.Common.{◌≡◌, ◌++◌, take}
-use Rattle.feed_text.specs.Pieces.{pieces_text}
+use Rattle.feed_text.specs.TextPieces.{pieces_text}
 use Rattle.feed_text.proofs.pieces.append_all.Given as goal
 
 -- the first pieces are written

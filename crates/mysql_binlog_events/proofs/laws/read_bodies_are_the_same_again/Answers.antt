@@ -1,5 +1,5 @@
 use Rattle.std.proofs.Common.{refl}
-use Rattle.rows_meta.proofs.MapLawLemmas.{map_whole}
+use Rattle.rows_table_map.proofs.MapLawLemmas.{map_whole}
 use Rattle.events_bodies.proofs.BodyLemmas.{incident_whole}
 use Rattle.events_queries.proofs.QueryLemmas.{query_whole}
 use Rattle.events_bodies.proofs.LoadQueryLemmas.{load_query_whole}

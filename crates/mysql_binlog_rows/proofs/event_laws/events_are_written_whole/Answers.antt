@@ -1,4 +1,4 @@
-use Rattle.rows_events.proofs.WritingLemmas.{written_whole}
+use Rattle.rows_event_body.proofs.WritingLemmas.{written_whole}
 use Rattle.mysql_binlog_rows.proofs.event_laws.events_are_written_whole.Goals as goal
 
 pub returns : goal.returns

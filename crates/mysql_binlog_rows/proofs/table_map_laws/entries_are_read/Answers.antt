@@ -1,5 +1,5 @@
-use Rattle.rows_meta.proofs.LawLemmas.{number-law, string-law, pair-law, tagged-law}
-use Rattle.rows_meta.proofs.MemberLawLemmas.{members-law}
+use Rattle.rows_table_map.proofs.LawLemmas.{number-law, string-law, pair-law, tagged-law}
+use Rattle.rows_table_map.proofs.MemberLawLemmas.{members-law}
 use Rattle.mysql_binlog_rows.proofs.table_map_laws.entries_are_read.Goals as goal
 
 pub returns-clause-numbers : goal.returns-clause-numbers

@@ -1,9 +1,9 @@
-use Rattle.rows_meta.specs.Entries.{NumberEncoding, StringEncoding, PairEncoding, lenenc_at, string_at, pair_at}
-use Rattle.rows_meta.specs.EntryErrors.{NumberEntryFails, StringEntryFails, PairEntryFails}
-use Rattle.rows_meta.proofs.EntryLemmas.{number-takes, string-takes, pair-takes}
-use Rattle.rows_meta.proofs.LawLemmas.{number-law, string-law, pair-law}
+use Rattle.rows_table_map.specs.Entries.{NumberEncoding, StringEncoding, PairEncoding, lenenc_at, string_at, pair_at}
+use Rattle.rows_table_map.specs.EntryErrors.{NumberEntryFails, StringEntryFails, PairEntryFails}
+use Rattle.rows_table_map.proofs.EntryLemmas.{number-takes, string-takes, pair-takes}
+use Rattle.rows_table_map.proofs.LawLemmas.{number-law, string-law, pair-law}
 use Rattle.mysql_binlog_rows.proofs.EntryErrorLemmas.{number-failed, number-why, string-failed, string-why, pair-failed, pair-why}
-use Rattle.rows_meta.proofs.ItemLemmas.{items-law}
+use Rattle.rows_table_map.proofs.ItemLemmas.{items-law}
 use Rattle.mysql_binlog_rows.proofs.table_map_laws.lists_are_read.Goals as goal
 
 pub returns-clause-numbers : goal.returns-clause-numbers

@@ -1,6 +1,6 @@
 use Rattle.std.proofs.Common.{◌++◌, length, take, refl, sym, ap, ◌∙◌}
 use Rattle.std.proofs.lemmas.List.{append-nil, take_all}
-use Rattle.rows_values.specs.Texts.{glyphs}
+use Rattle.rows_values.specs.PrintedDecimals.{glyphs}
 use Rattle.rows_values.proofs.AppendLemmas.{kept_same, kept_front, kept_more, glyphs_more}
 use Rattle.rows_values.proofs.append.append_glyphs.Goals as goal
 

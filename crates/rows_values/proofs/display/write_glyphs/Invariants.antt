@@ -1,5 +1,5 @@
 use Rattle.std.proofs.Common.{◌≡◌, length, take}
-use Rattle.rows_values.specs.Texts.{glyphs}
+use Rattle.rows_values.specs.PrintedDecimals.{glyphs}
 use Rattle.rows_values.proofs.display.write_glyphs.Given as goal
 
 -- the characters so far

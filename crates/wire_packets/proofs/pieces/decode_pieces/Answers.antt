@@ -1,7 +1,7 @@
 use Rattle.std.proofs.Common.{ℕ, List, [], Vec, None, take, refl, ap, sym, subst, ◌∙◌, arith}
 use Rattle.std.specs.declared.alloc.Global.{Global}
 use Rattle.wire_packets.specs.CodecState.{codec_limit}
-use Rattle.wire_packets.specs.Pieces.{Drains, IsReading, vec_items, joined_pieces}
+use Rattle.wire_packets.specs.StreamPieces.{Drains, IsReading, vec_items, joined_pieces}
 use Rattle.wire_packets.proofs.PieceLemmas.{drains_none, drains_from, stream_more, stream_all, drains_reading, stops_at_piece}
 use Rattle.wire_packets.proofs.pieces.decode_pieces.Goals as goal
 

@@ -1,6 +1,6 @@
 use Rattle.std.proofs.Common.{◌≡◌, ℕ, [], take}
 use Rattle.wire_packets.specs.CodecState.{HasRead, codec_limit}
-use Rattle.wire_packets.specs.Pieces.{vec_items, joined_pieces, Drains}
+use Rattle.wire_packets.specs.StreamPieces.{vec_items, joined_pieces, Drains}
 use Rattle.wire_packets.proofs.pieces.decode_pieces.Given as goal
 
 abbrev pub invariant-loop-piece : goal.invariant-loop-piece

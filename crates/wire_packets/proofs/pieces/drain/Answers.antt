@@ -2,7 +2,7 @@ use Rattle.std.proofs.Common.{◌≡◌, ℕ, List, [], ◌++◌, ◌∷◌, Boo
 use Rattle.std.specs.declared.alloc.Global.{Global}
 use Rattle.std.proofs.lemmas.List.{map_push}
 use Rattle.wire_packets.specs.CodecState.{Decodes, Stops, codec_limit}
-use Rattle.wire_packets.specs.Pieces.{vec_items}
+use Rattle.wire_packets.specs.StreamPieces.{vec_items}
 use Rattle.wire_packets.proofs.PieceLemmas.{stops_for_memory, drained, pushed}
 use Rattle.wire_packets.proofs.pieces.drain.Goals as goal
 

@@ -1,6 +1,6 @@
 use Rattle.std.proofs.Common.{◌≡◌, ℕ, List, length}
 use Rattle.wire_packets.specs.CodecState.{HasRead, codec_limit}
-use Rattle.wire_packets.specs.Pieces.{vec_items}
+use Rattle.wire_packets.specs.StreamPieces.{vec_items}
 use Rattle.wire_packets.proofs.pieces.drain.Given as goal
 
 abbrev pub invariant-loop-is_whole : goal.invariant-loop-is_whole

@@ -1,6 +1,6 @@
 use Rattle.std.proofs.Common.{sym, subst}
 use Rattle.std.specs.List.{AllZip}
-use Rattle.rows_values.specs.Rows.{SameCell}
+use Rattle.rows_values.specs.RowValues.{SameCell}
 use Rattle.rows_values.proofs.RowLemmas.{copies_more}
 use Rattle.rows_values.proofs.rows.row.Row.clone.Goals as goal
 

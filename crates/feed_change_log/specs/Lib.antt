@@ -1,0 +1,9 @@
+pub mod KeptTables
+pub mod KeptChanges
+pub mod ChangeViews
+pub mod CheckedRows
+pub mod CommittedLists
+pub mod Stops
+pub mod Filters
+pub mod ChangeLogs
+pub mod ChangeLaws

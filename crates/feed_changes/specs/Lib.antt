@@ -1,9 +1,0 @@
-pub mod KeptTables
-pub mod KeptChanges
-pub mod ChangeViews
-pub mod CheckedRows
-pub mod CommittedLists
-pub mod Stops
-pub mod Filters
-pub mod ChangeLogs
-pub mod Laws

@@ -1,0 +1,17 @@
+pub mod PastLists
+pub mod Readers
+pub mod BodyReaders
+pub mod EventFields
+pub mod Kinds
+pub mod BodiesOfMaps
+pub mod KindViews
+pub mod Verdicts
+pub mod Damage
+pub mod Sums
+pub mod SplitEvents
+pub mod UsualDescriptions
+pub mod HeldDescriptions
+pub mod EventCheckers
+pub mod LogFormat
+pub mod MagicNumbers
+pub mod ReadVerdicts

@@ -1,6 +1,0 @@
-pub mod Words
-pub mod CommitLines
-pub mod Kept
-pub mod LineStarts
-pub mod Worked
-pub mod Keepers

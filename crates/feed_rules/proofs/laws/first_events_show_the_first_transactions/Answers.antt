@@ -1,5 +1,0 @@
-use Rattle.feed_rules.proofs.RuleLemmas.{shown-append}
-use Rattle.feed_rules.proofs.laws.first_events_show_the_first_transactions.Goals as goal
-
-pub returns : goal.returns
-returns c = shown-append

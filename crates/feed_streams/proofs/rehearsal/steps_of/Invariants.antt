@@ -1,6 +1,0 @@
-use Rattle.std.proofs.Common.{◌≡◌, ◌++◌, map, drop}
-use Rattle.feed_streams.specs.Rehearsing.{step_of}
-use Rattle.feed_streams.proofs.rehearsal.steps_of.Given as goal
-
-abbrev pub invariant-loop-count : goal.invariant-loop-count
-invariant-loop-count l = record { all : l.steps.items ++ map (step_of l.size) (drop l.count-index l.counts) ≡ map (step_of l.size) l.counts }

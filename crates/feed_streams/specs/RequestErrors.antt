@@ -1,8 +1,0 @@
--- The names that the program prints for errors of making a request.
-use Rattle.std.specs.Prelude.{ℕ, List, codes}
-use Rattle.feed_streams.specs.declared.requests.RequestError.{RequestError}
-use Rattle.feed_streams.specs.declared.requests.RequestError.TheVariants.{NameTooLong, Memory}
-
-abbrev pub request_error_name : RequestError → List ℕ
-request_error_name NameTooLong = codes "NameTooLong"
-request_error_name Memory = codes "Memory"

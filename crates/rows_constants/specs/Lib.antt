@@ -1,0 +1,4 @@
+pub mod FlagTables
+pub mod EventTypes
+pub mod MetadataTypes
+pub mod BinlogVersions

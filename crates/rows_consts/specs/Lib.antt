@@ -1,4 +1,0 @@
-pub mod FlagTables
-pub mod EventTypes
-pub mod MetadataTypes
-pub mod Constants

@@ -1,8 +1,0 @@
-use Rattle.std.proofs.Common.{◌≡◌}
-use Rattle.rows_meta.specs.Extracted.{extracted}
-use Rattle.rows_meta.specs.MetadataViews.{fields_left, extracted_view}
-use Rattle.rows_meta.proofs.ExtractLemmas.{onward}
-use Rattle.rows_meta.proofs.extractor.OptionalMetaExtractor.new.Given as goal
-
-abbrev pub invariant-loop-field : goal.invariant-loop-field
-invariant-loop-field l = onward (extracted_view l.found) (fields_left l.field-iterator) ≡ extracted (fields_left l.fn.fields)

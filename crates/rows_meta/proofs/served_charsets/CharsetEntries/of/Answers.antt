@@ -1,5 +1,0 @@
-use Rattle.rows_meta.proofs.ServedLemmas.{entries-are}
-use Rattle.rows_meta.proofs.served_charsets.CharsetEntries.of.Goals as goal
-
-pub returns : goal.returns
-returns c = entries-are _ _ _ _ c.indexed_of.ensures c.each_of.ensures

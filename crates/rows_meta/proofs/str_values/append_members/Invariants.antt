@@ -1,7 +1,0 @@
-use Rattle.std.proofs.Common.{map, take}
-use Rattle.rows_meta.specs.MetadataViews.{value_view}
-use Rattle.rows_meta.proofs.MemberWriteLemmas.{WritesStrings}
-use Rattle.rows_meta.proofs.str_values.append_members.Given as goal
-
-abbrev pub invariant-loop-value : goal.invariant-loop-value
-invariant-loop-value g l = WritesStrings (map value_view (take l.value-index l.values)) l.initial.buf.items l.buf.items

@@ -1,9 +1,0 @@
-use Rattle.std.proofs.lemmas.Result.{on_ok_weaker}
-use Rattle.rows_meta.proofs.FieldLemmas.{pair_same}
-use Rattle.rows_meta.proofs.writing.put_pair.Goals as goal
-
-pub returns-clause-ok : goal.returns-clause-ok
-returns-clause-ok g c =
-    on_ok_weaker c.serialize.result
-    (λ h. pair_same _ _ _ _ c.new.ensures c.new-2.ensures (record { bytes = h.bytes; is = h.is; appended = h.appended; encodes = h.encodes; least = h.least }))
-    c.serialize.ensures.ok

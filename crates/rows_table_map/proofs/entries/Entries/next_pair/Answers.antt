@@ -1,0 +1,14 @@
+use Rattle.std.proofs.Common.{sym}
+use Rattle.rows_table_map.specs.Entries.{pair_at}
+use Rattle.rows_table_map.proofs.EntryLemmas.{pair-takes}
+use Rattle.rows_table_map.proofs.ListLemmas.{items-none, items-ok, items-err}
+use Rattle.rows_table_map.proofs.entries.Entries.next_pair.Goals as goal
+
+pub returns-then-is_empty : goal.returns-then-is_empty
+returns-then-is_empty c = items-none pair_at pair-takes _ c.if-is_empty.ensures
+
+pub returns-in-Ok : goal.returns-in-Ok
+returns-in-Ok c = items-ok pair_at pair-takes _ _ (sym c.in-Ok.ensures)
+
+pub returns-in-Err : goal.returns-in-Err
+returns-in-Err c = items-err pair_at pair-takes _ _ c.if-is_empty.ensures (sym c.in-Err.ensures)

@@ -1,0 +1,10 @@
+use Rattle.std.proofs.Common.{◌≡◌, sym}
+use Rattle.wire_buf.specs.declared.fault.WireFault.TheVariants.{Memory}
+use Rattle.wire_buf.proofs.EncodingLemmas.{Reads-is, IfErr-of_lack}
+use Rattle.wire_fields.proofs.consts.RawConstMyDeserialize.deserialize.Goals as goal
+
+pub returns-in_err-number-clause-err : goal.returns-in_err-number-clause-err
+returns-in_err-number-clause-err g c = IfErr-of_lack (λ e. e ≡ Memory) _ _ _ c.from_residual.ensures c.in_err-number.ensures.err.0
+
+pub returns-clause-ok : goal.returns-clause-ok
+returns-clause-ok g c = Reads-is (sym c.new.ensures) c.in_ok-number.ensures.ok

@@ -1,0 +1,10 @@
+pub mod Ints
+pub mod IntFaults
+pub mod Strings
+pub mod Sevens
+pub mod Raw
+pub mod Bits
+pub mod Bytewise
+pub mod ByteStrings
+pub mod OverwrittenRawConsts
+pub mod RawTexts

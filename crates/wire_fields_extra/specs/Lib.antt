@@ -1,0 +1,9 @@
+pub mod Sequences
+pub mod Counts
+pub mod Consts
+pub mod OverwrittenConsts
+pub mod ReaderValues
+pub mod TrailingOnes
+pub mod Eithers
+pub mod ItemResults
+pub mod QueryFlagBits

@@ -1,9 +1,0 @@
-use Rattle.std.proofs.Common.{◌<◌, rules}
-use Rattle.wire_forms.specs.Bits.{fits_wider}
-use Rattle.wire_forms.proofs.number.U16Number.read.Goals as goal
-
-pub overflow_cast-result : goal.overflow_cast-result
-overflow_cast-result g c =
-    let e = c.read_uint.ensures in
-    let b : c.read_uint.result < 65536 = rw e (fits_wider c.args.size 2 _ c.requires.high (g.met.O.ByteOrder.number_fits c.args.size c.args.buf.now (λ k. search rules))) in
-    search (rules, b)

@@ -1,8 +1,0 @@
-use Rattle.std.proofs.Common.{arith}
-use Rattle.wire_more_forms.proofs.CountLemmas.{count_reads}
-use Rattle.wire_more_forms.proofs.counts.FixedSeqRepr.read_count.Goals as goal
-
-pub returns-clause-ok : goal.returns-clause-ok
-returns-clause-ok g c =
-    count_reads (g.O.ByteOrder.number_of g.row.N) g.row.N c.read_uint128-count.result _ _ (g.met.O.ByteOrder.reads_first g.row.N) (omega arith)
-    c.read_uint128-count.ensures c.skip.ensures (omega arith)

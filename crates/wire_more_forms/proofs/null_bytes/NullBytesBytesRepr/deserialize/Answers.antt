@@ -1,6 +1,0 @@
-use Rattle.wire_more_forms.proofs.NullLemmas.{null_reads}
-use Rattle.wire_more_forms.proofs.null_bytes.NullBytesBytesRepr.deserialize.Goals as goal
-
-pub returns-clause-ok : goal.returns-clause-ok
-returns-clause-ok c =
-    null_reads _ c.in-Some.at _ _ _ c.in-Some.ensures c.eat-bytes.ensures.value c.eat-bytes.ensures.rest c.skip.ensures

@@ -1,8 +1,0 @@
-use Rattle.std.proofs.Common.{map, take}
-use Rattle.wire_buf.specs.Encoding.{Alone}
-use Rattle.wire_more_forms.proofs.SequenceLemmas.{WritesSequence}
-use Rattle.wire_more_forms.proofs.raw_seq.write_numbers.Given as goal
-
-abbrev pub invariant-loop-number : goal.invariant-loop-number
-invariant-loop-number g l =
-    WritesSequence g.T.IntRepr.encoded (Alone g.T.IntRepr.encodes) (map g.T.IntRepr.kept (take l.number-index l.numbers)) l.initial.buf.items l.buf.items

@@ -1,9 +1,0 @@
-pub mod Sequences
-pub mod Counts
-pub mod Consts
-pub mod Overwritten
-pub mod Streams
-pub mod TrailingOnes
-pub mod Eithers
-pub mod Constants
-pub mod Flags

@@ -1,7 +1,0 @@
--- A constant field after a write through a reference to it.
-use Rattle.wire_more_forms.specs.declared.consts.Const.{Const}
-pub use Rattle.wire_forms.specs.Overwritten.{replace_raw_number}
-
--- the constant field with another value
-abbrev pub replace_value : {T U : Type 0} → Const T U → T → Const T U
-replace_value c value = record c { 0 = value }
