@@ -1,12 +1,9 @@
-//! The change feed of a MySQL binary log: the report of a file, a follower of a server's packets, a server that answers the
-//! follower's requests, the repair of truncated output, and the names of the results.
+//! The change feed of MySQL binary logs: reports, transactions as values, followers, servers, and the repair of truncated output.
 //!
-//! Each part is a crate of its own: `feed_text` has the text of values; `feed_checks` what an event is to the feed, and whether it is
-//! damaged; `feed_transactions` the rules that judge an event given the events before it, the transactions that events show, and the report
-//! of a file; `feed_change_log` the transactions as values; `feed_replication` the request for a log, the server of a file, the follower of
-//! a stream, and both together, through connections that drop; `feed_change_follower` the follower that lends transactions as values; and
-//! `feed_resume` the complete transactions of a truncated text. They build on `mysql_binlog_events`, `mysql_binlog_rows` and
-//! `mysql_wire`.
+//! It re-exports its parts, and has their laws and worked examples, so that no program waits for the proofs of these.
+//! `feed_transactions` has the report of a file, `feed_change_log` transactions as values, `feed_replication` requests, followers
+//! and servers, `feed_change_follower` the follower that lends transactions, `feed_text` the text of values, and `feed_resume`
+//! the complete transactions of a truncated text.
 #![tactic(auto)]
 
 mod check_laws;

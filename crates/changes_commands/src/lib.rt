@@ -1,5 +1,4 @@
-//! What the commands of `binlog-changes` share that doesn't depend on transactions: the command line, logs and their order, output,
-//! progress, and the command `events`.
+//! The parts of `binlog-changes` that need no transactions: the command line, the order of logs, progress, the command `events`.
 #![tactic(auto)]
 
 mod brief;

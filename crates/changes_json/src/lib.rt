@@ -1,4 +1,6 @@
-//! The rows of a table as JSON text: cells as MySQL shows them, by the definitions of their columns.
+//! Rows of a table as JSON text, by the definitions of their columns: names, signs, members and character sets.
+//!
+//! It states no contracts: its proof shows that it is total.
 #![tactic(auto)]
 
 mod cells;

@@ -1,5 +1,4 @@
-//! GTID events: the GTID of the transaction that follows, which is the uuid of its source and its number there. MySQL Internals:
-//! Gtid_event.
+//! GTID events: the UUID of a transaction's source, its number there, and optional fields. MySQL Internals: Gtid_event.
 //!
 //! A body is a sequence of fields, and those after the number are optional (`specs/Gtids.antt`); one definition covers reading
 //! and writing. `specs/GtidViews.antt` gives the contents of the crate's events, and `specs/GtidSetters.antt` the effect of a

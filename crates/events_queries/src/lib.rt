@@ -1,4 +1,4 @@
-//! The body of QUERY_EVENT, and the status variables of events with statements.
+//! The body of QUERY_EVENT, and the status variables of statements.
 //!
 //! The body is a sequence of fields (`Queries` of `events_frames`); one definition covers reading and writing.
 //! `specs/QueryViews.antt` gives the contents of the event. `specs/StatusVars.antt` defines status variables by a table of their

@@ -1,7 +1,7 @@
-//! Rows events by type: for each type of rows event a body that has only this type.
+//! A body for each type of rows event, such as `WriteRowsEvent`, read by the format description in force.
 //!
-//! The contents and the bytes of rows events are those of the crate `rows_event_body`. Here a format description gives the
-//! post-header lengths for reading them (`specs/RowsContexts.antt`).
+//! The contents and the bytes of rows events are those of `rows_event_body`; the post-header lengths for reading them are in
+//! `specs/RowsContexts.antt`.
 #![tactic(auto)]
 
 mod kinds;

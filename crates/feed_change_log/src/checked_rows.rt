@@ -5,24 +5,15 @@ ghost use Rattle.rows_cells.specs.CellViews.{cell_value, IsReadable};
 ghost use Rattle.rows_cells.specs.ImageViews.{image_shape, cells_count};
 ghost use Rattle.rows_cells.specs.RowViews.{row_shape};
 ghost use Rattle.feed_text.specs.CellText.{cell_text};
-ghost use Rattle.feed_transactions.specs.RowLines.{row_verdict, IsRowError, IsRowsError, image_text_at, images_texts_at, rows_texts_at};
+ghost use Rattle.feed_transactions.specs.RowLines.{IsRowError, IsRowsError, image_text_at, images_texts_at, rows_texts_at};
 ghost use Rattle.feed_change_log.specs.CheckedRows.{is_document, HasCellText, Passes, PassesNext, IsNextError, IsDocumentError, HasImageText, HasImageTexts, HaveTexts};
 
 use feed_checks::Verdict;
 use feed_text::TextBuffer;
+use feed_transactions::row_verdict;
 use rows_cells::{CellFormat, CellRef, ImageCells, ImageField, ImagePlan, RowPlan, read_signed};
 use rows_errors::RowsError;
 use std::alloc::Global;
-
-/// The feed's verdict for an error of the rows reader.
-pub(crate) fn row_verdict(fault: RowsError) -> Verdict
-    ensures { result ≡ row_verdict fault }
-{
-    match fault {
-        RowsError::Memory => Verdict::Memory,
-        _ => Verdict::Row,
-    }
-}
 
 /// Whether a cell is a JSON document, or changes of one.
 #[inline(always)]

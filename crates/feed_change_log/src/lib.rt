@@ -1,4 +1,7 @@
-//! The committed transactions of a binary log as values: the rows of tables and the statements of each, in order.
+//! The committed transactions of a binary log as values: the rows of tables, and statements, in order.
+//!
+//! [`ChangeLog`] reads a log and lends its transactions, [`Stop`] says how the log ended, and [`Filter`] selects transactions and
+//! changes.
 #![tactic(auto)]
 
 mod change;

@@ -11,6 +11,7 @@ pub mod CheckedBodyLemmas
 pub mod InForceLemmas
 pub mod DamageLemmas
 pub mod AcceptedLemmas
+pub mod GateLemmas
 pub mod EventLemmas
 pub mod MagicNumberLemmas
 pub mod LoopLemmas

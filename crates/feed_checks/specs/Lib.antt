@@ -11,6 +11,7 @@ pub mod Sums
 pub mod SplitEvents
 pub mod UsualDescriptions
 pub mod HeldDescriptions
+pub mod EventGates
 pub mod EventCheckers
 pub mod LogFormat
 pub mod MagicNumbers

@@ -20,7 +20,7 @@ use Rattle.feed_transactions.specs.FeedSteps.{IsRecorded}
 use Rattle.feed_transactions.specs.Recorders.{HasOpen, HasDone}
 use Rattle.feed_transactions.specs.Rules.{Rules, rules}
 use Rattle.feed_transactions.specs.Transactions.{Transaction}
-use Rattle.feed_transactions.specs.declared.recorded_transactions.RecordedTransactions.{RecordedTransactions}
+use Rattle.feed_transactions.specs.declared.transactions.Transactions.{Transactions}
 use Rattle.feed_replication.specs.declared.format.PayloadFormat.{PayloadFormat as Format}
 use Rattle.feed_replication.specs.Streams.{holds_event, event_in, closing_verdict, packet_verdict, stream_verdict}
 use Rattle.feed_replication.specs.declared.answer_reader.AnswerReader.{AnswerReader}
@@ -146,7 +146,7 @@ took_none {K = K} IsOpen r format old a s ps past h waits same position asked =
       record {
         codec = d.state;
         good = h.good;
-        transactions = subst (λ (t : RecordedTransactions K). RepresentsRecorded IsOpen t past) (sym same) h.transactions;
+        transactions = subst (λ (t : Transactions K). RepresentsRecorded IsOpen t past) (sym same) h.transactions;
         position_is = position ∙ h.position_is ∙ ap (λ (q : ℕ). unwrap_or (last_position (shown_in r past)) q) (sym asked);
       },
       d.halts,
@@ -165,7 +165,7 @@ completed {K = K} IsOpen IsDone f format old new s ps past x h incoming transact
   taken = record {
     codec = subst (λ i. codec.HasRead i.codec 1 s (ps ++ h.payload ∷ []) i.gathered.items i.received.items) (sym incoming) h.taken.codec;
     good = h.taken.good;
-    transactions = subst (λ (t : RecordedTransactions K). RepresentsRecorded IsOpen t (event_in format h.payload ∷ past)) (sym transactions) h.taken.transactions;
+    transactions = subst (λ (t : Transactions K). RepresentsRecorded IsOpen t (event_in format h.payload ∷ past)) (sym transactions) h.taken.transactions;
     position_is =
         position
         ∙ ap (λ (n : ℕ). cond x.commits n (next_position_of old)) h.position
@@ -204,7 +204,7 @@ pub begins : {K F : Type 0} (IsOpen : HasOpen K) (r : Rules) (format : Format) (
 begins {K = K} IsOpen r format old new s piece ps past completed h codec_is gathered_is received_is transactions position asked = record {
   codec = subst (λ (c : PacketCodec). codec.HasRead c 1 (s ++ piece) ps new.incoming.gathered.items new.incoming.received.items) (sym codec_is) (subst (λ (x : List ℕ). codec.HasRead old.incoming.codec 1 (s ++ piece) ps x new.incoming.received.items) (sym gathered_is) (represents_more old.incoming.codec 1 s ps old.incoming.gathered.items old.incoming.received.items piece new.incoming.received.items h.codec received_is));
   good = h.good;
-  transactions = subst (λ (t : RecordedTransactions K). RepresentsRecorded IsOpen t past) (sym transactions) h.transactions;
+  transactions = subst (λ (t : Transactions K). RepresentsRecorded IsOpen t past) (sym transactions) h.transactions;
   position_is = position ∙ h.position_is ∙ ap (λ (q : ℕ). unwrap_or (last_position (shown_in r completed)) q) (sym asked);
 }
 

@@ -1,5 +1,5 @@
 -- A run prints the log's transactions.
-use Rattle.std.proofs.Common.{◌≡◌, ℕ, ◌≤◌, List, [], ◌∷◌, ◌++◌, length, take, refl, sym, ap, subst, ◌∙◌, arith}
+use Rattle.std.proofs.Common.{◌≡◌, ℕ, ◌≤◌, List, [], ◌∷◌, ◌++◌, length, take, refl, ap, subst, ◌∙◌, arith}
 use Rattle.std.proofs.lemmas.List.{length-append, length-take, take_all}
 use Rattle.feed_checks.specs.PastLists.{onto}
 use Rattle.feed_transactions.specs.Rules.{rules}

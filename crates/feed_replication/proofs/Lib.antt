@@ -11,7 +11,7 @@ pub mod RequestLemmas
 pub mod SendingLemmas
 pub mod ServedAnswerLemmas
 pub mod SeekLemmas
-pub mod PassingLemmas
+pub mod SkippingLemmas
 pub mod FileLemmas
 pub mod FieldLemmas
 pub mod PrefixLemmas

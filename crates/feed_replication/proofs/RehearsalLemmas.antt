@@ -1,8 +1,8 @@
 -- A rehearsal from step to step.
-use Rattle.std.proofs.Common.{◌≡◌, ℕ, ◌≤◌, Bool, true, false, List, [], ◌∷◌, ◌++◌, length, take, drop, Option, Some, None, refl, sym, ap, subst, ◌∙◌, append_assoc, arith}
+use Rattle.std.proofs.Common.{◌≡◌, ℕ, Bool, true, false, List, [], ◌∷◌, ◌++◌, length, take, drop, Option, Some, None, refl, sym, ap, subst, ◌∙◌, append_assoc, arith}
 use Rattle.std.specs.Prelude.{unwrap_or, min, IfSome}
 use Rattle.std.specs.Io.KnownBytes.{Appends}
-use Rattle.std.proofs.lemmas.List.{append-nil, map-append, take-append-drop, take-map, take_min, length-append}
+use Rattle.std.proofs.lemmas.List.{append-nil, map-append, take-append-drop, take-map, take_min}
 use Rattle.std.proofs.Math.Seq.{take-append_seam}
 use Rattle.wire_packets.specs.Packets.{packets_in}
 use Rattle.feed_checks.specs.declared.verdict.Verdict.{Verdict}

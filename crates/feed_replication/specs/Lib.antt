@@ -15,7 +15,7 @@ pub mod Serving
 pub mod Sending
 pub mod SendingSteps
 pub mod ServedNames
-pub mod Passing
+pub mod Skipping
 pub mod WaitingPackets
 pub mod ServerLaws
 pub mod RequestedPackets

@@ -1,18 +1,26 @@
 //! The format of an answer's payloads: what precedes the event.
 
-ghost use Rattle.std.specs.Prelude.{◌≡◌, true, false, None, IfSome, drop};
-ghost use Rattle.feed_replication.specs.Streams.{Plain, SemiSync, holds_event, event_in, is_one_event};
+ghost use Rattle.std.specs.Prelude.{◌≡◌, ◌≤◌, ◌++◌, [], ◌∷◌, true, false, None, IfSome, length, drop};
+ghost use Rattle.feed_checks.specs.EventFields.{type_of};
+ghost use Rattle.feed_checks.specs.PastLists.{is_among};
+ghost use Rattle.feed_replication.specs.Streams.{Plain, SemiSync, holds_event, event_in, is_one_event, payload_of};
 
-use byteorder::{ByteOrder, LittleEndian};
-
-/// The length of an event's header in bytes.
-const HEADER_LEN: usize = 19;
-
-/// The offset of the field `event_size` in an event's header.
-const SIZE_OFFSET: usize = 9;
+use events_frames::{BinlogEventHeader, TYPE_OFFSET, event_size};
+use rows_constants::EventType;
 
 /// The magic number of a semi-synchronous payload, its second byte.
 const SEMI_SYNC: u8 = 0xef;
+
+/// The maximum length of what precedes an event in a payload, in bytes.
+pub(crate) const MAX_LEAD_LEN: usize = 3;
+
+/// What precedes an event in a plain payload.
+const PLAIN_LEAD: &[u8] = b"\x00";
+
+/// What precedes an event in a semi-synchronous payload, without and with SEMI_SYNC_ACK_REQ.
+const SEMI_SYNC_LEAD: &[u8] = b"\x00\xef\x00";
+
+const SEMI_SYNC_ACK_LEAD: &[u8] = b"\x00\xef\x01";
 
 /// The format of an answer's payloads (MySQL Internals: Binlog Network Stream).
 #[derive(Clone, Copy, Debug, PartialEq, Eq)]
@@ -27,8 +35,7 @@ pub enum PayloadFormat {
 fn is_one_event(bytes: &[u8]) -> bool
     ensures { result ≡ is_one_event bytes.now }
 {
-    bytes.len() >= HEADER_LEN
-        && LittleEndian::read_u32(&bytes[SIZE_OFFSET..]) as usize == bytes.len()
+    bytes.len() >= BinlogEventHeader::LEN && event_size(bytes) as usize == bytes.len()
 }
 
 /// Returns the event of a plain payload if it holds exactly one.
@@ -38,7 +45,7 @@ fn plain_event(payload: &[u8]) -> Option<&[u8]>
     ensures event { IfSome result (λ event. event.now ≡ drop 1 payload.now) }
     ensures none { result ≡ None → holds_event Plain payload.now ≡ false }
 {
-    if payload.len() <= HEADER_LEN || payload[0] != 0 {
+    if payload.len() <= BinlogEventHeader::LEN || payload[0] != 0 {
         return None;
     }
     let (_, event) = payload.split_at(1);
@@ -56,7 +63,7 @@ fn semi_synchronous_event(payload: &[u8]) -> Option<&[u8]>
     ensures event { IfSome result (λ event. event.now ≡ drop 3 payload.now) }
     ensures none { result ≡ None → holds_event SemiSync payload.now ≡ false }
 {
-    if payload.len() < HEADER_LEN + 3 || payload[0] != 0 || payload[1] != SEMI_SYNC {
+    if payload.len() < BinlogEventHeader::LEN + 3 || payload[0] != 0 || payload[1] != SEMI_SYNC {
         return None;
     }
     let (_, event) = payload.split_at(3);
@@ -68,7 +75,7 @@ fn semi_synchronous_event(payload: &[u8]) -> Option<&[u8]>
 }
 
 /// Returns the event of a payload if it is in this format and holds exactly one.
-pub fn find_event(format: PayloadFormat, payload: &[u8]) -> Option<&[u8]>
+pub(crate) fn find_event(format: PayloadFormat, payload: &[u8]) -> Option<&[u8]>
     ensures some { IfSome result (λ event. holds_event format payload.now ≡ true) }
     ensures event { IfSome result (λ event. event.now ≡ event_in format payload.now) }
     ensures none { result ≡ None → holds_event format payload.now ≡ false }
@@ -77,4 +84,33 @@ pub fn find_event(format: PayloadFormat, payload: &[u8]) -> Option<&[u8]>
         PayloadFormat::Plain => plain_event(payload),
         PayloadFormat::SemiSync => semi_synchronous_event(payload),
     }
+}
+
+/// Returns what precedes an event in a payload of this format. SEMI_SYNC_ACK_REQ is set for QUERY_EVENT and XID_EVENT.
+#[inline(always)]
+pub(crate) fn lead_of(format: PayloadFormat, event: &[u8]) -> &'static [u8]
+    ensures payload { result.now ++ event.now ≡ payload_of format event.now }
+    ensures short { length result.now ≤ MAX_LEAD_LEN }
+{
+    match format {
+        PayloadFormat::Plain => PLAIN_LEAD,
+        PayloadFormat::SemiSync => {
+            if is_acknowledged(event) {
+                SEMI_SYNC_ACK_LEAD
+            } else {
+                SEMI_SYNC_LEAD
+            }
+        }
+    }
+}
+
+/// Whether a source asks for the acknowledgement of an event: of QUERY_EVENT and XID_EVENT.
+#[inline(always)]
+fn is_acknowledged(event: &[u8]) -> bool
+    ensures { result ≡ is_among (2 ∷ 16 ∷ []) (type_of event.now) }
+{
+    let Some(number) = event.get(TYPE_OFFSET) else {
+        return false;
+    };
+    *number == EventType::QUERY_EVENT as u8 || *number == EventType::XID_EVENT as u8
 }

@@ -1,9 +1,8 @@
-//! Binary logs over a connection: the request for a log, a server that answers it, a follower of the answer, and runs of a follower
-//! over connections that drop.
+//! Binary logs over a connection: dump requests, a server that answers them, and a follower of the answer.
 //!
-//! [`request`] makes the packet that asks for a log, and [`serve`] sends the log's events from the requested position on, each in a
-//! payload of its own ([`PayloadFormat`]). A [`Follower`] writes the transactions of such an answer as they arrive; it resumes from
-//! the last commit that it printed, and [`rehearse`] runs it so over any number of connections.
+//! [`request`] makes the packet that asks for a log, and [`serve`] sends the log's events from the requested position on, each in
+//! a payload of its own ([`PayloadFormat`]). A [`Follower`] writes the transactions of such an answer as they arrive; it resumes
+//! from the last commit that it printed, and [`rehearse`] runs it so over any number of connections.
 #![tactic(auto)]
 
 mod acknowledgements;
@@ -12,21 +11,21 @@ mod follower;
 mod format;
 mod incoming;
 mod packets;
-mod passing;
 mod rehearsal;
 mod request_reading;
 mod requests;
 mod sending;
 mod served;
 mod serving;
+mod skipping;
 mod step;
 mod waiting;
 
 pub use answer_reader::{AnswerReader, TakenEvent};
 pub use follower::Follower;
-pub use format::{PayloadFormat, find_event};
+pub use format::PayloadFormat;
 pub use rehearsal::{rehearse, rehearse_growing, rehearse_semi};
-pub use requests::{LogName, RequestError, dump_packet, request};
+pub use requests::{RequestError, request};
 pub use served::{Refusal, Served};
-pub use serving::{serve, serve_as, serve_semi};
+pub use serving::{serve, serve_semi};
 pub use step::Step;

@@ -21,13 +21,14 @@ use crate::format::PayloadFormat;
 use crate::served::Served;
 use crate::serving::serve_as;
 use crate::step::Step;
+use events_frames::BinlogFileHeader;
 use feed_checks::Verdict;
 use std::alloc::{AllocError, Allocator, Global};
 use std::io::Write;
 use wire_buf::Watched;
 
 /// The position of the first event, after the magic number.
-const FIRST_POSITION: u32 = 4;
+const FIRST_POSITION: u32 = BinlogFileHeader::LEN as u32;
 
 /// The server id in the follower's requests.
 const SERVER: u32 = 1;
@@ -55,7 +56,7 @@ fn has_ended_early(served: Served) -> bool
     )
 }
 
-/// Returns the whole answer to a request for the binary log `name`, of which there are the bytes `there`. `Memory`: the answer
+/// Returns the whole answer to a request for the binary log `name`, whose bytes so far are `there`. `Memory`: the answer
 /// ended early; reading a slice and writing to a vector have no other errors.
 fn whole_answer_to<F: Fn(&[u8]) -> u32>(
     alloc: Global,
@@ -89,9 +90,9 @@ fn whole_answer_to<F: Fn(&[u8]) -> u32>(
     Ok(writer.into_inner())
 }
 
-/// Takes a step: the follower asks again, and is fed the part of the answer that arrives. Returns the verdict of that stream, or
+/// Runs a step: the follower asks again, and is fed the part of the answer that arrives. Returns the verdict of that stream, or
 /// `Memory`.
-fn take_step<W: Write, F: Fn(&[u8]) -> u32>(
+fn run_step<W: Write, F: Fn(&[u8]) -> u32>(
     alloc: Global,
     format: PayloadFormat,
     name: &[u8],
@@ -135,8 +136,8 @@ fn verdict_with_acks(verdict: Verdict, is_kept: bool) -> Verdict
     }
 }
 
-/// Takes a step as `take_step` does, and appends the acknowledgements that it asks for to `acks`.
-fn take_step_with<W: Write, F: Fn(&[u8]) -> u32, A: Allocator>(
+/// Runs a step as `run_step` does, and appends the acknowledgements that it asks for to `acks`.
+fn run_step_with_acks<W: Write, F: Fn(&[u8]) -> u32, A: Allocator>(
     alloc: Global,
     format: PayloadFormat,
     name: &[u8],
@@ -160,7 +161,7 @@ fn take_step_with<W: Write, F: Fn(&[u8]) -> u32, A: Allocator>(
     ensures none_waits { due_of follower.new ≡ [] }
     ensures keeps { checksum_of follower.new ≡ checksum_of follower.old }
 {
-    let verdict = take_step(
+    let verdict = run_step(
         alloc, format, name, binlog, step, follower, checksum, writer,
     );
     let waiting = follower.acks();
@@ -194,7 +195,7 @@ fn run_steps<W: Write, F: Fn(&[u8]) -> u32, A: Allocator>(
 {
     let mut verdict = Verdict::Closed;
     for step in steps {
-        verdict = take_step_with(
+        verdict = run_step_with_acks(
             alloc,
             format,
             name,

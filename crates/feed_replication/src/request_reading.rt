@@ -4,18 +4,13 @@ ghost use Rattle.std.specs.Prelude.{◌≡◌, Ok, Err, IfOk, IfErr, option_map}
 ghost use Rattle.feed_replication.specs.RequestedPackets.{payload_of_packet, requested, IsNotAsked};
 ghost use Rattle.feed_checks.specs.declared.verdict.Verdict.TheVariants.{Memory as MemoryVerdict};
 
+use crate::requests::{BINLOG_DUMP_NON_BLOCK, COM_BINLOG_DUMP};
 use crate::served::{Refusal, Served};
 use byteorder::{ByteOrder, LittleEndian};
 use bytes::BytesMut;
 use feed_checks::Verdict;
 use std::alloc::Global;
 use wire_packets::{PacketCodec, PacketCodecError};
-
-/// COM_BINLOG_DUMP.
-const COM_BINLOG_DUMP: u8 = 0x12;
-
-/// BINLOG_DUMP_NON_BLOCK: the answer ends at the end of the binary log.
-const BINLOG_DUMP_NON_BLOCK: u16 = 1;
 
 /// The offset of the position in a request's payload.
 const POSITION_OFFSET: usize = 1;

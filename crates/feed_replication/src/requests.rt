@@ -10,10 +10,10 @@ use thiserror::Error;
 use wire_packets::packet_to_chunks;
 
 /// COM_BINLOG_DUMP.
-const COM_BINLOG_DUMP: u8 = 0x12;
+pub(crate) const COM_BINLOG_DUMP: u8 = 0x12;
 
 /// BINLOG_DUMP_NON_BLOCK: the answer ends at the end of the binary log.
-const BINLOG_DUMP_NON_BLOCK: u16 = 1;
+pub(crate) const BINLOG_DUMP_NON_BLOCK: u16 = 1;
 
 /// The maximum length of a binary log's name in bytes.
 const MAX_NAME_LEN: usize = 511;
@@ -53,7 +53,7 @@ impl From<AllocError> for RequestError {
 
 /// The name of a binary log.
 #[derive(Drop)]
-pub struct LogName {
+pub(crate) struct LogName {
     bytes: Vec<u8>,
     ghost fits: { length bytes.items ≤ 511 },
 }
@@ -63,7 +63,7 @@ impl LogName {
     ///
     /// - `NameTooLong`: it is longer than 511 bytes, and only then.
     /// - `Memory`: out of memory.
-    pub fn new(alloc: Global, name: &[u8]) -> Result<LogName, RequestError>
+    pub(crate) fn new(alloc: Global, name: &[u8]) -> Result<LogName, RequestError>
         ensures name { IfOk result (λ it. it.bytes.items ≡ name.now) }
         ensures too_long { IsErrOf result RequestError.NameTooLong ↔ (511 < length name.now) }
     {
@@ -75,7 +75,7 @@ impl LogName {
     }
 
     /// The bytes of the name.
-    pub fn as_slice(&self) -> &[u8]
+    pub(crate) fn as_slice(&self) -> &[u8]
         ensures name { result.now ≡ self.now.bytes.items }
         ensures fits { length result.now ≤ 511 }
     {
@@ -103,7 +103,7 @@ fn dump_payload(
 
 /// Makes the packet of COM_BINLOG_DUMP for a name of at most 511 bytes. The only error is that of memory.
 #[tactic(auto, unfolding(crate::specs::Requests::dump_request))]
-pub fn dump_packet(
+pub(crate) fn dump_packet(
     alloc: Global,
     position: u32,
     server: u32,

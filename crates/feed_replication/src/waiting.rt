@@ -8,20 +8,13 @@ ghost use Rattle.feed_transactions.specs.declared.waiting.TheConstants.{MAX_WAIT
 ghost use Rattle.feed_replication.specs.Streams.{payload_of};
 ghost use Rattle.feed_replication.specs.WaitingPackets.{IsWaitingSendError};
 
-use crate::format::PayloadFormat;
-use crate::packets::MAX_LEAD_LEN;
-use crate::sending::{ack_flag, send_event};
+use crate::format::{MAX_LEAD_LEN, PayloadFormat, lead_of};
+use crate::packets::{MAX_PREFIX_LEN, SHORT_LEN, keep_packet};
+use crate::sending::send_event;
 use feed_checks::Verdict;
 use feed_transactions::WaitingBytes;
 use std::io::Write;
 use wire_buf::Watched;
-use wire_packets::{PACKET_HEADER_LEN, chunk_header};
-
-/// The maximum length of an event whose packet waits, in bytes: 16 KiB. Longer events are written without a copy.
-const SHORT_LEN: usize = 0x4000;
-
-/// The maximum length of what precedes an event in its packet, in bytes.
-const MAX_PREFIX_LEN: usize = PACKET_HEADER_LEN + MAX_LEAD_LEN;
 
 /// Sends an event in this format after the waiting packets, and returns the sequence number after its packet. The packet of a
 /// short event waits.
@@ -48,37 +41,28 @@ pub(crate) fn send_or_keep<W: Write>(
         return send_event(format, limit, number, event, writer);
     }
     packets.write_if(packets.room() < MAX_PREFIX_LEN + len, writer)?;
-    put_event(packets, format, number, event);
+    keep_event(packets, format, number, event);
     Ok(number.wrapping_add(1))
 }
 
-/// Appends the packet of an event in this format.
+/// Appends the packet of an event in this format. In each arm the length of what precedes the event is known when it is compiled.
 #[inline(always)]
-fn put_event(packets: &mut WaitingBytes, format: PayloadFormat, number: u8, event: &[u8])
+fn keep_event(packets: &mut WaitingBytes, format: PayloadFormat, number: u8, event: &[u8])
     requires short { length event.now ≤ SHORT_LEN }
     requires room { length (bytes_of packets.old) + MAX_PREFIX_LEN + length event.now ≤ MAX_WAITING_LEN }
     ensures { bytes_of packets.new ≡ bytes_of packets.old ++ framing number (payload_of format event.now) }
 {
     match format {
-        PayloadFormat::Plain => put_packet_of(packets, number, &[0], event),
-        PayloadFormat::SemiSync => put_packet_of(
-            packets,
-            number,
-            &[0, 0xef, ack_flag(event)],
-            event,
-        ),
+        PayloadFormat::Plain => {
+            keep_packet(packets, number, lead_of(PayloadFormat::Plain, event), event);
+        }
+        PayloadFormat::SemiSync => {
+            keep_packet(
+                packets,
+                number,
+                lead_of(PayloadFormat::SemiSync, event),
+                event,
+            );
+        }
     }
-}
-
-/// Appends the packet of the payload `lead` and then `event`.
-#[inline(always)]
-fn put_packet_of(packets: &mut WaitingBytes, number: u8, lead: &[u8], event: &[u8])
-    requires lead { length lead.now ≤ MAX_LEAD_LEN }
-    requires short { length event.now ≤ SHORT_LEN }
-    requires room { length (bytes_of packets.old) + MAX_PREFIX_LEN + length event.now ≤ MAX_WAITING_LEN }
-    ensures { bytes_of packets.new ≡ bytes_of packets.old ++ framing number (lead.now ++ event.now) }
-{
-    packets.append(&chunk_header(lead.len() + event.len(), number));
-    packets.append(lead);
-    packets.append(event);
 }

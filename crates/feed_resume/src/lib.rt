@@ -1,5 +1,6 @@
-//! Finds the complete transactions of a truncated text of the feed. To resume a feed that was printed into a file and was
-//! interrupted, truncate the file there, and ask from the position after the last complete transaction.
+//! Finds the complete transactions of a truncated text of the feed, and the position to resume from.
+//!
+//! To resume a feed that was printed into a file and was interrupted, truncate the file there, and ask from that position.
 #![tactic(auto)]
 
 mod keeper;

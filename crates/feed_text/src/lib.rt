@@ -1,4 +1,4 @@
-//! The text of the feed: quoted bytes, the values of cells, and decimals directly from MySQL's packed bytes.
+//! The text of values: quoted bytes, cells, decimals and JSON documents, straight from MySQL's bytes.
 //!
 //! Each function appends exactly its text, or returns an error and leaves the text before it unchanged: out of memory, a JSON
 //! document that can't be parsed, bytes that aren't a packed decimal. The specifications of the texts are in `specs/`.

@@ -1,4 +1,7 @@
 //! The lines of rows of one image.
+//!
+//! Rows with short cells are written in one loop, with one test for room in a row. The loop ends at a row with a cell whose text may
+//! be long; the caller writes that row cell by cell, and then tries the loop again, unless it found no short row.
 
 ghost use Rattle.std.specs.Prelude.{◌≤◌, ◌+◌, length};
 ghost use Rattle.rows_cells.specs.ImageViews.{image_shape};

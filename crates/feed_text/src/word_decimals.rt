@@ -1,4 +1,5 @@
-//! The numbers before and after the point of a decimal of at most eight bytes, which are read as one number.
+//! The numbers before and after the point of a decimal of at most eight bytes, which are read as one number: both inversions are undone
+//! on it, and its groups are split off by shifts.
 
 ghost use Rattle.std.specs.Prelude.{◌≡◌, ◌≤◌, ◌<◌, ◌+◌, ◌-◌, ◌*◌, ◌^◌, List, ℕ, IfSome, length, take, true};
 ghost use Rattle.byteorder.specs.Endian.{big_from, big_number};

@@ -11,8 +11,9 @@ use Rattle.feed_transactions.specs.declared.tables.Tables.{Tables}
 use Rattle.feed_checks.specs.declared.verdict.Verdict.{Verdict}
 use Rattle.feed_transactions.specs.RowLines.{PutsLines, IsRowsError, rows_texts_at}
 use Rattle.feed_transactions.specs.Tables.{mapped}
-use Rattle.feed_transactions.specs.KnownRows.{FindsRows, PutsKnownRows, IsKnownRowsError, start_of}
-use Rattle.feed_transactions.specs.declared.known_rows.KnownRows.{KnownRows}
+use Rattle.feed_transactions.specs.TableRows.{FindsRows, PutsRowsOf, IsErrorOf}
+use Rattle.feed_transactions.specs.declared.table_rows.TableRows.{TableRows}
+use Rattle.feed_transactions.specs.declared.known_images.UsualRows.{UsualRows}
 use Rattle.feed_transactions.proofs.RowLineLemmas.{lines_put, lines_unput}
 use Rattle.std.specs.Prelude.{option_map, if◌then◌else◌}
 use Rattle.std.proofs.lemmas.List.{length-append, take-append-drop, length-take-le}
@@ -29,9 +30,9 @@ use Rattle.rows_event_body.specs.RowsEvents.{RowsBody, IsRowsEvent, written_ctx}
 use Rattle.rows_event_body.specs.RowsEventTypes.{images_of, writes_extra}
 use Rattle.rows_event_body.specs.declared.rows_event_type.RowsEventType.{RowsEventType}
 use Rattle.feed_checks.specs.BodyReaders.{rows_event_in}
-use Rattle.feed_transactions.specs.KnownImages.{rows_event_of, KnowsImages}
+use Rattle.feed_transactions.specs.KnownImages.{rows_event_of, IsBodyOfRows, KnowsImages}
 use Rattle.feed_transactions.specs.MappedRows.{change_by, change_of, plan_by}
-use Rattle.feed_transactions.specs.RowTexts.{change_word}
+use Rattle.feed_transactions.specs.RowTexts.{change_word, start_of}
 use Rattle.feed_checks.proofs.BodyLemmas.{rows_event_body}
 use Rattle.feed_checks.proofs.ReaderLemmas.{some_is}
 
@@ -162,6 +163,16 @@ known_by t r x p shapes names start is shapes_are begins =
       start_is = begins ∙ ap (λ (u : RowsEventType). change_word (change_by (images_of u)) ++ names) s.type_is;
     }
 
+-- the same, for the fields that were kept of a usual event
+pub known_kept : (u : UsualRows) (r : RowsBody) (p : TablePlan) (shapes : List ImageShape) (names start fields : List ℕ) (now : Option RowsEventType) (rows_len : ℕ) → IsBodyOfRows u r → event_shapes r p ≡ Ok shapes
+    → start ≡ change_word (change_by (images_of r.event_type)) ++ names → rows_len ≡ length r.rows_data
+    → ((t : RowsEventType) → now ≡ Some t → (u.event_type ≡ t) × (fields ≡ drop 8 (take (length u.body.now - rows_len) u.body.now))) → (t : RowsEventType) → now ≡ Some t → KnowsImages t fields p shapes names start
+known_kept u r p shapes names start fields now rows_len is shapes_are begins len_is kept t now_is =
+    let k = kept t now_is in
+    let fields_are : fields ≡ drop 8 (take (length u.body.now - length r.rows_data) u.body.now) = k.1 ∙ ap (λ (n : ℕ). drop 8 (take (length u.body.now - n) u.body.now)) len_is in
+    subst (λ (x : RowsEventType). KnowsImages x fields p shapes names start) k.0
+    (subst (λ (l : List ℕ). KnowsImages u.event_type l p shapes names start) (sym fields_are) (known_by u.event_type r u.body.now p shapes names start is shapes_are begins))
+
 -- an event of that type with these fields, and its images
 pub record HasKnownImages (t : RowsEventType) (head fields rows_data : List ℕ) (p : TablePlan) (shapes : List ImageShape) : Type 0 where
   pub event : RowsBody
@@ -196,23 +207,23 @@ known_event t head fields rows_data p shapes names start knows size =
 some_rows : (x y : List ℕ) → x ≡ y → 0 < length y → (length x == 0) ≡ false
 some_rows x y is some = ne_eqb (length x) 0 (λ h. absurd (omega (arith, ap length is, h, some)))
 
-pub found_rows : (s : Tables) (k : KnownRows) (head rest : List ℕ) (id : ℕ) → k.body.now ≡ head ++ rest → length head ≡ 8 → id ≡ little_number 6 head → ◌≡◌ {A = Option TableMap} (Some (map_of k.table.now.map)) (mapped s id)
-    → k.table.now.images.event_type ≡ Some k.event_type → rest ≡ k.table.now.images.fields.items ++ k.rows_data.now → 0 < length k.rows_data.now → FindsRows s k.event_type k.body.now k
-found_rows s k head rest id joined size id_is found type fields some =
+pub found_rows : (s : Tables) (u : UsualRows) (k : TableRows) (head rest : List ℕ) (id : ℕ) → u.body.now ≡ head ++ rest → length head ≡ 8 → id ≡ little_number 6 head → ◌≡◌ {A = Option TableMap} (Some (map_of k.table.now.map)) (mapped s id)
+    → k.images ≡ images_of u.event_type → k.table.now.images.event_type ≡ Some u.event_type → rest ≡ k.table.now.images.fields.items ++ k.rows_data.now → 0 < length k.rows_data.now → FindsRows s u.event_type u.body.now k
+found_rows s u k head rest id joined size id_is found images type fields some =
     let t = k.table.now in
     let m = map_of t.map in
-    let knows = t.images_are k.event_type type in
-    let e = known_event k.event_type head t.images.fields.items k.rows_data.now (table_plan t.plan) (shapes_of t.images.columns) t.names.items t.images.start.items knows size in
-    let whole : k.body.now ≡ head ++ (t.images.fields.items ++ k.rows_data.now) = joined ∙ ap (λ (l : List ℕ). head ++ l) fields in
-    let is : rows_event_in (written_ctx k.event_type) k.body.now ≡ Some e.event = ap (rows_event_in (written_ctx k.event_type)) whole ∙ e.is in
+    let knows = t.images_are u.event_type type in
+    let e = known_event u.event_type head t.images.fields.items k.rows_data.now (table_plan t.plan) (shapes_of t.images.columns) t.names.items t.images.start.items knows size in
+    let whole : u.body.now ≡ head ++ (t.images.fields.items ++ k.rows_data.now) = joined ∙ ap (λ (l : List ℕ). head ++ l) fields in
+    let is : rows_event_in (written_ctx u.event_type) u.body.now ≡ Some e.event = ap (rows_event_in (written_ctx u.event_type)) whole ∙ e.is in
     record {
       rows = e.event;
       map = m;
       is = is;
       found = ap (mapped s) (e.id ∙ sym id_is) ∙ sym found;
       has = record {
-        is = is;
         some = some_rows e.event.rows_data k.rows_data.now e.rows_are some;
+        images_are = images ∙ ap images_of (sym e.type_is);
         map_is = refl;
         rows_are = sym e.rows_are;
         shapes_are = ap (event_shapes e.event) (sym t.plan_is.0) ∙ e.shapes_are;
@@ -220,13 +231,13 @@ found_rows s k head rest id joined size id_is found type fields some =
       };
     }
 
-pub known_put : (k : KnownRows) (start before after : List ℕ) (shapes : List ImageShape) (a : Result ⊤ Verdict) → shapes ≡ shapes_of k.table.now.images.columns → start ≡ k.table.now.images.start.items
-    → OnOk a (PutsLines shapes start k.rows_data.now before after) → OnOk a (PutsKnownRows k before after)
+pub known_put : (k : TableRows) (start before after : List ℕ) (shapes : List ImageShape) (a : Result ⊤ Verdict) → shapes ≡ shapes_of k.table.now.images.columns → start ≡ k.table.now.images.start.items
+    → OnOk a (PutsLines shapes start k.rows_data.now before after) → OnOk a (PutsRowsOf k before after)
 known_put k start before after shapes (Ok x) shapes_is start_is h = λ r m has.
     lines_put r (plan_by m) shapes (start_of r m) k.rows_data.now before after (Ok tt) (has.shapes_are ∙ ap (λ (l : List ImageShape). Ok l) (sym shapes_is)) has.rows_are
     (subst (λ (l : List ℕ). PutsLines shapes l k.rows_data.now before after) (start_is ∙ has.start_is) h)
 known_put k start before after shapes (Err v) shapes_is start_is h = tt
 
-pub known_unput : (k : KnownRows) (shapes : List ImageShape) (a : Result ⊤ Verdict) → shapes ≡ shapes_of k.table.now.images.columns → IfErr a (IsRowsError (rows_texts_at shapes k.rows_data.now)) → IfErr a (IsKnownRowsError k)
+pub known_unput : (k : TableRows) (shapes : List ImageShape) (a : Result ⊤ Verdict) → shapes ≡ shapes_of k.table.now.images.columns → IfErr a (IsRowsError (rows_texts_at shapes k.rows_data.now)) → IfErr a (IsErrorOf k)
 known_unput k shapes (Ok x) shapes_is h = tt
 known_unput k shapes (Err v) shapes_is h = λ r m has. lines_unput r (plan_by m) shapes k.rows_data.now (Err v) (has.shapes_are ∙ ap (λ (l : List ImageShape). Ok l) (sym shapes_is)) has.rows_are h

@@ -6,6 +6,7 @@ pub mod TakingLemmas
 pub mod UsualLemmas
 pub mod CommittedLemmas
 pub mod TextLemmas
+pub mod RecordLemmas
 pub mod RecordedTextLemmas
 pub mod RowLineLemmas
 pub mod TableLemmas

@@ -26,6 +26,7 @@ use Rattle.feed_text.specs.RowText.{AreRowTexts, row_line}
 use Rattle.feed_checks.specs.declared.verdict.Verdict.{Verdict}
 use Rattle.feed_transactions.specs.MappedRows.{image_texts, row_texts, value_or_none, walked_texts, event_texts}
 use Rattle.feed_transactions.specs.RowLines.{row_verdict, IsRowError, with_text, image_text_at, with_texts, images_texts_at, row_texts_at, rows_texts_at, PutsImage, PutsImages, PutsRow, PutsLines, PutsRows, IsRowsError, IsAppendedSoFar, line_of}
+use Rattle.feed_transactions.specs.KnownImages.{IsColumnsError}
 use Rattle.feed_transactions.specs.RowTexts.{images_text}
 
 -- ---- readings without a value
@@ -310,14 +311,6 @@ not_shorter n m h = grind (arith, nat_tests)
 
 -- ---- the rows of an event
 
-pub no_rows : (r : RowsBody) (p : TablePlan) (start before : List ℕ) → length r.rows_data ≡ 0 → PutsRows r p start before before
-unfolding row_texts
-no_rows r p start before e = record { texts = []; are = of r.rows_data e; appended = sym (append-nil before) }
-  where
-    of : (x : List ℕ) → length x ≡ 0 → walked_texts (items_at (row_read r p) x) ≡ Some []
-    of [] e = ap walked_texts (walk_done (row_read r p) 0)
-    of (b ∷ x) e = absurd (omega (arith, e))
-
 -- the columns of its images have no plan
 pub rows_unread : (r : RowsBody) (p : TablePlan) (e : RowsError) → 0 < length r.rows_data → event_shapes r p ≡ Err e → event_texts r p ≡ None
 rows_unread r p e some h = of (length r.rows_data) refl
@@ -335,12 +328,16 @@ pub rows_put : (r : RowsBody) (p : TablePlan) (shapes : List ImageShape) (start 
 rows_put r p shapes start before after h l = record { texts = l.texts; are = texts_by r p shapes h ∙ l.are; appended = l.appended }
 
 -- an error of the columns is one of the rows
-pub columns_failed : (r : RowsBody) (p : TablePlan) (e : RowsError) (v : Verdict) → v ≡ row_verdict e → 0 < length r.rows_data → (e ≡ fault.Memory) ⊎ (event_shapes r p ≡ Err e) → IsRowsError (event_texts r p) v
-columns_failed r p e v is some (inl m) = rw (is, m) (inr refl)
-columns_failed r p e v is some (inr h) =
-    elim (failed_by (event_shapes r p) e (inr (rw h tt))) as (λ _. IsRowsError (event_texts r p) v) [
-      | inl row ↦ rw is (inl (row.0, rows_unread r p e some h))
-      | inr m ↦ rw is (inr m)
+pub columns_error : (shapes : Reading (List ImageShape)) (e : RowsError) (v : Verdict) → v ≡ row_verdict e → (e ≡ fault.Memory) ⊎ (shapes ≡ Err e) → IsColumnsError shapes v
+columns_error shapes e v is (inl m) = rw (is, m) (inr refl)
+columns_error shapes e v is (inr h) = inl (e, is, h)
+
+pub columns_failed : (r : RowsBody) (p : TablePlan) (v : Verdict) → 0 < length r.rows_data → IsColumnsError (event_shapes r p) v → IsRowsError (event_texts r p) v
+columns_failed r p v some (inr m) = inr m
+columns_failed r p v some (inl h) =
+    elim (failed_by (event_shapes r p) h.0 (inr (rw h.2 tt))) as (λ _. IsRowsError (event_texts r p) v) [
+      | inl row ↦ rw h.1 (inl (row.0, rows_unread r p h.0 some h.2))
+      | inr m ↦ rw h.1 (inr m)
     ]
 
 -- the result of the code's call

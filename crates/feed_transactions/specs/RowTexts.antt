@@ -2,7 +2,9 @@
 use Rattle.std.specs.Prelude.{ℕ, List, [], ◌∷◌, ◌++◌, codes}
 use Rattle.std.specs.List.{flat_map}
 use Rattle.feed_writers.specs.Quoting.{quoted}
-use Rattle.feed_transactions.specs.MappedRows.{Change, Insert, Update, Delete}
+use Rattle.rows_table_map.specs.TableMaps.{TableMap}
+use Rattle.rows_event_body.specs.RowsEvents.{RowsBody}
+use Rattle.feed_transactions.specs.MappedRows.{Change, Insert, Update, Delete, change_of}
 
 -- the word of a change
 abbrev pub change_word : Change → List ℕ
@@ -18,3 +20,7 @@ images_text (image ∷ images) = image ++ flat_map (λ i. codes " to" ++ i) imag
 -- the quoted names of a database and of a table
 abbrev pub names_text : List ℕ → List ℕ → List ℕ
 names_text database table = quoted database ++ 32 ∷ quoted table
+
+-- the start of the lines of an event's rows: the change, and the names of the table
+abbrev pub start_of : RowsBody → TableMap → List ℕ
+start_of r m = change_word (change_of r) ++ names_text m.database m.table

@@ -4,50 +4,17 @@ ghost use Rattle.std.specs.Prelude.{◌≡◌, ◌≤◌, ◌++◌, ℕ, List, l
 ghost use Rattle.rows_cells.specs.ImageViews.{image_shape};
 ghost use Rattle.rows_cells.specs.RowViews.{row_shape};
 ghost use Rattle.feed_text.specs.Buffers.{text_in};
-ghost use Rattle.feed_transactions.specs.RowLines.{row_verdict, IsRowError, image_text_at, images_texts_at, row_texts_at, rows_texts_at, PutsImage, PutsImages, PutsRow, PutsLines, PutsRows, IsRowsError, IsAppendedSoFar};
-ghost use Rattle.feed_transactions.specs.MappedRows.{event_texts};
-ghost use Rattle.rows_event_body.specs.ImageShapes.{table_plan};
-ghost use Rattle.rows_event_body.specs.Views.{body_of};
+ghost use Rattle.feed_transactions.specs.RowLines.{row_verdict, IsRowError, image_text_at, images_texts_at, row_texts_at, rows_texts_at, PutsImage, PutsImages, PutsRow, PutsLines, IsRowsError, IsAppendedSoFar};
 
 use feed_checks::Verdict;
 use feed_text::TextBuffer;
 use rows_cells::{ImageCells, ImagePlan, RowPlan};
 use rows_errors::RowsError;
-use rows_event_body::{ColumnPlan, EventColumns, RowsEvent};
 use std::alloc::{Allocator, Global};
 
-/// Appends a line for each row of an event. `plan` is that of the event's table; each line begins with `start`, the kind of
-/// change and the names of the table; `columns` is a buffer for the columns of the event's images. An event without rows data has
-/// no lines, and its columns aren't checked.
-///
-/// - `Row`: a row can't be read, can't be printed, or takes no bytes.
-/// - `Memory`: out of memory.
-///
-/// After an error, `text` may hold some of the lines.
-pub fn put_rows<A: Allocator>(
-    alloc: Global,
-    event: &RowsEvent<'_>,
-    plan: &ColumnPlan,
-    start: &[u8],
-    columns: &mut EventColumns,
-    text: &mut TextBuffer<A>,
-) -> Result<(), Verdict>
-    ensures ok { OnOk result (PutsRows (body_of event.now) (table_plan plan.now) start.now (text_in text.old) (text_in text.new)) }
-    ensures err { IfErr result (IsRowsError (event_texts (body_of event.now) (table_plan plan.now))) }
-{
-    if event.rows_data().is_empty() {
-        return Ok(());
-    }
-    let rows = event.rows_by(alloc, plan);
-    let images = match rows.images_in(columns) {
-        Ok(images) => images,
-        Err(fault) => return Err(row_verdict(fault)),
-    };
-    put_lines(alloc, images, start, rows.rest(), text)
-}
-
 /// The feed's verdict for an error of the rows reader.
-fn row_verdict(fault: RowsError) -> Verdict
+#[inline(always)]
+pub fn row_verdict(fault: RowsError) -> Verdict
     ensures { result ≡ row_verdict fault }
 {
     match fault {

@@ -6,11 +6,14 @@ ghost use Rattle.events_frames.specs.QueryTexts.{StatementTexts, HasTexts};
 ghost use Rattle.feed_text.specs.Buffers.{text_in};
 ghost use Rattle.feed_checks.specs.KindViews.{gtid_view};
 ghost use Rattle.feed_transactions.specs.Transactions.{Stated};
+ghost use Rattle.feed_transactions.specs.MappedRows.{change_by};
+ghost use Rattle.feed_transactions.specs.RowTexts.{change_word};
 ghost use Rattle.feed_transactions.specs.TransactionTexts.{commit_line, gtid_text, line_text, uuid_text};
 
 use events_frames::QueryTexts;
 use feed_checks::Gtid;
 use feed_text::TextBuffer;
+use rows_event_body::RowImages;
 use std::alloc::{AllocError, Allocator};
 
 /// Appends the text of a GTID: `-`, `uuid:number`, or `tagged` and the quoted body. Out of memory: a part of it may be appended.
@@ -78,4 +81,15 @@ fn put_group<A: Allocator>(bytes: &[u8], text: &mut TextBuffer<A>) -> Result<(),
 {
     text.put(b'-')?;
     text.put_hexadecimal(bytes)
+}
+
+/// The word for what an event with these images does to a row, and a space.
+pub(crate) fn change_word(images: RowImages) -> &'static [u8]
+    ensures { result.now ≡ change_word (change_by images) }
+{
+    match images {
+        RowImages::Before => b"delete ",
+        RowImages::After => b"insert ",
+        RowImages::BeforeAndAfter | RowImages::BeforeAndPartialAfter => b"update ",
+    }
 }

@@ -12,26 +12,9 @@ use Rattle.std.proofs.lemmas.Nat.{pow-add, le_bytes_8}
 use Rattle.std.specs.Int.{w16, w64, byte_at, bytes_low_first, to_le_bytes, from_le_bytes}
 use Rattle.std.specs.Fmt.{decimal, digits}
 use Rattle.rows_values.specs.TimeTexts.{padded_decimal}
-use Rattle.feed_writers.specs.declared.digits.TheConstants.{PAIRS}
-use lib.Ieee.Fits.{and_l, and_r}
-
-abbrev pub pair : ℕ → List ℕ
-pair p = (48 + p / 10) ∷ (48 + p % 10) ∷ []
-
-abbrev are_pairs : ℕ → Bool
-are_pairs zero = true
-are_pairs (suc p) = (eqb (get_or PAIRS (p * 2) 0) (48 + p / 10) && eqb (get_or PAIRS (p * 2 + 1) 0) (48 + p % 10)) && are_pairs p
-
-below : (n p : ℕ) → T (are_pairs n) → p < n → (get_or PAIRS (p * 2) 0 ≡ 48 + p / 10) × (get_or PAIRS (p * 2 + 1) 0 ≡ 48 + p % 10)
-below zero p t h = absurd (omega arith)
-below (suc n) p t h =
-    elim (eq-zero-or-pos (n - p)) [
-      | inl z ↦ let e : p ≡ n = omega arith in let a = and_l _ (are_pairs n) t in rw e (eqb→eq _ _ (and_l _ _ a), eqb→eq _ _ (and_r _ _ a))
-      | inr g ↦ below n p (and_r _ (are_pairs n) t) (omega arith)
-    ]
-
-pub PAIRS_at : (p : ℕ) → p < 100 → (get_or PAIRS (p * 2) 0 ≡ 48 + p / 10) × (get_or PAIRS (p * 2 + 1) 0 ≡ 48 + p % 10)
-PAIRS_at p h = below 100 p tt h
+use Rattle.rows_values.specs.PackedTexts.{digits_text}
+use Rattle.rows_values.specs.declared.digit_text.TheConstants.{PAIRS}
+use Rattle.rows_values.proofs.DigitTextLemmas.{pair, PAIRS_at, two_text, text_two}
 
 -- ---- the number of digits
 
@@ -111,12 +94,13 @@ padded_two_more k n h =
     let c : n % 10 ≡ n % 100 % 10 = omega arith in
     rw (padded_pair (n % 100) (omega arith), padded_more (suc k) n h, padded_more k (n / 10) (omega (arith, h)), append_assoc, a, b, ← c) refl
 
--- the two bytes of a pair, in sequence
-pub put_pair_is : (base one two : List ℕ) (n tens ones : ℕ) → n < 100 → tens ≡ get_or PAIRS (n * 2) 0 → ones ≡ get_or PAIRS (n * 2 + 1) 0
-    → one ≡ base ++ tens ∷ [] → two ≡ one ++ ones ∷ [] → two ≡ base ++ padded_decimal 2 n
-put_pair_is base one two n tens ones h a b first second =
-    let p = PAIRS_at n h in
-    second ∙ ap (λ (t : List ℕ). t ++ ones ∷ []) first ∙ append_assoc base (tens ∷ []) (ones ∷ []) ∙ rw (padded_pair n h, a, b, p.0, p.1) refl
+-- two digits, and four
+pub two_padded : (n : ℕ) → n < 100 → digits_text 2 n ≡ padded_decimal 2 n
+two_padded n h = two_text n h ∙ sym (padded_pair n h)
+
+pub four_padded : (n : ℕ) → n < 10000 → digits_text 4 n ≡ padded_decimal 4 n
+four_padded n h =
+    sym (text_two 4 n (omega arith)) ∙ ap₂ (λ (a b : List ℕ). a ++ b) (two_padded (n / 100) (omega (arith, h))) (two_padded (n % 100) (omega arith)) ∙ sym (padded_two_more 1 n (omega (arith, h)))
 
 -- two texts, in sequence
 pub joined_is : (base a b c mid new : List ℕ) → mid ≡ base ++ a → new ≡ mid ++ b → a ++ b ≡ c → new ≡ base ++ c

@@ -1,4 +1,7 @@
 //! Quoted bytes, sixteen at a time.
+//!
+//! Sixteen plain bytes are copied by one store. If one or two of them need an escape, the bytes up to the first and its escape are
+//! written, and the next sixteen begin after it. If more need one, the digits of all sixteen are looked up at once.
 
 ghost use Rattle.std.specs.Prelude.{◌≡◌, ◌≤◌, ◌<◌, ◌+◌, ◌-◌, ◌*◌, ◌++◌, List, ℕ, length, map, take, drop, replicate, slice_index};
 ghost use Rattle.std.specs.List.{flat_map};

@@ -3,7 +3,8 @@
 ghost use Rattle.std.specs.Prelude.{◌≡◌, ◌≤◌, ◌<◌, ◌+◌, ◌++◌, ◌∷◌, [], length, take};
 ghost use Rattle.std.specs.Fmt.{decimal};
 
-use crate::digits::{at_least, put_byte, put_number};
+use crate::digits::{at_least, put_number};
+use rows_values::put_byte;
 
 /// The digits of each number below 1,000 and `=`, padded with spaces to four bytes.
 static COLUMN_LABELS: [u8; 4000] =

@@ -5,21 +5,7 @@ ghost use Rattle.std.specs.Fmt.{decimal, signed_decimal};
 ghost use Rattle.rows_values.specs.TimeTexts.{padded_decimal};
 
 use itoa::write_digits;
-
-/// The two digits of each number below 100.
-static PAIRS: [u8; 200] =
-    *b"00010203040506070809101112131415161718192021222324252627282930313233343536373839404142434445464748495051525354555657585960616263646566676869707172737475767778798081828384858687888990919293949596979899";
-
-/// Writes a byte.
-#[inline(always)]
-pub fn put_byte(text: &mut [u8], at: usize, byte: u8) -> usize
-    requires { at < length text.old }
-    ensures end { result ≡ at + 1 }
-    ensures text { take result text.new ≡ take at text.old ++ byte ∷ [] }
-{
-    text[at] = byte;
-    at + 1
-}
+use rows_values::{PAIRS, put_byte, put_four, put_two};
 
 /// Writes bytes, unchanged.
 #[inline(always)]
@@ -31,32 +17,6 @@ pub fn put_bytes(text: &mut [u8], at: usize, bytes: &[u8]) -> usize
     let end = at + bytes.len();
     text[at..end].copy_from_slice(bytes);
     end
-}
-
-/// Writes a number below 100 with two digits.
-#[inline(always)]
-pub(crate) fn put_two(text: &mut [u8], at: usize, number: u32) -> usize
-    requires small { number < 100 }
-    requires room { at + 2 ≤ length text.old }
-    ensures end { result ≡ at + 2 }
-    ensures text { take result text.new ≡ take at text.old ++ padded_decimal 2 number }
-{
-    let from = number as usize * 2;
-    let (tens, ones) = (PAIRS[from], PAIRS[from + 1]);
-    let end = put_byte(text, at, tens);
-    put_byte(text, end, ones)
-}
-
-/// Writes a number below 10,000 with four digits.
-#[inline(always)]
-pub(crate) fn put_four(text: &mut [u8], at: usize, number: u32) -> usize
-    requires small { number < 10000 }
-    requires room { at + 4 ≤ length text.old }
-    ensures end { result ≡ at + 4 }
-    ensures text { take result text.new ≡ take at text.old ++ padded_decimal 4 number }
-{
-    let end = put_two(text, at, number / 100);
-    put_two(text, end, number % 100)
 }
 
 /// Writes a number below 1,000,000 with six digits.

@@ -5,7 +5,7 @@ ghost use Rattle.std.specs.Fmt.{digit_glyph};
 ghost use Rattle.std.specs.List.{flat_map};
 ghost use Rattle.feed_writers.specs.Quoting.{escape};
 
-use crate::digits::put_byte;
+use rows_values::put_byte;
 
 /// The lower case hexadecimal digits.
 pub(crate) static DIGITS: [u8; 16] = *b"0123456789abcdef";

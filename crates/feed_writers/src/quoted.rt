@@ -5,9 +5,10 @@ ghost use Rattle.std.specs.List.{flat_map};
 ghost use Rattle.feed_writers.specs.Quoting.{is_plain_byte, quoted, quoted_byte};
 
 use crate::blocks::{first_bytes, last_bytes, put_run};
-use crate::digits::{put_byte, put_bytes};
+use crate::digits::put_bytes;
 use crate::escapes::{put_escape, put_hex};
 use crate::plain::{are_eight_plain, are_four_plain, is_plain, sixteen_plain_len};
+use rows_values::put_byte;
 use std::simd::prelude::*;
 
 /// Writes bytes in single quotes.

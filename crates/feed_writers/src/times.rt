@@ -4,7 +4,8 @@ ghost use Rattle.std.specs.Prelude.{◌≡◌, ◌≤◌, ◌<◌, ◌+◌, ◌+
 ghost use Rattle.rows_values.specs.TimeTexts.{padded_decimal};
 ghost use Rattle.feed_writers.specs.TimesOfDay.{clock_text, day_text};
 
-use crate::digits::{put_byte, put_bytes, put_four, put_padded, put_six, put_two};
+use crate::digits::{put_bytes, put_padded, put_six};
+use rows_values::{put_byte, put_four, put_two};
 
 /// A time of day, or the rest of a span of time after its days.
 #[derive(Clone, Copy, Debug, PartialEq, Eq)]

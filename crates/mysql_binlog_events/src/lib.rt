@@ -1,11 +1,8 @@
-//! The events of MySQL's binary logs: frames, headers, checksums and format descriptions, the bodies of events, and the readers
-//! of streams and files.
+//! The events of MySQL's binary logs: headers, bodies, format descriptions, and the readers of streams and files.
 //!
-//! Each part is a crate, which is re-exported completely: `events_frames` has frames, headers, footers, format descriptions,
-//! event errors, the texts of a statement and the reader of a log, `events_queries` the body of a statement and its status
-//! variables, `events_bodies` the other bodies with one layout, `events_gtids` those with GTIDs, `events_typed_rows` rows events by type,
-//! and `events_owned` bodies of any type, owned events, files and the writer. The parts use those of `mysql_binlog_rows` and
-//! `mysql_wire`.
+//! It re-exports its parts completely, and has laws of their readers and writers. `events_frames` has what every event has,
+//! `events_queries`, `events_bodies`, `events_gtids` and `events_typed_rows` the bodies, and `events_owned` bodies of any type,
+//! owned events and files.
 #![tactic(auto)]
 
 mod frame_laws;

@@ -1,13 +1,8 @@
-//! The rows of MySQL's binary logs: their constants; the times, decimals and values in their cells; columns and bits; table maps
-//! and rows events.
+//! The rows of MySQL's binary logs: table maps, rows events, cells, JSON documents, decimals and times.
 //!
-//! Each part is a crate, which is re-exported completely: `rows_constants` has the constants and flags, `rows_errors` the errors of
-//! reading rows, `rows_values` packed times, decimals, plain values, columns and rows, `rows_jsonb` JSON documents, whose values are
-//! `jsonb::Value`, `rows_cells` the cells of columns, the images of rows, and rows, `rows_table_map` bits, table maps and their optional
-//! metadata, and `rows_event_body` rows events, the plan of a table's columns, and owned rows. The parts use those of `mysql_wire`.
-//!
-//! `my_time_packed_from_binary` and its neighbours, which read packed times from readers, are in this crate, since no part needs
-//! them.
+//! It re-exports its parts completely, and has their laws. `rows_table_map` and `rows_event_body` have the two kinds of events,
+//! `rows_cells` the cells of images, `rows_jsonb` JSON documents (`jsonb::Value`), `rows_values` decimals, times and plain
+//! values. The readers of packed times from a reader, such as `my_time_packed_from_binary`, are here, since no part needs them.
 #![tactic(auto)]
 
 mod cell_laws;

@@ -1,8 +1,7 @@
-//! MySQL's wire format: buffers, integers, fields, constants, and packets.
+//! MySQL's wire format: buffers, integers, fields, constants and packets.
 //!
-//! Each is a crate of its own, and all of its items are re-exported here. `laws` has the theorems about
-//! framings, packets, and the representations of integers and strings. `Watched` is a reader or a writer that
-//! remembers whether it failed.
+//! It re-exports its parts completely. `laws` has the theorems about framings, packets, and the representations of integers and
+//! strings. `Watched` is a reader or a writer that remembers whether it failed.
 #![tactic(auto)]
 
 pub mod laws;

@@ -1,8 +1,7 @@
-//! The program `binlog-changes`: the committed changes of MySQL binary logs as JSON, whether logs are whole, and their events.
+//! The program `binlog-changes`: committed changes as JSON lines, whether logs are whole, and their events.
 //!
-//! `binlog-changes json FILE..` prints a JSON object a line for each changed row; `check` says whether logs are whole; `events`
-//! lists events. The status is 0 if all logs are whole, 1 if one isn't, 2 for a wrong command line, and 3 if reading or writing
-//! failed or memory ran out. It ends quietly if whoever reads its output has gone.
+//! The status is 0 if all logs are whole, 1 if one isn't, 2 for a wrong command line, and 3 if reading or writing failed or
+//! memory ran out. It ends quietly if the reader of its output closes it.
 #![tactic(auto)]
 
 mod changes;

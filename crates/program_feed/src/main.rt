@@ -1,4 +1,4 @@
-//! The program `binlog-feed`: the change feed of a MySQL binary log.
+//! The program `binlog-feed`: the committed transactions of a binary log as text, from a file or over a connection.
 #![tactic(auto)]
 
 use crc32::crc32;

@@ -1,10 +1,8 @@
-//! The program `binlog-kept`: finds the complete transactions of truncated output, and the position to resume from. Standard
-//! input is a text of the feed, which may be truncated anywhere; it is read in pieces. Standard output is the length in bytes of
-//! the complete transactions, a space, the position to resume from, and a line feed. The position is that after the last complete
-//! transaction, or the first event's if there is none.
+//! The program `binlog-kept`: finds the complete transactions of truncated output, and the position to resume from.
 //!
-//! The program takes no arguments. On an error it prints `Usage`, `Read`, `Memory` or `Write` on standard error, and its status
-//! is 1.
+//! Standard input is a text of the feed, which may be truncated anywhere; it is read in pieces. Standard output is the length in
+//! bytes of the complete transactions, a space, the position after the last of them, or the first event's if there is none, and a
+//! line feed. There are no arguments. On an error standard error has `Usage`, `Read`, `Memory` or `Write`, and the status is 1.
 #![tactic(auto)]
 
 use feed_resume::Keeper;

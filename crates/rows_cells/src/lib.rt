@@ -1,5 +1,4 @@
-//! The cells of rows in a binary log, borrowed from the bytes of a rows event; the images of rows, which say what cells there are;
-//! and the rows of an event.
+//! The cells of rows, borrowed from the bytes of a rows event; the images of rows; and the rows of an event.
 //!
 //! `specs/ColumnFormats.antt` defines the format of a column's cells, by the column's type and metadata, `specs/CellSizes.antt` the
 //! size of a cell, `specs/CellValues.antt` the values of cells, `specs/Cells.antt` which bytes encode a cell, and

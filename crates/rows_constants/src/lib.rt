@@ -1,4 +1,4 @@
-//! The named numbers and the flag sets of MySQL's binary logs that reading frames and rows needs, and their conversions.
+//! The named numbers and flag sets of binary logs that reading frames and rows needs, and their conversions.
 //!
 //! `specs/` has the number of each constant and the bits of each flag. `wire_constants` specifies, once for all types, how a number is
 //! converted to a constant or a set, and when that is an error.

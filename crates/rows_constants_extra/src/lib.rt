@@ -1,5 +1,4 @@
-//! The named numbers and the flag sets of MySQL's binary logs that reading frames and rows doesn't need, and the laws of all of
-//! them.
+//! The named numbers and flag sets of binary logs that no program needs, and the laws of all of them.
 //!
 //! `specs/` has the number of each constant; `FlagTables` of `rows_constants` has the bits of each flag.
 #![tactic(auto)]

@@ -1,7 +1,7 @@
-//! The errors of reading rows, and the rules of JSON documents that have them.
+//! The errors of reading rows, and three rules for JSON documents that are made to break a reader.
 //!
 //! [`RowsError`] says why a table map, a row, a value or a JSON document can't be read; `specs/Readings.antt` defines the results of
-//! reading, and `specs/Faults.antt` the error for each `WireFault`. [`check_place`], [`take_value`] and [`set_member`] are three
+//! reading, and `specs/ConvertedFaults.antt` the error for each `WireFault`. [`check_place`], [`take_value`] and [`set_member`] are three
 //! rules for documents that are made to break a reader.
 #![tactic(auto)]
 

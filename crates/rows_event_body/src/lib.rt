@@ -1,5 +1,4 @@
-//! Rows events, the rows of a table that were inserted, updated or deleted, and the images of their rows: which columns they have,
-//! and the owned rows that are read from them. MySQL Internals: Rows_event.
+//! Rows events, the plan of a table's columns, and the images and owned rows that are read by it. MySQL Internals: Rows_event.
 //!
 //! `ColumnPlan` is the plan of a table's columns: what reading a row needs to know about each, computed once from the table map
 //! and its optional metadata (`specs/Plans.antt`). `specs/OwnedRows.antt` defines the contents of an owned row,

@@ -1,5 +1,4 @@
-//! JSON documents in MySQL's binary format, as stored in JSON columns: their values, read without a copy; their trees; and the
-//! diffs of partial updates.
+//! JSON documents in MySQL's binary format: their values, read without a copy, their trees, and the diffs of partial updates.
 //!
 //! `specs/JsonbValues.antt` defines the value at an offset in a document, `specs/DocumentTrees.antt` the tree of a document and
 //! its limits, `specs/JsonDiffs.antt` a diff.

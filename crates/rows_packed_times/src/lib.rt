@@ -1,4 +1,4 @@
-//! Packed times: their arithmetic, and those of the bytes in TIME2, DATETIME2 and TIMESTAMP2 cells.
+//! Packed times: their arithmetic, and the values of TIME2, DATETIME2 and TIMESTAMP2 cells.
 //!
 //! `specs/PackedTimes.antt` defines the number that the bytes of a cell pack. `rows_values` re-exports all of this, and has the
 //! calls that read from a reader.

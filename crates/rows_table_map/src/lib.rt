@@ -1,5 +1,5 @@
-//! Table maps: TABLE_MAP_EVENT, which describes a table and its columns, and their optional metadata: the signedness, character
-//! sets, names, keys and members of columns, read from borrowed bytes. MySQL Internals: Table_map_event.
+//! Table maps: a table, its columns, and their optional metadata, which are signs, character sets, names, keys and members. MySQL
+//! Internals: Table_map_event.
 //!
 //! A table map is a sequence of fields (`specs/TableMaps.antt`); one definition covers reading and writing. `specs/Entries.antt`
 //! defines the encoding of the entries of a list of optional metadata, `specs/Lists.antt` the items of a list, and

@@ -14,7 +14,7 @@ use lib.Ieee.Fits.{and_l, and_r}
 
 -- ---- pairs of digits
 
-abbrev pair : ℕ → List ℕ
+abbrev pub pair : ℕ → List ℕ
 pair p = (48 + p / 10) ∷ (48 + p % 10) ∷ []
 
 abbrev are_pairs : ℕ → Bool
@@ -29,14 +29,14 @@ below (suc n) p t h =
       | inr g ↦ below n p (and_r _ (are_pairs n) t) (omega arith)
     ]
 
-PAIRS_at : (p : ℕ) → p < 100 → (get_or PAIRS (p * 2) 0 ≡ 48 + p / 10) × (get_or PAIRS (p * 2 + 1) 0 ≡ 48 + p % 10)
+pub PAIRS_at : (p : ℕ) → p < 100 → (get_or PAIRS (p * 2) 0 ≡ 48 + p / 10) × (get_or PAIRS (p * 2 + 1) 0 ≡ 48 + p % 10)
 PAIRS_at p h = below 100 p tt h
 
 two_digits : (n : ℕ) → digits_in 2 n ≡ n / 10 % 10 ∷ n % 10 ∷ []
 unfolding digits_in
 two_digits n = refl
 
-two_text : (n : ℕ) → n < 100 → digits_text 2 n ≡ pair n
+pub two_text : (n : ℕ) → n < 100 → digits_text 2 n ≡ pair n
 two_text n h =
     let e : n / 10 % 10 ≡ n / 10 = omega (arith, h) in
     ap glyphs (two_digits n) ∙ ap (λ d. (48 + d) ∷ (48 + n % 10) ∷ []) e

@@ -5,12 +5,12 @@ ghost use Rattle.std.specs.Prelude.{◌≡◌, ◌≤◌, ◌<◌, ◌+◌, ◌-
 ghost use Rattle.rows_values.specs.PackedTexts.{digits_text};
 
 /// The two digits of each number below 100.
-static PAIRS: [u8; 200] =
+pub static PAIRS: [u8; 200] =
     *b"00010203040506070809101112131415161718192021222324252627282930313233343536373839404142434445464748495051525354555657585960616263646566676869707172737475767778798081828384858687888990919293949596979899";
 
-/// Writes a byte.
+/// Writes a byte, and returns the offset after it.
 #[inline(always)]
-pub(crate) fn put_byte(text: &mut [u8], at: usize, byte: u8) -> usize
+pub fn put_byte(text: &mut [u8], at: usize, byte: u8) -> usize
     requires { at < length text.old }
     ensures end { result ≡ at + 1 }
     ensures text { take result text.new ≡ take at text.old ++ byte ∷ [] }
@@ -19,9 +19,9 @@ pub(crate) fn put_byte(text: &mut [u8], at: usize, byte: u8) -> usize
     at + 1
 }
 
-/// Writes the digits of a number below 100.
+/// Writes the two digits of a number below 100, and returns the offset after them.
 #[inline(always)]
-fn put_two(text: &mut [u8], at: usize, number: u32) -> usize
+pub fn put_two(text: &mut [u8], at: usize, number: u32) -> usize
     requires small { number < 100 }
     requires room { at + 2 ≤ length text.old }
     ensures end { result ≡ at + 2 }
@@ -33,9 +33,9 @@ fn put_two(text: &mut [u8], at: usize, number: u32) -> usize
     put_byte(text, end, ones)
 }
 
-/// Writes the digits of a number below 10,000.
+/// Writes the four digits of a number below 10,000, and returns the offset after them.
 #[inline(always)]
-fn put_four(text: &mut [u8], at: usize, number: u32) -> usize
+pub fn put_four(text: &mut [u8], at: usize, number: u32) -> usize
     requires small { number < 10000 }
     requires room { at + 4 ≤ length text.old }
     ensures end { result ≡ at + 4 }

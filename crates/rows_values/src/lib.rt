@@ -1,9 +1,8 @@
-//! The values in the cells of a binary log's rows: packed times and dates, MySQL's DECIMAL, and plain values with their columns and
-//! rows.
+//! The values in cells: packed times and dates, MySQL's DECIMAL, and plain values with their columns and rows.
 //!
 //! `rows_packed_times`, which is re-exported here, defines the number that the bytes of a cell pack, `specs/TimeFields.antt` the
 //! fields of such a number, and `specs/TimeTexts.antt` the text of a time. [`Decimal`] holds a sign and the digits before and after
-//! the point: `specs/Digits.antt` defines how digits are packed, `specs/Decimals.antt` what is read and written, `specs/Texts.antt`
+//! the point: `specs/Digits.antt` defines how digits are packed, `specs/Decimals.antt` what is read and written, `specs/PrintedDecimals.antt`
 //! the text that is printed and parsed, and `specs/Unpacked.antt` which decimal given bytes pack, and its text.
 //! `specs/Values.antt` defines which values are the same and the value of a packed time.
 #![tactic(auto)]
@@ -26,6 +25,7 @@ mod rows;
 mod times;
 mod unpacking;
 
+pub use digit_text::{PAIRS, put_byte, put_four, put_two};
 pub use digits::{DIG_BASE, DIG_PER_DEC, DIG_TO_BYTES, Digit, POWERS_10, decimal_bin_size};
 pub use fields::Decimal;
 pub use numbers::{DecimalNumbers, decimal_numbers};

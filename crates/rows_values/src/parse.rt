@@ -76,7 +76,7 @@ impl Decimal {
 }
 
 /// Returns the decimal of a text without white space around it.
-#[tactic(auto, unfolding(crate::specs::Texts::text_value))]
+#[tactic(auto, unfolding(crate::specs::PrintedDecimals::text_value))]
 fn parse_trimmed(alloc: Global, text: &[u8]) -> Result<Decimal, ParseDecimalError>
     ensures ok { IfOk result (λ d. text_value text.now ≡ Some (decimal_parts d)) }
     ensures err { IfErr result (λ e. IsTextFault e (text_value text.now)) }
@@ -88,7 +88,7 @@ fn parse_trimmed(alloc: Global, text: &[u8]) -> Result<Decimal, ParseDecimalErro
 }
 
 /// Returns the decimal of the characters before and after the point.
-#[tactic(auto, unfolding(crate::specs::Texts::from_digit_texts))]
+#[tactic(auto, unfolding(crate::specs::PrintedDecimals::from_digit_texts))]
 fn from_digit_texts(
     alloc: Global,
     minus: bool,
@@ -145,7 +145,7 @@ fn split_point(body: &[u8]) -> (&[u8], &[u8])
 }
 
 /// Returns whether there is a digit, and nothing but digits.
-#[tactic(auto, unfolding(crate::specs::Texts::has_only_digits))]
+#[tactic(auto, unfolding(crate::specs::PrintedDecimals::has_only_digits))]
 fn has_only_digits(before: &[u8], after: &[u8]) -> bool
     ensures { result ≡ is_sequence_as before.now after.now }
 {

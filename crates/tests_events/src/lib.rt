@@ -1,5 +1,6 @@
-//! Tests of events that no table can say: the example of the documentation, and values that constructors and setters make. Cases
-//! of bytes with their results are in `checks/data/events_cases.txt`.
+//! Tests of events that no line of a table can express: the example of the documentation, constructors and setters.
+//!
+//! Cases of bytes with their results are in `checks/cases/data/events_cases.txt`.
 #![tactic(auto)]
 
 #[cfg(test)]

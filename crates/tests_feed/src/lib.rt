@@ -1,6 +1,7 @@
-//! Tests of the change feed through its public interface, for what tables of cases (`checks/feed_cases`, `checks/layer_cases`) can't
-//! express: readers and writers that fail, answers that break off at any byte, truncated texts, checksums, and each call with enough
-//! memory.
+//! Tests of the feed and its text that no line of a table can express: failing devices, interrupted answers, truncated texts,
+//! checksums, enough memory, out of memory.
+//!
+//! They use the public interface. The tables of cases are those of `checks/programs/feed_cases` and `checks/cases/layer_cases`.
 #![tactic(auto)]
 
 #[cfg(test)]
@@ -10,17 +11,29 @@ mod answers;
 #[cfg(test)]
 mod checksums;
 #[cfg(test)]
+mod failed_cells;
+#[cfg(test)]
 mod failing;
 #[cfg(test)]
+mod json_text;
+#[cfg(test)]
 mod keeping;
+#[cfg(test)]
+mod laws;
 #[cfg(test)]
 mod memory;
 #[cfg(test)]
 mod reporting;
+#[cfg(test)]
+mod rows_example;
+#[cfg(test)]
+mod rows_without_memory;
 pub mod samples;
 #[cfg(test)]
 mod semi;
 #[cfg(test)]
 mod serving;
+#[cfg(test)]
+mod texts;
 #[cfg(test)]
 mod verdicts;

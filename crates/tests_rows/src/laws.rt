@@ -44,14 +44,6 @@ fn laws_of_documents_and_metadata() {
     mysql_binlog_rows::laws::lists_are_read();
 }
 
-fn laws_of_texts() {
-    feed_text::laws::equal_quotes_are_of_equal_bytes();
-    feed_text::laws::values_have_the_texts_of_cells();
-    feed_text::laws::values_of_cells_have_their_texts();
-    feed_text::laws::worked_quote();
-    feed_text::laws::worked_times();
-}
-
 fn laws_of_rows() {
     mysql_binlog_rows::laws::cells_are_read();
     mysql_binlog_rows::laws::no_cell_is_prefix_of_another();
@@ -71,6 +63,5 @@ fn laws(_rt: HostRuntime) {
     laws_of_times();
     laws_of_decimals();
     laws_of_documents_and_metadata();
-    laws_of_texts();
     laws_of_rows();
 }

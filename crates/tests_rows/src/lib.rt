@@ -1,5 +1,6 @@
-//! Tests of the rows layer and of `feed_text` that no table of cases can have: laws, out of memory, readers and writers that fail,
-//! conversions, and the examples of the documentation. The cases are in `rows_cases`.
+//! Tests of the rows layer that no line of a table can express: laws, out of memory, failing devices, conversions.
+//!
+//! The cases are in `checks/cases/data/rows_cases.txt`.
 #![tactic(auto)]
 
 #[cfg(test)]
@@ -7,20 +8,10 @@ mod constants;
 #[cfg(test)]
 mod devices;
 #[cfg(test)]
-mod example;
-#[cfg(test)]
-mod failed_cells;
-#[cfg(test)]
 mod faults;
 #[cfg(test)]
 mod image_cells;
 #[cfg(test)]
-mod json_text;
-#[cfg(test)]
 mod laws;
 #[cfg(test)]
 mod optional_metadata;
-#[cfg(test)]
-mod rows_without_memory;
-#[cfg(test)]
-mod texts;

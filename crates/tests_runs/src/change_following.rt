@@ -1,4 +1,4 @@
-//! A follower that lends each transaction, over answers that break off.
+//! A follower that lends each transaction, over answers that are interrupted.
 
 use crc32::crc32;
 use feed_change_follower::ChangeFollower;

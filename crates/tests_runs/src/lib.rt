@@ -1,5 +1,6 @@
-//! Tests of `feed_replication`: runs of a follower over connections that drop and over a log that grows, and what such a run
-//! acknowledges; and of `feed_change_follower`. They use the small binary log in `samples` of `tests_feed`.
+//! Tests of followers over connections that drop and over a log that grows, and of what they acknowledge.
+//!
+//! They use the small binary log in `samples` of `tests_feed`.
 #![tactic(auto)]
 
 #[cfg(test)]

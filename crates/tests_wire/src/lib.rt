@@ -1,5 +1,6 @@
-//! Tests of the wire layer that no table of cases can have: laws, readers and writers that end, fail or are interrupted, out of
-//! memory, payloads of several chunks, and the examples of the documentation. The cases are in `wire_cases`.
+//! Tests of the wire layer that no line of a table can express: laws, failing devices, out of memory, payloads of several chunks.
+//!
+//! The examples of the documentation are here too. The cases are in `checks/cases/data/wire_cases.txt`.
 #![tactic(auto)]
 
 #[cfg(test)]

@@ -28,7 +28,7 @@ fn chunk_of_a_longer_packet(alloc: Global) -> bool {
         && chunks.is_empty()
 }
 
-/// A count in three bytes, then a length-encoded integer: the first example of docs/WIRE.md.
+/// A count in three bytes, then a length-encoded integer: the first example of docs/library/WIRE.md.
 fn read(alloc: Global, bytes: &[u8]) -> Result<(u32, u64), WireFault> {
     let mut buf = ParseBuf(bytes);
     let count = buf.parse::<RawInt<LeU24>>(alloc, ())?;
@@ -51,7 +51,7 @@ fn field_read_and_written(alloc: Global) -> bool {
         && out.as_slice() == bytes.as_slice()
 }
 
-/// A name, two bytes without meaning, and the rest: the second example of docs/WIRE.md.
+/// A name, two bytes without meaning, and the rest: the second example of docs/library/WIRE.md.
 fn reads_fields(alloc: Global) -> Result<bool, WireFault> {
     let mut buf = ParseBuf(b"\x02ab\x00\x00cd");
     let name = buf.parse::<RawBytes<'_, U8Bytes>>(alloc, ())?;
@@ -64,7 +64,7 @@ fn raw_encodings_read(alloc: Global) -> bool {
     reads_fields(alloc) == Ok(true)
 }
 
-/// Reads each packet that is complete as more of a stream arrives: the third example of docs/WIRE.md.
+/// Reads each packet that is complete as more of a stream arrives: the third example of docs/library/WIRE.md.
 fn take(
     codec: &mut PacketCodec,
     src: &mut BytesMut,

@@ -1,9 +1,8 @@
-//! Buffers for the fields of MySQL's packets and binlog events, and the traits of values that are encoded in
-//! bytes.
+//! The buffer that fields are read from, the traits of a field, and reads and writes that say which bytes were moved.
 //!
 //! [`ParseBuf`] holds the remaining bytes of a source; its calls read integers, strings and whole values from
 //! the start. [`MyDeserialize`] and [`MySerialize`] are the two directions of a field. Their contracts say
-//! which bytes encode a value (`specs/Encoded.antt`) and that the bytes encode no other value.
+//! which bytes encode a value (`specs/Encoding.antt`) and that the bytes encode no other value.
 //! [`read_exact`], [`read_more`] and [`write_all`] move runs of bytes from a reader and to a writer; their
 //! contracts say which bytes were moved before an error (`specs/Transfers.antt`). [`Watched`] is a reader or
 //! a writer that remembers whether it failed.

@@ -1,5 +1,4 @@
-//! The constants of MySQL's client and server protocol that reading frames and rows needs, and their conversions from and to
-//! numbers.
+//! The constants of MySQL's protocol that reading frames and rows needs: column types, geometry types, column flags.
 //!
 //! The tables are in `specs/`: `ColumnTypes` and `GeometryTypes` give the number of each constant, `ColumnFlagBits` the bits of each flag.
 //! `Numbering` says how a number is converted to a constant or a set of flags, and when that is an error.

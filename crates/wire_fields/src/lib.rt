@@ -1,9 +1,9 @@
-//! Fields of MySQL's packets and events: integers and byte strings in their encodings, constants as their numbers, sets of
-//! flags, and bytes without meaning; and integers and strings over buffers.
+//! Fields of packets and events: integers and byte strings in their encodings, raw constants, flags, and bytes without meaning;
+//! and integers and strings over buffers.
 //!
 //! A field is a type with `MyDeserialize` and `MySerialize`. An encoding of integers is a type with the trait [`IntRepr`], and
 //! one of byte strings a type with [`BytesRepr`]; the contracts of these traits have their laws. [`RawInt`] and [`RawBytes`] are
-//! fields in such an encoding. `specs/Ints.antt` and `specs/Texts.antt` say which bytes encode a number or a string, and how
+//! fields in such an encoding. `specs/Ints.antt` and `specs/ByteStrings.antt` say which bytes encode a number or a string, and how
 //! much of it is written.
 #![tactic(auto)]
 

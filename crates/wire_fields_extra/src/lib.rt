@@ -1,7 +1,8 @@
-//! The constants and fields of MySQL's packets that reading frames and rows doesn't need: commands, types of results, the
-//! options of a query's session; strings that a zero byte ends or that follow a length of four bytes, constants, sequences of
-//! fields and of numbers, constant bytes, fields of one of two formats, halves of a number, and integers whose first byte shows
-//! their size; integers and strings over readers and writers; and the laws of all encodings of integers and of byte strings.
+//! The constants and fields of MySQL's packets that no program needs, and the laws of all encodings.
+//!
+//! Constants: commands, types of results, the options of a query's session. Fields: strings that a zero byte ends or that follow a
+//! length of four bytes, constants, sequences, constant bytes, fields of one of two formats, halves of a number, and integers whose
+//! first byte shows their size. It also reads and writes integers and strings over readers and writers.
 #![tactic(auto)]
 
 mod command;

@@ -14,34 +14,34 @@ loop-step-init g c = record {
   underway = λ sum k. begun (rules sum) c.args.format c.args.name.now c.args.binlog.now c.args.steps.now c.args.follower _ _ _ c.args.acks.now.items c.requires.starts;
 }
 
-pub take_step_with-verdict-requires-clause-keeps : goal.take_step_with-verdict-requires-clause-keeps
-take_step_with-verdict-requires-clause-keeps g c = c.loop-step.invariant.keeps
+pub run_step_with_acks-verdict-requires-clause-keeps : goal.run_step_with_acks-verdict-requires-clause-keeps
+run_step_with_acks-verdict-requires-clause-keeps g c = c.loop-step.invariant.keeps
 
 pub returns-then-is_fault-clause-run : goal.returns-then-is_fault-clause-run
 returns-then-is_fault-clause-run g c = λ sum k.
-    gone-wrong (rules sum) c.args.format c.args.name.now c.args.binlog.now c.args.steps.now _ _ _ c.loop-step.follower c.take_step_with-verdict.new.follower _ _ _ c.loop-step.verdict c.take_step_with-verdict.result _ _ (drop_more c.args.steps.now c.loop-step.step-index _ c.loop-step-test.true) (c.loop-step.invariant.underway sum k)
-    (sym c.is_fault.ensures ∙ c.if-is_fault.true) (c.take_step_with-verdict.ensures.takes sum k)
+    gone-wrong (rules sum) c.args.format c.args.name.now c.args.binlog.now c.args.steps.now _ _ _ c.loop-step.follower c.run_step_with_acks-verdict.new.follower _ _ _ c.loop-step.verdict c.run_step_with_acks-verdict.result _ _ (drop_more c.args.steps.now c.loop-step.step-index _ c.loop-step-test.true) (c.loop-step.invariant.underway sum k)
+    (sym c.is_fault.ensures ∙ c.if-is_fault.true) (c.run_step_with_acks-verdict.ensures.takes sum k)
 
 pub returns-then-is_fault-clause-follows : goal.returns-then-is_fault-clause-follows
 returns-then-is_fault-clause-follows g c = λ sum k i.
-    follows (rules sum) c.args.format c.args.binlog.now c.args.steps.now _ _ c.take_step_with-verdict.result (prints-the-log sum c.args.format c.args.binlog.now c.args.steps.now i)
-    (gone-wrong (rules sum) c.args.format c.args.name.now c.args.binlog.now c.args.steps.now _ _ _ c.loop-step.follower c.take_step_with-verdict.new.follower _ _ _ c.loop-step.verdict c.take_step_with-verdict.result _ _ (drop_more c.args.steps.now c.loop-step.step-index _ c.loop-step-test.true) (c.loop-step.invariant.underway sum k)
-    (sym c.is_fault.ensures ∙ c.if-is_fault.true) (c.take_step_with-verdict.ensures.takes sum k))
+    follows (rules sum) c.args.format c.args.binlog.now c.args.steps.now _ _ c.run_step_with_acks-verdict.result (prints-the-log sum c.args.format c.args.binlog.now c.args.steps.now i)
+    (gone-wrong (rules sum) c.args.format c.args.name.now c.args.binlog.now c.args.steps.now _ _ _ c.loop-step.follower c.run_step_with_acks-verdict.new.follower _ _ _ c.loop-step.verdict c.run_step_with_acks-verdict.result _ _ (drop_more c.args.steps.now c.loop-step.step-index _ c.loop-step-test.true) (c.loop-step.invariant.underway sum k)
+    (sym c.is_fault.ensures ∙ c.if-is_fault.true) (c.run_step_with_acks-verdict.ensures.takes sum k))
 
 pub returns-then-is_fault-clause-acknowledges : goal.returns-then-is_fault-clause-acknowledges
 returns-then-is_fault-clause-acknowledges g c = λ sum k.
-    acknowledged-wrong (rules sum) c.args.format c.args.name.now c.args.binlog.now c.args.steps.now _ _ _ c.loop-step.follower c.take_step_with-verdict.new.follower _ _ _ c.loop-step.verdict c.take_step_with-verdict.result _ _ _ (drop_more c.args.steps.now c.loop-step.step-index _ c.loop-step-test.true) (c.loop-step.invariant.underway sum k)
-    (sym c.is_fault.ensures ∙ c.if-is_fault.true) (c.take_step_with-verdict.ensures.takes sum k) (λ before h i. c.take_step_with-verdict.ensures.acknowledges sum k before h i c.loop-step.invariant.none_waits)
+    acknowledged-wrong (rules sum) c.args.format c.args.name.now c.args.binlog.now c.args.steps.now _ _ _ c.loop-step.follower c.run_step_with_acks-verdict.new.follower _ _ _ c.loop-step.verdict c.run_step_with_acks-verdict.result _ _ _ (drop_more c.args.steps.now c.loop-step.step-index _ c.loop-step-test.true) (c.loop-step.invariant.underway sum k)
+    (sym c.is_fault.ensures ∙ c.if-is_fault.true) (c.run_step_with_acks-verdict.ensures.takes sum k) (λ before h i. c.run_step_with_acks-verdict.ensures.acknowledges sum k before h i c.loop-step.invariant.none_waits)
 
 pub loop-step-preserved : goal.loop-step-preserved
 loop-step-preserved g c = record {
   callable = c.requires.callable;
-  keeps = ap (λ b. b.now) c.take_step_with-verdict.ensures.keeps ∙ c.loop-step.invariant.keeps;
-  none_waits = c.take_step_with-verdict.ensures.none_waits;
+  keeps = ap (λ b. b.now) c.run_step_with_acks-verdict.ensures.keeps ∙ c.loop-step.invariant.keeps;
+  none_waits = c.run_step_with_acks-verdict.ensures.none_waits;
   goes_on = sym c.is_fault.ensures ∙ c.if-is_fault.false;
   underway = λ sum k.
-      gone-on (rules sum) c.args.format c.args.name.now c.args.binlog.now c.args.steps.now _ _ _ c.loop-step.follower c.take_step_with-verdict.new.follower _ _ _ c.loop-step.verdict c.take_step_with-verdict.result _ _ _ (drop_more c.args.steps.now c.loop-step.step-index _ c.loop-step-test.true) (c.loop-step.invariant.underway sum k)
-      (sym c.is_fault.ensures ∙ c.if-is_fault.false) (c.take_step_with-verdict.ensures.takes sum k) (λ before h i. c.take_step_with-verdict.ensures.acknowledges sum k before h i c.loop-step.invariant.none_waits);
+      gone-on (rules sum) c.args.format c.args.name.now c.args.binlog.now c.args.steps.now _ _ _ c.loop-step.follower c.run_step_with_acks-verdict.new.follower _ _ _ c.loop-step.verdict c.run_step_with_acks-verdict.result _ _ _ (drop_more c.args.steps.now c.loop-step.step-index _ c.loop-step-test.true) (c.loop-step.invariant.underway sum k)
+      (sym c.is_fault.ensures ∙ c.if-is_fault.false) (c.run_step_with_acks-verdict.ensures.takes sum k) (λ before h i. c.run_step_with_acks-verdict.ensures.acknowledges sum k before h i c.loop-step.invariant.none_waits);
 }
 
 pub returns-clause-run : goal.returns-clause-run

@@ -1,0 +1,36 @@
+# The way in: `make` lists the targets. Each is one script; its first lines say more.
+PREFIX ?= /usr/local
+PROGRAMS ?= binlog-feed binlog-kept binlog-changes
+
+help: ## list the targets
+	@sed -n 's/^\([a-z]*\):.*## /\1|/p' Makefile | \
+	  while IFS='|' read -r target text; do printf '  make %-9s %s\n' "$$target" "$$text"; done
+
+try: ## report a small log without a proof, in half a minute; LOG=FILE reports a log of yours
+	@tools/try $(LOG)
+
+test: ## the gate, which proves everything from nothing and runs every check, in about half an hour
+	@checks/all
+
+quick: ## run the tests and the tables of cases without proofs, in a few minutes; CRATE=NAME runs those of one crate
+	@checks/cases/quick $(CRATE)
+
+install: ## prove, build and install PROGRAMS in PREFIX/bin, with their manual pages (PREFIX=/usr/local)
+	@tools/install $(PREFIX) $(PROGRAMS)
+
+uninstall: ## remove what `make install` installed in PREFIX
+	@tools/uninstall $(PREFIX)
+
+edits: ## try the wrong programs of CRATE=NAME, which the prover must reject
+	@checks/prover/edits $(or $(CRATE),$(error name a crate, as in make edits CRATE=rows_cells))
+
+docs: ## write the generated pages and drawings anew; LOG=FILE takes the times from the output of `make test`
+	@checks/documents/contents --write
+	@checks/documents/audit --write
+	@bench/plot
+	@$(if $(LOG),tools/gate_times $(LOG))
+
+bench: ## time reports of several kinds of logs; PROGRAM=PATH times that program without proving it first
+	@bench/run $(if $(PROGRAM),--program $(PROGRAM))
+
+.PHONY: help try test quick install uninstall edits docs bench

@@ -1,6 +1,0 @@
-use Rattle.std.proofs.Common.{arith, sym}
-use Rattle.feed_writers.proofs.DigitLemmas.{joined_is, padded_two_more}
-use Rattle.feed_writers.proofs.digits.put_four.Goals as goal
-
-pub returns-clause-text : goal.returns-clause-text
-returns-clause-text c = joined_is _ _ _ _ _ _ c.put_two-end.ensures.text c.put_two.ensures.text (sym (padded_two_more 1 c.args.number (omega (arith, c.ranges.number.fits))))

@@ -1,6 +1,0 @@
-use Rattle.std.proofs.Common.{refl}
-use Rattle.feed_writers.proofs.DigitLemmas.{put_pair_is}
-use Rattle.feed_writers.proofs.digits.put_two.Goals as goal
-
-pub returns-clause-text : goal.returns-clause-text
-returns-clause-text c = put_pair_is _ _ _ c.args.number _ _ c.requires.small refl refl c.put_byte-end.ensures.text c.put_byte.ensures.text
