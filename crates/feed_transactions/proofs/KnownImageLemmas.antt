@@ -11,8 +11,8 @@ use Rattle.feed_transactions.specs.declared.tables.Tables.{Tables}
 use Rattle.feed_checks.specs.declared.verdict.Verdict.{Verdict}
 use Rattle.feed_transactions.specs.RowLines.{PutsLines, IsRowsError, rows_texts_at}
 use Rattle.feed_transactions.specs.Tables.{mapped}
-use Rattle.feed_transactions.specs.TableRows.{FindsRows, PutsRowsOf, IsErrorOf}
-use Rattle.feed_transactions.specs.declared.table_rows.TableRows.{TableRows}
+use Rattle.feed_transactions.specs.PlannedRows.{FindsRows, PutsPlannedRows, IsPlannedRowsError}
+use Rattle.feed_transactions.specs.declared.planned_rows.PlannedRows.{PlannedRows}
 use Rattle.feed_transactions.specs.declared.known_images.UsualRows.{UsualRows}
 use Rattle.feed_transactions.proofs.RowLineLemmas.{lines_put, lines_unput}
 use Rattle.std.specs.Prelude.{option_map, if◌then◌else◌}
@@ -207,7 +207,7 @@ known_event t head fields rows_data p shapes names start knows size =
 some_rows : (x y : List ℕ) → x ≡ y → 0 < length y → (length x == 0) ≡ false
 some_rows x y is some = ne_eqb (length x) 0 (λ h. absurd (omega (arith, ap length is, h, some)))
 
-pub found_rows : (s : Tables) (u : UsualRows) (k : TableRows) (head rest : List ℕ) (id : ℕ) → u.body.now ≡ head ++ rest → length head ≡ 8 → id ≡ little_number 6 head → ◌≡◌ {A = Option TableMap} (Some (map_of k.table.now.map)) (mapped s id)
+pub found_rows : (s : Tables) (u : UsualRows) (k : PlannedRows) (head rest : List ℕ) (id : ℕ) → u.body.now ≡ head ++ rest → length head ≡ 8 → id ≡ little_number 6 head → ◌≡◌ {A = Option TableMap} (Some (map_of k.table.now.map)) (mapped s id)
     → k.images ≡ images_of u.event_type → k.table.now.images.event_type ≡ Some u.event_type → rest ≡ k.table.now.images.fields.items ++ k.rows_data.now → 0 < length k.rows_data.now → FindsRows s u.event_type u.body.now k
 found_rows s u k head rest id joined size id_is found images type fields some =
     let t = k.table.now in
@@ -231,13 +231,13 @@ found_rows s u k head rest id joined size id_is found images type fields some =
       };
     }
 
-pub known_put : (k : TableRows) (start before after : List ℕ) (shapes : List ImageShape) (a : Result ⊤ Verdict) → shapes ≡ shapes_of k.table.now.images.columns → start ≡ k.table.now.images.start.items
-    → OnOk a (PutsLines shapes start k.rows_data.now before after) → OnOk a (PutsRowsOf k before after)
+pub known_put : (k : PlannedRows) (start before after : List ℕ) (shapes : List ImageShape) (a : Result ⊤ Verdict) → shapes ≡ shapes_of k.table.now.images.columns → start ≡ k.table.now.images.start.items
+    → OnOk a (PutsLines shapes start k.rows_data.now before after) → OnOk a (PutsPlannedRows k before after)
 known_put k start before after shapes (Ok x) shapes_is start_is h = λ r m has.
     lines_put r (plan_by m) shapes (start_of r m) k.rows_data.now before after (Ok tt) (has.shapes_are ∙ ap (λ (l : List ImageShape). Ok l) (sym shapes_is)) has.rows_are
     (subst (λ (l : List ℕ). PutsLines shapes l k.rows_data.now before after) (start_is ∙ has.start_is) h)
 known_put k start before after shapes (Err v) shapes_is start_is h = tt
 
-pub known_unput : (k : TableRows) (shapes : List ImageShape) (a : Result ⊤ Verdict) → shapes ≡ shapes_of k.table.now.images.columns → IfErr a (IsRowsError (rows_texts_at shapes k.rows_data.now)) → IfErr a (IsErrorOf k)
+pub known_unput : (k : PlannedRows) (shapes : List ImageShape) (a : Result ⊤ Verdict) → shapes ≡ shapes_of k.table.now.images.columns → IfErr a (IsRowsError (rows_texts_at shapes k.rows_data.now)) → IfErr a (IsPlannedRowsError k)
 known_unput k shapes (Ok x) shapes_is h = tt
 known_unput k shapes (Err v) shapes_is h = λ r m has. lines_unput r (plan_by m) shapes k.rows_data.now (Err v) (has.shapes_are ∙ ap (λ (l : List ImageShape). Ok l) (sym shapes_is)) has.rows_are h

@@ -17,7 +17,7 @@ pub mod RowTexts
 pub mod RowLines
 pub mod KnownImages
 pub mod Tables
-pub mod TableRows
+pub mod PlannedRows
 pub mod InterruptedWrites
 pub mod Reports
 pub mod ReportSteps

@@ -4,7 +4,7 @@ ghost use Rattle.std.specs.Prelude.{◌≡◌, IfErr, OnOk};
 ghost use Rattle.rows_cells.specs.RowViews.{row_shape};
 ghost use Rattle.rows_event_body.specs.EventColumnViews.{shapes_of};
 ghost use Rattle.feed_text.specs.Buffers.{text_in};
-ghost use Rattle.feed_transactions.specs.TableRows.{PutsRowsOf, IsErrorOf};
+ghost use Rattle.feed_transactions.specs.PlannedRows.{PutsPlannedRows, IsPlannedRowsError};
 
 use crate::lines::put_lines;
 use crate::tables::Table;
@@ -16,13 +16,13 @@ use std::alloc::{Allocator, Global};
 
 /// The rows of an event, at least one, of a table that knows the columns of their images.
 #[derive(Clone, Copy)]
-pub struct TableRows<'t, 'b> {
+pub struct PlannedRows<'t, 'b> {
     pub(crate) images: RowImages,
     pub(crate) table: &'t Table,
     pub(crate) rows_data: &'b [u8],
 }
 
-impl<'t, 'b> TableRows<'t, 'b> {
+impl<'t, 'b> PlannedRows<'t, 'b> {
     /// The images of each row.
     pub fn images(self) -> RowImages
         ensures { result ≡ self.entry.images }
@@ -59,8 +59,8 @@ impl<'t, 'b> TableRows<'t, 'b> {
     /// After an error, `text` may hold some of the lines.
     #[inline(always)]
     pub fn put<A: Allocator>(self, alloc: Global, text: &mut TextBuffer<A>) -> Result<(), Verdict>
-        ensures ok { OnOk result (PutsRowsOf self.entry (text_in text.old) (text_in text.new)) }
-        ensures err { IfErr result (IsErrorOf self.entry) }
+        ensures ok { OnOk result (PutsPlannedRows self.entry (text_in text.old) (text_in text.new)) }
+        ensures err { IfErr result (IsPlannedRowsError self.entry) }
     {
         let images = &self.table.images;
         let start = images.start.as_slice();
