@@ -9,7 +9,7 @@ help: ## list the targets
 try: ## report a small log without a proof, in half a minute; LOG=FILE reports a log of yours
 	@tools/try $(LOG)
 
-test: ## the gate, which proves everything from nothing and runs every check, in about half an hour
+test: ## the gate, which proves everything from nothing and runs every check, in about an hour
 	@checks/all
 
 quick: ## run the tests and the tables of cases without proofs, in a few minutes; CRATE=NAME runs those of one crate
