@@ -11,9 +11,9 @@ use events_bodies::{
 use events_frames::{
     BinlogCtx, BinlogEvent, EventError, FormatDescriptionEvent, RotateEvent, XidEvent, read_struct,
 };
-use events_gtids::{AnonymousGtidEvent, GtidEvent};
-use events_queries::QueryEvent;
-use events_typed_rows::{
+use events_bodies::{AnonymousGtidEvent, GtidEvent};
+use events_bodies::QueryEvent;
+use events_owned::{
     DeleteRowsEvent, DeleteRowsEventV1, PartialUpdateRowsEvent, UpdateRowsEvent, UpdateRowsEventV1,
     WriteRowsEvent, WriteRowsEventV1,
 };

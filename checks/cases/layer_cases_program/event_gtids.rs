@@ -5,7 +5,7 @@ use crate::event_memory::written;
 use crate::event_words::{put_bytes_field, put_field, put_unless};
 use crate::words::{Fault, bytes_of, number_of, put_bytes};
 use events_frames::read_body;
-use events_gtids::{AnonymousGtidEvent, GtidEvent};
+use events_bodies::{AnonymousGtidEvent, GtidEvent};
 use std::alloc::{AllocError, Global};
 
 /// Appends the fields that each event has.

@@ -6,7 +6,7 @@ use crate::event_words::{put_bytes_field, put_debug, put_field, put_text_field, 
 use crate::words::{Fault, bytes_of, only_bytes_of, put_bytes, put_rest, put_text};
 use events_bodies::ExecuteLoadQueryEvent;
 use events_frames::{QueryTexts, read_body};
-use events_queries::{QueryEvent, StatusVar, StatusVars, StatusVarsIterator};
+use events_bodies::{QueryEvent, StatusVar, StatusVars, StatusVarsIterator};
 use rows_constants_extra::{LoadDuplicateHandling, StatusVarKey};
 use std::alloc::{AllocError, Global};
 use std::borrow::CowSlice;

@@ -6,7 +6,7 @@ use crate::event_words::{description_with, put_debug, put_field, put_text_field,
 use crate::tables::event_type_of;
 use crate::words::{Fault, bytes_of, put_bits, put_bytes, put_text};
 use events_frames::{BinlogCtx, EventError, read_struct};
-use events_typed_rows::{
+use events_owned::{
     DeleteRows, DeleteRowsV1, PartialUpdateRows, RowsEventData, RowsEventOf, RowsKind, UpdateRows,
     UpdateRowsV1, WriteRows, WriteRowsV1,
 };

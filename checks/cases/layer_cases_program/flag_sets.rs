@@ -40,6 +40,9 @@ where
             }
         }
     }
+    if F::from_bits_retain(bits).bits() != bits {
+        put_text(" without its bits", out)?;
+    }
     let none = F::Bits::from(F::default());
     if none != F::Bits::from(F::empty()) {
         put_text(" with default flags", out)?;

@@ -176,6 +176,9 @@ fn put_string(alloc: Global, string: &JsonbString<'_>, out: &mut Vec<u8>) -> Res
     if again != *string || *string != JsonbString::new(CowSlice::Borrowed(again.str_raw())) {
         put_text(" made otherwise", out)?;
     }
+    if again.into_raw().as_slice() != string.str_raw() {
+        put_text(" unwrapped otherwise", out)?;
+    }
     Ok(())
 }
 
@@ -190,6 +193,9 @@ fn put_opaque(alloc: Global, opaque: &OpaqueValue<'_>, out: &mut Vec<u8>) -> Res
     put_name(made.data_raw(), text, out)?;
     if made.data_raw() != bytes || made.value_type() != opaque.value_type() {
         put_text(" made otherwise", out)?;
+    }
+    if made.into_data().as_slice() != bytes {
+        put_text(" unwrapped otherwise", out)?;
     }
     Ok(())
 }

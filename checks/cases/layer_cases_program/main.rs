@@ -8,6 +8,7 @@
 
 mod cell_texts;
 mod cells;
+mod conversions;
 mod decimals;
 mod entries;
 mod event_bodies;
@@ -28,6 +29,7 @@ mod event_rows;
 mod event_values;
 mod event_words;
 mod feed_followers;
+mod feed_unsummed;
 mod feed_values;
 mod flag_sets;
 mod json_changes;
@@ -127,12 +129,16 @@ fn put_result(
         "taken" => optional::put_taken(alloc, arguments, out),
         "entry" => entries::put_entry(alloc, arguments, out),
         "number" => numbers::put_named(arguments, out),
+        "convert" => conversions::put_converted(arguments, out),
         "numbers" => numbers::put_numbers(alloc, arguments, out),
         "changes" | "changes_failing" | "filtered" => {
             feed_values::put_of_log(alloc, call, arguments, out)
         }
         "follower" | "stream" | "each_byte" | "serve" => {
             feed_followers::put_followed(alloc, call, arguments, out)
+        }
+        "unsummed_report" | "unsummed_run" | "unsummed_serve" => {
+            feed_unsummed::put_unsummed(alloc, call, arguments, out)
         }
         _ => put_value_result(alloc, call, arguments, out),
     }

@@ -143,7 +143,36 @@ fn is_constant(alloc: Global, kind: &str, number: u64, out: &mut Vec<u8>) -> Res
     Ok(is_constant)
 }
 
-/// `numbers KIND`: which of the numbers below 256 are constants of this kind: `0..3` are 0, 1 and 2.
+/// Whether a column type has the number, and is of the kind that a call names.
+fn is_type(kind: &str, number: u64) -> Result<bool, Fault> {
+    let Ok(byte) = u8::try_from(number) else {
+        return Err(Fault::NoCase);
+    };
+    let Ok(column_type) = ColumnType::try_from(byte) else {
+        return Ok(false);
+    };
+    match kind {
+        "is_numeric_type" => Ok(column_type.is_numeric_type()),
+        "is_character_type" => Ok(column_type.is_character_type()),
+        "is_enum_or_set_type" => Ok(column_type.is_enum_or_set_type()),
+        "is_enum_type" => Ok(column_type.is_enum_type()),
+        "is_set_type" => Ok(column_type.is_set_type()),
+        "is_geometry_type" => Ok(column_type.is_geometry_type()),
+        "is_vector_type" => Ok(column_type.is_vector_type()),
+        _ => Err(Fault::NoCase),
+    }
+}
+
+/// Whether a number belongs to the line `numbers KIND`.
+fn is_listed(alloc: Global, kind: &str, number: u64, out: &mut Vec<u8>) -> Result<bool, Fault> {
+    if kind.starts_with("is_") {
+        return is_type(kind, number);
+    }
+    is_constant(alloc, kind, number, out)
+}
+
+/// `numbers KIND`: which of the numbers below 256 are constants of this kind: `0..3` are 0, 1 and 2. KIND may also be a call of
+/// `ColumnType`: the numbers of the types for which it returns true.
 pub(crate) fn put_numbers(
     alloc: Global,
     arguments: &[&str],
@@ -155,7 +184,7 @@ pub(crate) fn put_numbers(
     let mut ranges = Vec::new(alloc);
     let mut was_constant = false;
     for number in 0..=256u64 {
-        let is_constant = number < 256 && is_constant(alloc, kind, number, &mut ranges)?;
+        let is_constant = number < 256 && is_listed(alloc, kind, number, &mut ranges)?;
         if is_constant && !was_constant {
             ranges.push(b' ')?;
             put_number(number, &mut ranges)?;

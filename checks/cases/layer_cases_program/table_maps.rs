@@ -37,7 +37,23 @@ fn put_columns_bytes(map: &TableMapEvent<'_>, out: &mut Vec<u8>) -> Result<(), F
     put_text(" metadata ", out)?;
     put_bytes(map.metadata_raw(), out)?;
     put_text(" null ", out)?;
-    put_bytes(map.null_bitmask(), out)
+    put_bytes(map.null_bitmask_raw(), out)?;
+    if !(0..map.column_types_raw().len()).all(|index| has_column(map, index)) {
+        put_text(" with other columns", out)?;
+    }
+    Ok(())
+}
+
+/// Whether the column at this index has the type and the bit that the bytes have for it.
+fn has_column(map: &TableMapEvent<'_>, index: usize) -> bool {
+    let number = map.column_types_raw()[index];
+    let byte = map.null_bitmask_raw()[index / 8];
+    let is_typed = match map.get_raw_column_type(index) {
+        Ok(Some(column_type)) => u8::from(column_type) == number,
+        Ok(None) => false,
+        Err(unknown) => u8::from(unknown) == number,
+    };
+    is_typed && map.null_bitmask().get(index) == Some((byte >> (index % 8)) & 1 == 1)
 }
 
 /// Appends the number of JSON columns and the fields of the optional metadata, if there are any.

@@ -8,13 +8,13 @@ use std::io::Write;
 use wire_buf::{MyDeserialize, MySerialize, ParseBuf, WireFault, WireSize};
 use wire_fields::{
     BeI16, BeI24, BeI32, BeI40, BeI48, BeI56, BeI64, BeI128, BeU16, BeU24, BeU32, BeU40, BeU48,
-    BeU56, BeU64, BeU128, BufMutExt, IntRepr, LeI16, LeI24, LeI32, LeI40, LeI48, LeI56, LeI64,
+    BeU56, BeU64, BeU128, IntRepr, LeI16, LeI24, LeI32, LeI40, LeI48, LeI56, LeI64,
     LeI128, LeU16, LeU24, LeU32, LeU40, LeU48, LeU56, LeU64, LeU128, LenEnc, RawInt, VarLen,
     lenenc_int_len,
 };
 use wire_fields_extra::laws::read_back;
 use wire_fields_extra::{
-    LeU32LowerHalf, LeU32UpperHalf, ReadMysqlExt, WriteMysqlExt, read_varlen_uint, varlen_uint_size,
+    BufMutExt, LeU32LowerHalf, LeU32UpperHalf, ReadMysqlExt, WriteMysqlExt, read_varlen_uint, varlen_uint_size,
     write_varlen_uint,
 };
 
@@ -87,6 +87,72 @@ fn put_eaten(form: &str, buf: &mut ParseBuf<'_>, out: &mut Vec<u8>) -> Result<bo
     }
 }
 
+/// Appends the number of a little-endian representation by the call that needs its bytes to be there.
+fn put_unchecked_little(
+    form: &str,
+    buf: &mut ParseBuf<'_>,
+    out: &mut Vec<u8>,
+) -> Result<bool, Fault> {
+    match form {
+        "LeU16" => put_some(Some(buf.eat_u16_le()), out),
+        "LeI16" => put_some(Some(buf.eat_i16_le()), out),
+        "LeU24" => put_some(Some(buf.eat_u24_le()), out),
+        "LeI24" => put_some(Some(buf.eat_i24_le()), out),
+        "LeU32" => put_some(Some(buf.eat_u32_le()), out),
+        "LeI32" => put_some(Some(buf.eat_i32_le()), out),
+        "LeU40" => put_some(Some(buf.eat_u40_le()), out),
+        "LeI40" => put_some(Some(buf.eat_i40_le()), out),
+        "LeU48" => put_some(Some(buf.eat_u48_le()), out),
+        "LeI48" => put_some(Some(buf.eat_i48_le()), out),
+        "LeU56" => put_some(Some(buf.eat_u56_le()), out),
+        "LeI56" => put_some(Some(buf.eat_i56_le()), out),
+        "LeU64" => put_some(Some(buf.eat_u64_le()), out),
+        "LeI64" => put_some(Some(buf.eat_i64_le()), out),
+        "LeU128" => put_some(Some(buf.eat_u128_le()), out),
+        "LeI128" => put_some(Some(buf.eat_i128_le()), out),
+        _ => Err(Fault::NoCase),
+    }
+}
+
+/// Appends the number of another representation by the call that needs its bytes to be there.
+fn put_unchecked(form: &str, buf: &mut ParseBuf<'_>, out: &mut Vec<u8>) -> Result<bool, Fault> {
+    match form {
+        "u8" => put_some(Some(buf.eat_u8()), out),
+        "i8" => put_some(Some(buf.eat_i8()), out),
+        "BeU16" => put_some(Some(buf.eat_u16_be()), out),
+        "BeI16" => put_some(Some(buf.eat_i16_be()), out),
+        "BeU24" => put_some(Some(buf.eat_u24_be()), out),
+        "BeI24" => put_some(Some(buf.eat_i24_be()), out),
+        "BeU32" => put_some(Some(buf.eat_u32_be()), out),
+        "BeI32" => put_some(Some(buf.eat_i32_be()), out),
+        "BeU40" => put_some(Some(buf.eat_u40_be()), out),
+        "BeI40" => put_some(Some(buf.eat_i40_be()), out),
+        "BeU48" => put_some(Some(buf.eat_u48_be()), out),
+        "BeI48" => put_some(Some(buf.eat_i48_be()), out),
+        "BeU56" => put_some(Some(buf.eat_u56_be()), out),
+        "BeI56" => put_some(Some(buf.eat_i56_be()), out),
+        "BeU64" => put_some(Some(buf.eat_u64_be()), out),
+        "BeI64" => put_some(Some(buf.eat_i64_be()), out),
+        "BeU128" => put_some(Some(buf.eat_u128_be()), out),
+        "BeI128" => put_some(Some(buf.eat_i128_be()), out),
+        "LenEnc" => put_some(Some(buf.eat_lenenc_int()), out),
+        _ => put_unchecked_little(form, buf, out),
+    }
+}
+
+/// Whether the call that needs its bytes to be there reads this text, and leaves this rest.
+fn is_unchecked(
+    alloc: Global,
+    form: &str,
+    bytes: &[u8],
+    wanted: (&[u8], &[u8]),
+) -> Result<bool, Fault> {
+    let mut buf = ParseBuf(bytes);
+    let mut text = Vec::new(alloc);
+    put_unchecked(form, &mut buf, &mut text)?;
+    Ok(text.as_slice() == wanted.0 && buf.0 == wanted.1)
+}
+
 /// Appends a remark if the buffer's own call reads another number than this text, or leaves other bytes; without a number it
 /// must take no byte. `VarLen` and the halves have no such call.
 fn put_other_eaten(
@@ -102,7 +168,12 @@ fn put_other_eaten(
         return Ok(());
     };
     let is_same = match wanted {
-        Some((wanted, rest)) => is_there && text.as_slice() == wanted && buf.0 == rest,
+        Some((wanted, rest)) => {
+            is_there
+                && text.as_slice() == wanted
+                && buf.0 == rest
+                && is_unchecked(alloc, form, bytes, (wanted, rest))?
+        }
         None => !is_there && buf.0 == bytes,
     };
     if is_same {
@@ -173,6 +244,11 @@ where
     };
     let value = *raw;
     done(write!(text, "{value}"))?;
+    let mut changed = RawInt::<T>::new(value);
+    *changed = *raw;
+    if changed.0 != value {
+        put_text("changed otherwise ", out)?;
+    }
     put_other_eaten(alloc, form, bytes, Some((&text, buf.0)), out)?;
     out.extend_from_slice(&text)?;
     put_sizes::<T>(out)?;

@@ -6,9 +6,10 @@ use bytes::BytesMut;
 use std::alloc::Global;
 use std::io::Write;
 use wire_constants::DEFAULT_MAX_ALLOWED_PACKET;
+use wire_fields::split_version;
 use wire_packets::{
     ChunkDecoder, ChunkInfo, PACKET_HEADER_LEN, PacketCodec, PacketCodecError, decode_pieces,
-    packet_to_chunks, split_version,
+    packet_to_chunks,
 };
 
 /// The codec with this limit, or the default one, and this first sequence id.

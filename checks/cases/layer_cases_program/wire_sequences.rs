@@ -84,6 +84,10 @@ fn put_numbers<U: SeqRepr>(
     if !(borrowed == numbers) || numbers.len() != numbers.0.len() {
         put_text(" made otherwise", out)?;
     }
+    let (empty, default) = (Seq::<'_, u8, U>::empty(), Seq::<'_, u8, U>::default());
+    if !empty.is_empty() || !(empty == default) || borrowed.first() != numbers.0.as_slice().first() {
+        put_text(" empty otherwise", out)?;
+    }
     put_other_count::<U>(alloc, again, numbers.len(), bytes, out)?;
     put_sizes::<Seq<'_, RawInt<LeU16>, U>>(out)?;
     put_end(alloc, &numbers, bytes, buf.0, out)

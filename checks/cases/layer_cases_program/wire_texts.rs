@@ -8,10 +8,10 @@ use std::borrow::CowSlice;
 use std::io::Write;
 use wire_buf::{MyDeserialize, MySerialize, ParseBuf, WireFault, WireSize};
 use wire_fields::{
-    BareU8Bytes, BareU16Bytes, BufMutExt, BytesRepr, EofBytes, FixedLengthText, LenEnc, RawBytes,
+    BareU8Bytes, BareU16Bytes, BytesRepr, EofBytes, FixedLengthText, LenEnc, RawBytes,
     U8Bytes, VarLen, lenenc_str_len,
 };
-use wire_fields_extra::{NullBytes, ReadMysqlExt, U32Bytes, WriteMysqlExt};
+use wire_fields_extra::{BufMutExt, NullBytes, ReadMysqlExt, U32Bytes, WriteMysqlExt};
 use wire_fields_extra::laws::read_back_bytes;
 
 /// What a case does with a representation.
@@ -35,6 +35,16 @@ fn eaten<'a>(form: &str, buf: &mut ParseBuf<'a>) -> Option<Option<&'a [u8]>> {
     }
 }
 
+/// The string by the call that needs its bytes to be there; None if there is no such call.
+fn unchecked<'a>(form: &str, buf: &mut ParseBuf<'a>) -> Option<&'a [u8]> {
+    match form {
+        "U8Bytes" => Some(buf.eat_u8_str()),
+        "U32Bytes" => Some(buf.eat_u32_str()),
+        "LenEnc" => Some(buf.eat_lenenc_str()),
+        _ => None,
+    }
+}
+
 /// Appends a remark if the buffer's own call reads another string than this, or leaves other bytes; without a string it must
 /// take no byte.
 fn put_other_eaten(
@@ -52,7 +62,15 @@ fn put_other_eaten(
         (None, None) => buf.0 == bytes,
         _ => false,
     };
-    if is_same {
+    let mut again = ParseBuf(bytes);
+    let is_again = match wanted {
+        Some((wanted, rest)) => match unchecked(form, &mut again) {
+            Some(text) => text == wanted && again.0 == rest,
+            None => true,
+        },
+        None => true,
+    };
+    if is_same && is_again {
         return Ok(());
     }
     put_text("otherwise by ParseBuf ", out)

@@ -6,13 +6,13 @@ use Rattle.wire_buf.specs.LenencSplit.{split_number, split_lenenc}
 use Rattle.wire_buf.specs.Numbers.{IsLenenc}
 use Rattle.wire_buf.specs.Encoding.{Begins, Reads, Lacks, Alone}
 use Rattle.rows_table_map.specs.TableMaps.{little_endian}
-use Rattle.events_gtids.specs.Gtids.{GtidBody, IsClock, IsGtid}
-use Rattle.events_gtids.specs.OptionalFields.{ReadsOptional}
-use Rattle.events_gtids.specs.Stamps.{IsStamp, top_bit}
-use Rattle.events_gtids.proofs.ClockLemmas.{clock_reads, numbers_lack, other_typecode}
-use Rattle.events_gtids.proofs.GtidLemmas.{IsHead, Fields, FieldsRow, FieldsSettled, fields_read, gtid_reads, whole}
-use Rattle.events_gtids.proofs.OptionalLemmas.{Tail}
-use Rattle.events_gtids.proofs.AnnouncedPairLemmas.{alone_reads, twice_reads, first_lacks, second_lacks}
+use Rattle.events_bodies.specs.Gtids.{GtidBody, IsClock, IsGtid}
+use Rattle.events_bodies.specs.OptionalFields.{ReadsOptional}
+use Rattle.events_bodies.specs.Stamps.{IsStamp, top_bit}
+use Rattle.events_bodies.proofs.ClockLemmas.{clock_reads, numbers_lack, other_typecode}
+use Rattle.events_bodies.proofs.GtidLemmas.{IsHead, Fields, FieldsRow, FieldsSettled, fields_read, gtid_reads, whole}
+use Rattle.events_bodies.proofs.OptionalLemmas.{Tail}
+use Rattle.events_bodies.proofs.AnnouncedPairLemmas.{alone_reads, twice_reads, first_lacks, second_lacks}
 use Rattle.feed_checks.specs.BodyReaders.{gtid_in}
 use Rattle.feed_checks.specs.Readers.{Reader, IsReaderOf}
 use Rattle.feed_checks.proofs.BodyKindLemmas.{IsGtidHead, gtid_here, gtid_none, whole_read}

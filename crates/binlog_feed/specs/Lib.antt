@@ -46,6 +46,9 @@ pub use Rattle.feed_replication.specs.Following
 pub use Rattle.feed_replication.specs.FollowingSteps
 pub use Rattle.feed_change_follower.specs.StreamCommits
 pub use Rattle.feed_change_follower.specs.ChangeFollowing
+pub use Rattle.feed_change_follower.specs.Appliers
+pub use Rattle.feed_change_follower.specs.ChangeRuns
+pub use Rattle.feed_change_follower.specs.ChangeRunSteps
 pub mod WorkedStreams
 pub use Rattle.feed_replication.specs.RequestFields as ServedRequests
 pub use Rattle.feed_replication.specs.RequestedPackets

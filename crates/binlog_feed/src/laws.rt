@@ -3,7 +3,7 @@
 
 ghost use Rattle.std.specs.Prelude.{◌≡◌, ◌↔◌, ◌⊎◌, ℕ, List, [], drop, Some, None, true, length, false, codes, nat_eq, ◌++◌, ◌<◌, ◌/◌, ◌^◌, Option};
 ghost use Rattle.events_frames.specs.Descriptions.{Description, IsDescription};
-ghost use Rattle.events_gtids.specs.Gtids.{GtidBody, IsGtid};
+ghost use Rattle.events_bodies.specs.Gtids.{GtidBody, IsGtid};
 ghost use Rattle.rows_event_body.specs.EventShapes.{event_rows};
 ghost use Rattle.rows_event_body.specs.RowsEvents.{RowsBody};
 ghost use Rattle.rows_table_map.specs.TableMaps.{TableMap};

@@ -1,9 +1,10 @@
 //! The change feed of MySQL binary logs: reports, transactions as values, followers, servers, and the repair of truncated output.
 //!
-//! It re-exports its parts, and has their laws and worked examples, so that no program waits for the proofs of these.
-//! `feed_transactions` has the report of a file, `feed_change_log` transactions as values, `feed_replication` requests, followers
-//! and servers, `feed_change_follower` the follower that lends transactions, `feed_text` the text of values, and `feed_resume`
-//! the complete transactions of a truncated text.
+//! It re-exports the calls of its parts that users need, with the types of their arguments and results, and CRC-32; and it has their
+//! laws and worked examples, so that no program waits for the proofs of these. What the parts have for one another, such as the
+//! recorders of transactions, isn't re-exported. `feed_transactions` has the report of a file, `feed_change_log` transactions as
+//! values, `feed_replication` requests, followers and servers, `feed_change_follower` the follower that lends transactions,
+//! `feed_text` the text of values, and `feed_resume` the complete transactions of a truncated text.
 #![tactic(auto)]
 
 mod check_laws;
@@ -19,20 +20,25 @@ mod worked_runs;
 mod worked_serving;
 mod worked_streams;
 
-pub use events_frames::QueryTexts;
-pub use feed_change_follower::ChangeFollower;
+pub use crc32::crc32;
+pub use events_frames::{BinlogEventHeader, QueryTexts};
+pub use feed_change_follower::{Applier, ChangeFollower, rehearse_changes};
 pub use feed_change_log::{
     Change, ChangeLog, Changes, CommittedTransaction, Filter, NoLog, OwnedTransaction, Stop,
     TableRows, TakenChanges, What,
 };
 pub use feed_checks::{Gtid, Verdict, name_of, status};
 pub use feed_replication::{
-    Follower, Refusal, RequestError, Served, Step, rehearse, rehearse_growing, rehearse_semi,
-    request, serve, serve_semi,
+    Follower, PayloadFormat, Refusal, RequestError, Served, Step, rehearse, rehearse_growing,
+    rehearse_semi, request, serve, serve_semi,
 };
 pub use feed_resume::{Keeper, kept};
 pub use feed_text::{TextBuffer, put_cell, put_cell_ref, put_decimal, put_json, put_value, quote};
 pub use feed_transactions::report;
-pub use rows_cells::{CellRef, RowPart, RowsCursor};
+pub use rows_cells::{BinlogValue, CellRef, RowPart, RowPlan, RowsCursor};
+pub use rows_errors::{JsonbError, RowsError};
 pub use rows_event_body::RowImages;
+pub use rows_jsonb::JsonDom;
+pub use rows_table_map::TableMapEvent;
+pub use rows_values::Value;
 pub use wire_buf::{MAX_READS, Watched};

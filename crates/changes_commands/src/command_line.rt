@@ -265,6 +265,8 @@ pub enum Refused {
     Words(Error),
     /// The value of this option can't be used.
     Value(&'static str),
+    /// The value of this option is a list.
+    List(&'static str),
     /// There is no command.
     NoCommand,
 }
@@ -341,6 +343,18 @@ fn is_table(name: &str) -> bool {
     }
 }
 
+/// That each value of an option is one name: a name with a comma would be taken for a list.
+fn check_single(matches: &ArgMatches<'_>, option: &'static str) -> Result<(), Refused> {
+    if let Some(names) = matches.get_strs(option) {
+        for name in names {
+            if name.as_bytes().contains(&b',') {
+                return Err(Refused::List(option));
+            }
+        }
+    }
+    Ok(())
+}
+
 /// Whether all values of an option are names of tables.
 fn are_tables(matches: &ArgMatches<'_>, option: &str) -> bool {
     if let Some(names) = matches.get_strs(option) {
@@ -402,6 +416,9 @@ impl<'w> Options<'w> {
 
     /// Adds the names and the files that a command has.
     fn add(&mut self, matches: &ArgMatches<'w>) -> Result<(), Refused> {
+        for option in ["database", "table", "exclude-table"] {
+            check_single(matches, option)?;
+        }
         add_names(matches, "database", &mut self.databases)?;
         add_tables(matches, "table", &mut self.tables)?;
         add_tables(matches, "exclude-table", &mut self.excluded)?;

@@ -3,7 +3,9 @@
 
 mod brief;
 mod command_line;
+mod event_walk;
 mod events;
+mod log_reader;
 mod logs;
 mod messages;
 mod output;
@@ -12,10 +14,12 @@ mod rotation;
 mod shown;
 
 pub use command_line::{Options, Range, Refused, Task, parse};
-pub use events::{Listed, Names, list};
+pub use event_walk::Listed;
+pub use events::{Names, list};
+pub use log_reader::LogReader;
 pub use logs::{Log, are_in_order, are_of_one_server};
-pub use messages::{advice, meaning, put_led_astray, put_no_start, put_remaining};
-pub use output::{Written, write};
+pub use messages::{Explanation, explain, put_led_astray, put_no_start, put_remaining};
+pub use output::{Failure, Written, write};
 pub use progress::Progress;
 pub use rotation::leads_to;
 pub use shown::{put_gtid, put_type};

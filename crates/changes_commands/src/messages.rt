@@ -2,9 +2,10 @@
 
 use changes_json::Text;
 use feed_checks::Verdict;
+use rows_constants::EventType;
 
 /// What a verdict means.
-pub fn meaning(verdict: Verdict) -> &'static str {
+fn meaning(verdict: Verdict) -> &'static str {
     match verdict {
         Verdict::End => "the log is whole",
         Verdict::Mark => "this is no binary log: it doesn't begin with fe 62 69 6e",
@@ -27,15 +28,88 @@ pub fn meaning(verdict: Verdict) -> &'static str {
     }
 }
 
+/// What a verdict means, and what can be done about it.
+#[derive(Clone, Copy)]
+pub struct Explanation {
+    pub meaning: &'static str,
+    pub advice: &'static str,
+}
+
+/// The least type of an event that only MariaDB writes.
+const MARIADB_EVENT: u8 = 160;
+
+/// What bytes are that don't begin with the magic number, by the first of them.
+fn explain_no_log(first: &[u8]) -> Explanation {
+    let (meaning, advice) = match first {
+        [] => (
+            "the file is empty",
+            "name a file that a server wrote, such as binlog.000001",
+        ),
+        [0xfd, b'b', b'i', b'n'] => (
+            "this binary log is encrypted: it begins with fd 62 69 6e",
+            "fetch it decrypted, with mysqlbinlog --read-from-remote-server --raw",
+        ),
+        [0x1f, 0x8b, ..] => (
+            "this is a gzip file, and no binary log",
+            "unpack it first, with gunzip",
+        ),
+        _ => (
+            meaning(Verdict::Mark),
+            "name a file that a server wrote, such as binlog.000001",
+        ),
+    };
+    Explanation { meaning, advice }
+}
+
+/// What an event of a MySQL server is that isn't shown, by its type.
+fn explain_unshown(event_type: u8) -> Explanation {
+    let (meaning, advice) = match EventType::try_from(event_type) {
+        Ok(EventType::TRANSACTION_PAYLOAD_EVENT) => (
+            "a compressed transaction, which isn't shown",
+            "set binlog_transaction_compression=OFF for later logs; recipes/past_stop leaves the transaction out",
+        ),
+        Ok(EventType::XA_PREPARE_LOG_EVENT | EventType::QUERY_EVENT) => (
+            "an XA transaction, which isn't shown",
+            "recipes/past_stop leaves the transaction out",
+        ),
+        Ok(EventType::INCIDENT_EVENT) => (
+            "an incident: the server says that changes are missing from the log",
+            "copy the tables anew; recipes/past_stop goes on after the event",
+        ),
+        Ok(EventType::EXECUTE_LOAD_QUERY_EVENT) => (
+            "a LOAD DATA statement, which isn't shown",
+            "set binlog_format=ROW for later logs; recipes/past_stop leaves the transaction out",
+        ),
+        _ => (
+            "an event that isn't shown",
+            "recipes/past_stop leaves the transaction out",
+        ),
+    };
+    Explanation { meaning, advice }
+}
+
+/// What a verdict means, and what can be done about it. `event_type` is the type of the event that stopped the reading, `first` are
+/// the first bytes of the log.
+pub fn explain(verdict: Verdict, event_type: Option<u8>, first: &[u8]) -> Explanation {
+    let is_mariadb = matches!(event_type, Some(number) if number >= MARIADB_EVENT);
+    match (verdict, event_type) {
+        (Verdict::Mark, _) => explain_no_log(first),
+        (Verdict::Unshown, Some(number)) if !is_mariadb => explain_unshown(number),
+        _ => Explanation {
+            meaning: meaning(verdict),
+            advice: advice(verdict, is_mariadb),
+        },
+    }
+}
+
 /// What can be done about a verdict.
-pub fn advice(verdict: Verdict) -> &'static str {
+fn advice(verdict: Verdict, is_mariadb: bool) -> &'static str {
     match verdict {
-        Verdict::Mark => "name a file that a server wrote, such as binlog.000001",
         Verdict::Frame | Verdict::Checksum | Verdict::Body | Verdict::Size => {
             "fetch the log again from its server"
         }
-        Verdict::Unshown | Verdict::UnknownKind => {
-            "convert a MariaDB server's log with recipes/mariadb_log, or leave the event out with recipes/past_stop"
+        Verdict::Unshown | Verdict::UnknownKind if is_mariadb => {
+            "convert a MariaDB server's log with recipes/mariadb_log"
         }
         Verdict::Memory => "free memory, and run again",
         Verdict::Read | Verdict::Write => "check the file and the device, and run again",

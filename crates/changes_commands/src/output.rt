@@ -11,6 +11,17 @@ pub enum Written {
     Failed,
 }
 
+/// Why a command prints no more.
+#[derive(Clone, Copy)]
+pub enum Failure {
+    /// Whoever read the output has gone.
+    Closed,
+    /// Writing failed.
+    Unwritten,
+    /// Out of memory.
+    Memory,
+}
+
 /// Writes bytes on standard output.
 pub fn write(rt: &HostRuntime, bytes: &[u8]) -> Written {
     if bytes.is_empty() {

@@ -1,5 +1,7 @@
 //! Rows as JSON.
 
+ghost use Rattle.std.specs.Prelude.{◌≡◌, None, Some, IfSome};
+
 use crate::cells::put_cell;
 use crate::columns::{ShownColumn, put_index_key};
 use crate::tables::ShownTable;
@@ -21,6 +23,19 @@ struct Span {
 struct Pair {
     before: Option<Span>,
     after: Option<Span>,
+}
+
+impl Pair {
+    /// The text that the row has: after the change, or before it if there is none after it.
+    fn newest(self) -> Option<Span>
+        ensures after { IfSome self.after (λ span. result ≡ Some span) }
+        ensures before { self.after ≡ None → result ≡ self.before }
+    {
+        match self.after {
+            Some(span) => Some(span),
+            None => self.before,
+        }
+    }
 }
 
 /// The cells of a row as JSON.
@@ -84,7 +99,7 @@ impl RowText {
     /// Appends the members of the row: after the change, or before it if there is nothing after it.
     fn put_data(&self, table: &ShownTable, out: &mut Text) {
         for (index, pair) in self.pairs.iter().enumerate() {
-            put_column(table, index, self.text_at(pair.after.or(pair.before)), out);
+            put_column(table, index, self.text_at(pair.newest()), out);
         }
         out.push(b'}');
     }

@@ -8,10 +8,10 @@ use Rattle.rows_constants.specs.contracts.event_type.EventType.{the_type as even
 use Rattle.rows_table_map.proofs.MapLawLemmas.{maps_decide}
 use Rattle.events_frames.proofs.LawLemmas.{descriptions_decide}
 use Rattle.events_bodies.proofs.UserVarEquality.{variables_decide}
-use Rattle.events_queries.proofs.QueryLemmas.{queries_decide}
+use Rattle.events_bodies.proofs.QueryLemmas.{queries_decide}
 use Rattle.events_bodies.proofs.LoadQueryLemmas.{load_queries_decide}
-use Rattle.events_gtids.proofs.GtidEquality.{gtids_decide}
-use Rattle.events_typed_rows.proofs.EqualLemmas.{data_decide}
+use Rattle.events_bodies.proofs.GtidEquality.{gtids_decide}
+use Rattle.events_owned.proofs.EqualLemmas.{data_decide}
 use Rattle.events_owned.specs.DataEncodings.{HaveSameContents, IsSameRaw}
 use Rattle.events_owned.specs.EqualBodies.{same_data, same_raw}
 use Rattle.events_owned.specs.RawBodies.{RawBody, raw_of}

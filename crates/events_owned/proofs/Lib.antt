@@ -4,3 +4,5 @@ pub mod DataEquality
 pub mod FileLemmas
 pub mod EventLemmas
 pub mod WholeLemmas
+pub mod ReadingLemmas
+pub mod EqualLemmas

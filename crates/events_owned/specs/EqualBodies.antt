@@ -1,6 +1,6 @@
 -- Whether two bodies are equal: they have the same format, and are equal by that format's `==`.
 use Rattle.std.specs.Prelude.{Bool, false, ◌&&◌, Option, Some}
-use Rattle.events_queries.specs.contracts.query_event.QueryEventPartialEq.TheImpl.{ghosts as queries}
+use Rattle.events_bodies.specs.contracts.query_event.QueryEventPartialEq.TheImpl.{ghosts as queries}
 use Rattle.events_frames.specs.contracts.rotate_event.RotateEventPartialEq.TheImpl.{ghosts as rotates}
 use Rattle.events_bodies.specs.contracts.intvar_event.IntvarEventPartialEq.TheImpl.{ghosts as intvars}
 use Rattle.events_bodies.specs.contracts.rand_event.RandEventPartialEq.TheImpl.{ghosts as rands}
@@ -12,9 +12,9 @@ use Rattle.events_bodies.specs.contracts.execute_load_query_event.ExecuteLoadQue
 use Rattle.rows_table_map.specs.contracts.table_map.TableMapEventPartialEq.TheImpl.{ghosts as maps}
 use Rattle.events_bodies.specs.contracts.incident_event.IncidentEventPartialEq.TheImpl.{ghosts as incidents}
 use Rattle.events_bodies.specs.contracts.rows_query_event.RowsQueryEventPartialEq.TheImpl.{ghosts as row_queries}
-use Rattle.events_gtids.specs.contracts.gtid_event.GtidEventPartialEq.TheImpl.{ghosts as gtids}
-use Rattle.events_gtids.specs.contracts.anonymous_gtid_event.AnonymousGtidEventPartialEq.TheImpl.{ghosts as anonymous_gtids}
-use Rattle.events_typed_rows.specs.contracts.rows_event_data.RowsEventDataPartialEq.TheImpl.{ghosts as rows}
+use Rattle.events_bodies.specs.contracts.gtid_event.GtidEventPartialEq.TheImpl.{ghosts as gtids}
+use Rattle.events_bodies.specs.contracts.anonymous_gtid_event.AnonymousGtidEventPartialEq.TheImpl.{ghosts as anonymous_gtids}
+use Rattle.events_owned.specs.contracts.rows_event_data.RowsEventDataPartialEq.TheImpl.{ghosts as rows}
 use Rattle.rows_constants.specs.contracts.event_type.EventTypePartialEq.TheImpl.{ghosts as types}
 use Rattle.std.specs.Str.{bytes_eq}
 use Rattle.events_owned.specs.declared.event_data.EventData.{EventData}

@@ -10,3 +10,5 @@ pub mod WrittenEvents
 pub mod FileViews
 pub mod EqualBodies
 pub mod EqualBodyLaws
+pub mod RowsContexts
+pub mod RowsViews

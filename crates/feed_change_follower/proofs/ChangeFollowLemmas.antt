@@ -8,7 +8,8 @@ use Rattle.feed_checks.specs.declared.verdict.Verdict.{Verdict}
 use Rattle.feed_checks.specs.declared.verdict.Verdict.TheVariants as verdicts
 use Rattle.feed_checks.specs.EventFields.{Event}
 use Rattle.feed_checks.specs.LogFormat.{joined}
-use Rattle.feed_transactions.proofs.RuleLemmas.{up_to_fault-stop}
+use Rattle.feed_checks.specs.PastLists.{onto}
+use Rattle.feed_transactions.proofs.RuleLemmas.{up_to_fault-stop, onto-snoc}
 use Rattle.feed_transactions.proofs.CommittedLemmas.{committed_are_shown}
 use Rattle.feed_transactions.specs.Changes.{Committed, committed_by, transaction_of}
 use Rattle.feed_transactions.specs.Checks.{fault_of}
@@ -27,7 +28,7 @@ use Rattle.feed_change_log.specs.declared.change_recorder.ChangeRecorder.{Change
 use Rattle.feed_replication.specs.Acknowledgements.{is_ack_requested, requested_acks}
 use Rattle.feed_replication.specs.ResumePositions.{last_position, position_after}
 use Rattle.feed_replication.specs.AnswerReaders as answer
-use Rattle.feed_replication.specs.AnswerSteps.{Yields, HasTakenOne, EndsBy, Completes}
+use Rattle.feed_replication.specs.AnswerSteps.{Yields, YieldsFirst, HasTakenOne, EndsBy, Completes}
 use Rattle.feed_replication.specs.Following.{AddsAllDue, AddsSomeDue}
 use Rattle.feed_replication.specs.declared.answer_reader.AnswerReader.{AnswerReader}
 use Rattle.feed_replication.specs.declared.answer_reader.TakenEvent.{TakenEvent}
@@ -35,17 +36,17 @@ use Rattle.feed_replication.proofs.AnswerLemmas.{before_piece, running}
 use Rattle.feed_replication.proofs.FollowLemmas.{joined-append, first_of}
 use Rattle.feed_replication.proofs.StreamLemmas.{requested_acks-more}
 use Rattle.feed_change_follower.specs.StreamCommits.{stream_committed, committed_in, position_after_last}
-use Rattle.feed_change_follower.specs.ChangeFollowing.{limit_of, name_of, verdict_in, asked_position_of, next_position_of, due_of, HasTransaction, Reading, commits_of, acks_of, listed, IsLent, Holds, IsAt, KeepsSettings, RepresentsStream, Starts, Lends, HasAll, EndsWith, Ends, Takes, IsOver, Passes, reading_of, error_of}
+use Rattle.feed_change_follower.specs.ChangeFollowing.{limit_of, name_of, verdict_in, asked_position_of, next_position_of, due_of, HasTransaction, Reading, commits_of, acks_of, events_back, RunsOut, listed, IsLent, Holds, IsAt, KeepsSettings, RepresentsStream, Starts, Lends, HasAll, EndsWith, Ends, Takes, IsOver, Passes, reading_of, error_of}
 use Rattle.feed_change_follower.specs.declared.change_follower.ChangeFollower.{ChangeFollower}
 
 -- ---- the transactions of a stream
 
 -- what events commit, after these events
-abbrev commits_after : List Event → List Event → List Committed
+abbrev pub commits_after : List Event → List Event → List Committed
 commits_after past [] = []
 commits_after past (e ∷ l) = committed_by past e ++ commits_after (e ∷ past) l
 
-committed_good : (judge : Judge) (past l : List Event) → committed_after judge past l ≡ commits_after past (up_to_fault judge past l)
+pub committed_good : (judge : Judge) (past l : List Event) → committed_after judge past l ≡ commits_after past (up_to_fault judge past l)
 unfolding committed_after up_to_fault
 committed_good judge past [] = refl
 committed_good judge past (e ∷ l) = either (judge past e) refl (committed_good judge (e ∷ past) l)
@@ -105,6 +106,10 @@ resumes_by f past n q is = is ∙ sym (ap (λ (o : Option ℕ). unwrap_or o q) (
 
 none_due : (all : List (List ℕ)) (old new : List ℕ) → new ≡ old → AddsAllDue all all old new
 none_due all old new same = record { rest = []; is_all = sym (append-nil all); waits = same ∙ sym (append-nil old) }
+
+-- the same for equal lists
+due_same : (before all alls : List (List ℕ)) (old now new : List ℕ) → all ≡ alls → new ≡ now → AddsAllDue before all old now → AddsAllDue before alls old new
+due_same before all alls old now new are same h = record { rest = h.rest; is_all = sym are ∙ h.is_all; waits = same ∙ h.waits }
 
 -- more became due in two steps
 due_then : (before mid all : List (List ℕ)) (old now new : List ℕ) → AddsAllDue before mid old now → AddsAllDue mid all now new → AddsAllDue before all old new
@@ -278,8 +283,23 @@ module _ {F : Type 0} (x : Reading) (old now new : ChangeFollower F) (s : List �
   past = w.at.past
 
   -- out of memory
-  pub goes_without : (failed : ChangeFollower F) → due_of failed ≡ due_of new → AddsSomeDue acks (acks_of x s) (due_of old) (due_of failed)
-  goes_without failed same = some_due acks w.all_acks w.at.more_acks (acks_of x s) (due_of old) (due_of now) (due_of failed) w.due w.at.asks (same ∙ kept.due_acks)
+  pub goes_without : (failed : ChangeFollower F) → due_of failed ≡ due_of new → next_position_of failed ≡ next_position_of new → asked_position_of failed ≡ asked_position_of new → RunsOut x old failed s dealt acks
+  goes_without failed same position asked =
+      let h = (taken_of x now s dealt w.all_acks now.lent refl w.at).1 in
+      let taken : past ≡ events_back x ps = h.good.events in
+      record {
+        payloads = ps;
+        first = subst (λ (p : List Event). YieldsFirst (rules x.sum) x.format x.limit s ps p) taken (first_of IsOpenChanges (rules x.sum) x.format x.limit now.answer s ps past past limits h);
+        later = [];
+        commits = w.at.dealt_are ∙ ap committed_in taken ∙ sym (append-nil (committed_in (events_back x ps)));
+        due = due_same acks w.all_acks (requested_acks x.format x.name ps) (due_of old) (due_of now) (due_of failed) w.at.acks_are (same ∙ kept.due_acks) w.due;
+        some_due = some_due acks w.all_acks w.at.more_acks (acks_of x s) (due_of old) (due_of now) (due_of failed) w.due w.at.asks (same ∙ kept.due_acks);
+        resumes = position
+            ∙ kept.position
+            ∙ w.at.resumes
+            ∙ ap (λ (ts : List Committed). position_after_last ts (asked_position_of now)) (w.at.dealt_are ∙ ap committed_in taken)
+            ∙ ap (position_after_last (committed_in (events_back x ps))) (sym (asked ∙ kept.asked_position));
+      }
 
   goes_to : (v : Verdict) → ((more : List ℕ) → Yields (rules x.sum) x.format x.limit (s ++ more) ps past v) → EndsWith x old new s dealt acks v
   goes_to v at =
@@ -295,7 +315,7 @@ module _ {F : Type 0} (x : Reading) (old now new : ChangeFollower F) (s : List �
 
   -- the stream ends
   pub goes_to_end : (v : Verdict) → EndsBy (rules x.sum) x.format x.limit s ps past v → Ends x old new s dealt acks v
-  goes_to_end verdicts.Memory ends = goes_without new refl
+  goes_to_end verdicts.Memory ends = goes_without new refl refl refl
   goes_to_end v ends = goes_to v ends
 
   -- no further packet is complete
@@ -354,7 +374,15 @@ ends_then x old mid new s dealt lent acks v p h =
     record { all = h.all; verdict_is = h.verdict_is; asks = h.asks; due = due_then acks p.all_acks (acks_of x s) (due_of old) (due_of mid) (due_of new) p.due h.due; resumes = h.resumes }
 
 error_then : {F : Type 0} (x : Reading) (old mid new : ChangeFollower F) (s : List ℕ) (dealt : List Committed) (lent : Option Committed) (acks : List (List ℕ)) (v : Verdict) → (p : Passes x old mid s dealt lent acks) → Ends x mid new s (dealt ++ listed lent) p.all_acks v → Ends x old new s (dealt ++ listed lent) acks v
-error_then x old mid new s dealt lent acks verdicts.Memory p h = some_then acks p.all_acks (acks_of x s) (due_of old) (due_of mid) (due_of new) p.due h
+error_then x old mid new s dealt lent acks verdicts.Memory p h = record {
+  payloads = h.payloads;
+  first = h.first;
+  later = h.later;
+  commits = h.commits;
+  due = due_then acks p.all_acks (requested_acks x.format x.name h.payloads) (due_of old) (due_of mid) (due_of new) p.due h.due;
+  some_due = some_then acks p.all_acks (acks_of x s) (due_of old) (due_of mid) (due_of new) p.due h.some_due;
+  resumes = h.resumes;
+}
 error_then x old mid new s dealt lent acks v p h = ends_then x old mid new s dealt lent acks v p h
 
 pub takes_then : {F : Type 0} (x : Reading) (old mid new : ChangeFollower F) (s : List ℕ) (dealt : List Committed) (lent : Option Committed) (acks : List (List ℕ)) (result : Result Bool Verdict) → (p : Passes x old mid s dealt lent acks) → Takes x mid new s (dealt ++ listed lent) p.all_acks result → Takes x old new s (dealt ++ listed lent) acks result
@@ -362,14 +390,55 @@ takes_then x old mid new s dealt lent acks (Ok true) p h = lends_then x old mid 
 takes_then x old mid new s dealt lent acks (Ok false) p h = has_all_then x old mid new s dealt lent acks p h
 takes_then x old mid new s dealt lent acks (Err v) p h = error_then x old mid new s dealt lent acks v p h
 
+-- a payload fewer comes first too
+first_before : (r : Rules) (format : Format) (limit : ℕ) (s : List ℕ) (ps : List (List ℕ)) (p : List ℕ) (earlier : List Event) → YieldsFirst r format limit s (ps ++ p ∷ []) (event_in format p ∷ earlier) → YieldsFirst r format limit s ps earlier
+first_before r format limit s ps p earlier h = record {
+  more = event_in format p ∷ h.more;
+  events = h.events;
+  acknowledged = λ name.
+      let own = requested_acks format name (p ∷ []) in
+      let a = h.acknowledged name in
+      (own ++ a.0, a.1 ∙ ap (λ (l : List (List ℕ)). l ++ a.0) (requested_acks-more format name ps p) ∙ append_assoc (requested_acks format name ps) own a.0);
+}
+
+-- the events of the payloads before the last
+events_before_last : (format : Format) (ps : List (List ℕ)) (p : List ℕ) (past : List Event) → event_in format p ∷ past ≡ onto [] (map (event_in format) (ps ++ p ∷ [])) → past ≡ onto [] (map (event_in format) ps)
+events_before_last format ps p past is =
+    let all : event_in format p ∷ past ≡ event_in format p ∷ onto [] (map (event_in format) ps) = is ∙ ap (onto []) (map-append (event_in format) ps (p ∷ [])) ∙ onto-snoc [] (map (event_in format) ps) (event_in format p) in
+    cc
+
 -- out of memory for the acknowledgement of the transaction that was lent
-pub no_acknowledgement : {F : Type 0} (x : Reading) (old new : ChangeFollower F) (s : List ℕ) (dealt : List Committed) (lent : Option Committed) (acks : List (List ℕ)) → IsAt x old s dealt lent acks → due_of new ≡ due_of old → AddsSomeDue acks (acks_of x s) (due_of old) (due_of new)
-no_acknowledgement x old new s dealt lent acks h same = some_due acks acks h.more_acks (acks_of x s) (due_of old) (due_of old) (due_of new) (none_due acks (due_of old) (due_of old) refl) h.asks same
+module _ {F : Type 0} (x : Reading) (old new : ChangeFollower F) (s : List ℕ) (dealt : List Committed) (lent : Option Committed) (acks : List (List ℕ)) (limits : limit_of old ≡ x.limit) (h : IsAt x old s dealt lent acks) (same : due_of new ≡ due_of old)
+    (position : next_position_of new ≡ next_position_of old) (asked : asked_position_of new ≡ asked_position_of old) where
+  fails_after : YieldsFirst (rules x.sum) x.format x.limit s h.payloads h.past → h.past ≡ events_back x h.payloads → RunsOut x old new s (dealt ++ listed lent) acks
+  fails_after first taken = record {
+    payloads = h.payloads;
+    first = subst (λ (p : List Event). YieldsFirst (rules x.sum) x.format x.limit s h.payloads p) taken first;
+    later = listed lent;
+    commits = ap (λ (ts : List Committed). ts ++ listed lent) (h.dealt_are ∙ ap committed_in taken);
+    due = due_same acks acks (requested_acks x.format x.name h.payloads) (due_of old) (due_of old) (due_of new) h.acks_are same (none_due acks (due_of old) (due_of old) refl);
+    some_due = some_due acks acks h.more_acks (acks_of x s) (due_of old) (due_of old) (due_of new) (none_due acks (due_of old) (due_of old) refl) h.asks same;
+    resumes = position
+        ∙ h.resumes
+        ∙ ap (λ (ts : List Committed). position_after_last ts (asked_position_of old)) (h.dealt_are ∙ ap committed_in taken)
+        ∙ ap (position_after_last (committed_in (events_back x h.payloads))) (sym asked);
+  }
+
+  fails_by : (o : Option TakenEvent) (l : Option Committed) → Holds x old s h.payloads h.past o l → RunsOut x old new s (dealt ++ listed lent) acks
+  fails_by None None held = fails_after (first_of IsOpenChanges (rules x.sum) x.format x.limit old.answer s h.payloads h.past h.past limits held) held.good.events
+  fails_by (Some event) (Some t) held =
+      fails_after (first_before (rules x.sum) x.format x.limit s h.payloads held.payload h.past (first_of IsOpenChanges (rules x.sum) x.format x.limit old.answer s (h.payloads ++ held.payload ∷ []) (event_in x.format held.payload ∷ h.past) h.past limits held.taken))
+      (events_before_last x.format h.payloads held.payload h.past held.taken.good.events)
+  fails_by None (Some t) held = absurd held
+  fails_by (Some event) None held = absurd held
+
+  pub no_acknowledgement : RunsOut x old new s (dealt ++ listed lent) acks
+  no_acknowledgement = fails_by old.lent lent h.holds
 
 -- ---- the verdict is kept
 
 pub ends_kept : {F : Type 0} (x : Reading) (old new : ChangeFollower F) (a : AnswerReader ChangeRecorder F) (s : List ℕ) (dealt : List Committed) (acks : List (List ℕ)) (v : Verdict) (o : Option Verdict) → a ≡ answer.with_verdict new.answer o → Ends x old new s dealt acks v → Ends x old (record new { answer = a }) s dealt acks v
-ends_kept x old new a s dealt acks verdicts.Memory o is h = rw is h
+ends_kept x old new a s dealt acks verdicts.Memory o is h = rw is (record { payloads = h.payloads; first = h.first; later = h.later; commits = h.commits; due = h.due; some_due = h.some_due; resumes = h.resumes })
 ends_kept x old new a s dealt acks v o is h = rw is (record { all = h.all; verdict_is = h.verdict_is; asks = h.asks; due = h.due; resumes = h.resumes })
 
 -- so the state represents the stream, which is over
@@ -403,7 +472,7 @@ not_over x f s dealt lent acks v has h = let none = h.goes_on in absurd cc
 
 -- ---- equal settings
 
-reading_same : {F : Type 0} (sum : List ℕ → ℕ) (f g : ChangeFollower F) → KeepsSettings f g → reading_of sum g ≡ reading_of sum f
+pub reading_same : {F : Type 0} (sum : List ℕ → ℕ) (f g : ChangeFollower F) → KeepsSettings f g → reading_of sum g ≡ reading_of sum f
 reading_same sum f g k = rw (k.format, k.limit, k.name) refl
 
 pub takes_from : {F : Type 0} (sum : List ℕ → ℕ) (f g new : ChangeFollower F) (s : List ℕ) (dealt : List Committed) (acks : List (List ℕ)) (result : Result Bool Verdict) → KeepsSettings f g → (IsAt (reading_of sum g) g s dealt None acks → Takes (reading_of sum g) g new s dealt acks result) → IsAt (reading_of sum f) g s dealt None acks → Takes (reading_of sum f) g new s dealt acks result

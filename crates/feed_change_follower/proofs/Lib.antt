@@ -1,1 +1,4 @@
 pub mod ChangeFollowLemmas
+pub mod AlikeCommitLemmas
+pub mod ChangeRunLemmas
+pub mod ApplyLemmas

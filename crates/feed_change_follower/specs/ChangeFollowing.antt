@@ -1,8 +1,9 @@
 -- What a follower of changes has lent of the bytes of an answer received so far, and how its calls change that.
-use Rattle.std.specs.Prelude.{◌≡◌, ℕ, Bool, true, false, List, [], ◌∷◌, ◌++◌, Option, Some, None, IfSome, Result, Ok, Err}
+use Rattle.std.specs.Prelude.{◌≡◌, ◌<◌, ℕ, Bool, true, false, List, [], ◌∷◌, ◌++◌, length, map, Option, Some, None, IfSome, Result, Ok, Err}
 use Rattle.feed_checks.specs.declared.verdict.Verdict.{Verdict}
 use Rattle.feed_checks.specs.declared.verdict.Verdict.TheVariants as verdicts
 use Rattle.feed_checks.specs.EventFields.{Event, log_pos_of}
+use Rattle.feed_checks.specs.PastLists.{onto}
 use Rattle.feed_transactions.specs.Changes.{Committed, committed_by}
 use Rattle.feed_transactions.specs.Rules.{Rules, rules}
 use Rattle.feed_replication.specs.Requests.{dump_request}
@@ -11,6 +12,7 @@ use Rattle.feed_replication.specs.Streams.{event_in, stream_verdict}
 use Rattle.feed_change_log.specs.KeptChanges.{IsOpenChanges, IsDoneChanges}
 use Rattle.feed_replication.specs.Acknowledgements.{is_ack_requested, requested_acks, acknowledgements}
 use Rattle.feed_replication.specs.AnswerReaders as answer
+use Rattle.feed_replication.specs.AnswerSteps.{YieldsFirst}
 use Rattle.feed_replication.specs.Following.{AddsAllDue, AddsSomeDue}
 use Rattle.feed_replication.specs.declared.answer_reader.TakenEvent.{TakenEvent}
 use Rattle.feed_change_follower.specs.StreamCommits.{stream_committed, committed_in, position_after_last}
@@ -51,6 +53,10 @@ next_position_of f = answer.next_position_of f.answer
 -- the acknowledgements that are due
 abbrev pub due_of : {F : Type 0} → ChangeFollower F → List ℕ
 due_of f = answer.due_of f.answer
+
+-- the bytes that were received and aren't taken
+abbrev pub received_of : {F : Type 0} → ChangeFollower F → List ℕ
+received_of f = answer.received_of f.answer
 
 -- server id, name, format, limit and checksum function of the follower are unchanged
 abbrev pub KeepsSettings : {F : Type 0} → ChangeFollower F → ChangeFollower F → Type 0
@@ -172,9 +178,23 @@ pub record EndsWith {F : Type 0} (x : Reading) (old new : ChangeFollower F) (s :
   pub due : AddsAllDue acks (acks_of x s) (due_of old) (due_of new)
   pub resumes : ResumesAfter new dealt
 
--- why no transaction is lent: the stream ended; if memory ran out, the first few acknowledgements became due
+-- the events in these payloads, the newest first
+abbrev pub events_back : Reading → List (List ℕ) → List Event
+events_back x ps = onto [] (map (event_in x.format) ps)
+
+-- memory ran out after the first few payloads of the stream, whose events commit no other transactions than these: what they ask for became due, and the next request is for the position after what they commit
+pub record RunsOut {F : Type 0} (x : Reading) (old new : ChangeFollower F) (s : List ℕ) (dealt : List Committed) (acks : List (List ℕ)) : Type 0 where
+  pub payloads : List (List ℕ)
+  pub first : YieldsFirst (rules x.sum) x.format x.limit s payloads (events_back x payloads)
+  pub later : List Committed
+  pub commits : dealt ≡ committed_in (events_back x payloads) ++ later
+  pub due : AddsAllDue acks (requested_acks x.format x.name payloads) (due_of old) (due_of new)
+  pub some_due : AddsSomeDue acks (acks_of x s) (due_of old) (due_of new)
+  pub resumes : ResumesAfter new (committed_in (events_back x payloads))
+
+-- why no transaction is lent: the stream ended, or memory ran out
 abbrev pub Ends : {F : Type 0} → Reading → ChangeFollower F → ChangeFollower F → List ℕ → List Committed → List (List ℕ) → Verdict → Type 0
-Ends x old new s dealt acks verdicts.Memory = AddsSomeDue acks (acks_of x s) (due_of old) (due_of new)
+Ends x old new s dealt acks verdicts.Memory = RunsOut x old new s dealt acks
 Ends x old new s dealt acks v = EndsWith x old new s dealt acks v
 
 -- the same once these transactions were passed
@@ -182,6 +202,11 @@ abbrev pub Takes : {F : Type 0} → Reading → ChangeFollower F → ChangeFollo
 Takes x old new s dealt acks (Ok true) = Lends x old new s dealt acks
 Takes x old new s dealt acks (Ok false) = HasAll x old new s dealt acks
 Takes x old new s dealt acks (Err v) = Ends x old new s dealt acks v
+
+-- fewer bytes are left to be taken, if a transaction was found in them
+abbrev pub TakesBytes : {F : Type 0} → ChangeFollower F → ChangeFollower F → Result Bool Verdict → Type 0
+TakesBytes old new (Ok true) = length (received_of new) < length (received_of old)
+TakesBytes old new _ = Unit {0}
 
 -- the follower's state after an error; nothing is stated if memory ran out
 abbrev pub IsOver : {F : Type 0} → Reading → ChangeFollower F → List ℕ → Result Bool Verdict → Type 0

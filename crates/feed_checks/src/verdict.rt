@@ -1,10 +1,14 @@
 //! The result of a report or a stream.
 
-ghost use Rattle.std.specs.Prelude.{◌≡◌};
+ghost use Rattle.std.specs.Prelude.{◌≡◌, Some};
 ghost use Rattle.feed_checks.specs.declared.verdict.Verdict.TheVariants.{Memory};
+ghost use Rattle.feed_checks.specs.ReadVerdicts.{frame_verdict, rows_verdict};
 ghost use Rattle.feed_checks.specs.Verdicts.{verdict_name, verdict_status};
 
+use events_frames::EventError;
+use rows_errors::RowsError;
 use std::alloc::{AllocError, AllocFailed};
+use std::fmt;
 
 /// The result of a report or a stream: its end, an unfinished stream, or the first fault.
 #[derive(Clone, Copy, Debug, PartialEq, Eq)]
@@ -105,5 +109,49 @@ impl<T: Drop> From<AllocFailed<T>> for Verdict {
 
     fn from(_error: AllocFailed<T>) -> Verdict {
         Verdict::Memory
+    }
+}
+
+impl From<EventError> for Verdict {
+    ghost from_gives = { λ error v. v ≡ frame_verdict error };
+
+    /// The verdict of a log whose event has this error: `End` where the bytes end within it.
+    fn from(error: EventError) -> Verdict {
+        match error {
+            EventError::Eof => Verdict::End,
+            EventError::Frame => Verdict::Frame,
+            EventError::Algorithm => Verdict::Algorithm,
+            EventError::TooLong => Verdict::Size,
+            EventError::Memory => Verdict::Memory,
+            EventError::Read => Verdict::Read,
+            EventError::Write => Verdict::Write,
+            EventError::EndOfBody | EventError::RemainingBytes | EventError::Invalid => {
+                Verdict::Body
+            }
+        }
+    }
+}
+
+impl From<RowsError> for Verdict {
+    ghost from_gives = { λ error v. v ≡ rows_verdict error };
+
+    /// The verdict of a log in which a row has this error.
+    fn from(error: RowsError) -> Verdict {
+        match error {
+            RowsError::Memory => Verdict::Memory,
+            RowsError::Read => Verdict::Read,
+            _ => Verdict::Row,
+        }
+    }
+}
+
+impl fmt::Display for Verdict {
+    ghost output = { λ verdict. Some (verdict_name verdict) };
+
+    ghost styled_output = { λ verdict _. Some (verdict_name verdict) };
+
+    /// Writes the name, whatever flags and width are asked for.
+    fn fmt<W: fmt::Write>(&self, f: &mut fmt::Formatter<W>) -> fmt::Result {
+        f.write_str(name_of(self))
     }
 }

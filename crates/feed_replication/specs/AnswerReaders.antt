@@ -161,3 +161,4 @@ pub record Starts {K F : Type 0} (IsOpen : HasOpen K) (format : Format) (positio
   pub limit_is : limit_of a ≡ limit
   pub checksum_is : checksum_of a ≡ checksum
   pub none_waits : due_of a ≡ []
+  pub no_verdict : verdict_in a ≡ None

@@ -23,7 +23,7 @@ use Rattle.rows_jsonb.specs.declared.diff.JsonDiff.{JsonDiff}
 use Rattle.rows_jsonb.specs.Items.{items_at, all_found}
 use Rattle.rows_jsonb.proofs.DiffLemmas.{diffs_fault}
 use Rattle.feed_text.specs.DiffText.{diffs_text}
-use Rattle.rows_jsonb.specs.JsonParsing.{Parses}
+use Rattle.rows_jsonb.specs.JsonParsing.{Parses, HasNamelessFault}
 use Rattle.rows_jsonb.specs.DocumentTrees.{document_tree, tree_in}
 use Rattle.rows_jsonb.specs.declared.dom.JsonDom.{JsonDom}
 use Rattle.rows_jsonb.specs.JsonTreeViews.{view}
@@ -37,6 +37,7 @@ use Rattle.feed_text.specs.DecimalText.{quoted_decimal, IsDecimalError}
 use Rattle.feed_text.specs.JsonText.{document_text}
 use Rattle.feed_text.specs.ValueText.{value_text}
 use Rattle.feed_text.specs.CellText.{label, cell_value_text, tree_text, cell_text, kept_text, kept_cell_text, Appends, AppendsLabeled, AppendsLabeledReading, IsTextError, PacksNone, IsCellError}
+use Rattle.feed_text.specs.NamelessFaults.{IsNamelessDocument, HasNamelessDiff, HasNamelessContent, HasNamelessPart}
 
 -- the text was appended
 pub appends : (column : ℕ) (found : Reading (List ℕ)) (text old new : List ℕ) → found ≡ Ok text → new ≡ old ++ (label column ++ text) → Appends (found >>= λ t. Ok (label column ++ t)) old new
@@ -122,6 +123,9 @@ no_document s e h = rw h (own e (document_fault s e h))
     own EmptyPair j = absurd j
     own Read j = absurd j
 
+pub nameless_bytes : (b : List ℕ) (e : RowsError) → (let fault : Reading Seen = Err e in document b ≡ fault) → e ≡ Jsonb None → IsNamelessDocument b
+nameless_bytes b e h same = inl (h ∙ rw same refl)
+
 pub document_failed : (column : ℕ) (v : CellValue) (b : List ℕ) (e : RowsError) → (let fault : Reading JsonDom = Err e in let failed : Reading (List ℕ) = Err e in v ≡ json b → Parses view fault (document_tree b) → Parses (λ (t : List ℕ). t) failed (cell_text column v))
 document_failed column v b e h p = rw (json_text v b h) (no_text column e (document_tree b) p)
 
@@ -206,3 +210,21 @@ diffs_failed column v b e h (inr f) = rw (h, f) (own e (diffs_fault b e f))
     own Decimal j = absurd j
     own EmptyPair j = absurd j
     own Read j = absurd j
+
+-- ---- faults without a name
+
+pub document_nameless : (v : CellValue) (b : List ℕ) → v ≡ json b → IsNamelessDocument b → HasNamelessContent v
+document_nameless v b h p = rw h p
+
+pub updates_nameless : (v : CellValue) (b : List ℕ) (ds : List Diff) → v ≡ json_diffs b → items_at diff_at b ≡ all_found ds → HasNamelessDiff ds → HasNamelessContent v
+updates_nameless v b ds h f p = rw h (inr (rw f (refl, p)))
+
+pub updates_unread : (v : CellValue) (b : List ℕ) (e : RowsError) → v ≡ json_diffs b → (e ≡ Memory) ⊎ ((items_at diff_at b).fault ≡ Some e) → e ≡ Jsonb None → HasNamelessContent v
+updates_unread v b e h (inl m) same = absurd (cc (m, same))
+updates_unread v b e h (inr f) same = rw h (inl (f ∙ ap (λ (k : RowsError). Some k) same))
+
+pub kept_nameless : (b : BinlogValue) (d : JsonbValue) → b ≡ made.Jsonb d → HasNamelessFault (jsonb_value d) → HasNamelessPart b
+kept_nameless b d h p = rw h p
+
+pub kept_updates_nameless : (b : BinlogValue) (ds : Vec JsonDiff Global) → b ≡ made.JsonDiff ds → HasNamelessDiff (map diff_view ds.items) → HasNamelessPart b
+kept_updates_nameless b ds h p = rw h p

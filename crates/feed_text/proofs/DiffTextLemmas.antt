@@ -1,5 +1,5 @@
 -- The texts of partial updates, in sequence.
-use Rattle.std.proofs.Common.{◌≡◌, ℕ, List, [], ◌∷◌, ◌++◌, map, Ok, Err, refl, sym, ap, ◌∙◌, append_assoc, codes}
+use Rattle.std.proofs.Common.{◌≡◌, ℕ, List, [], ◌∷◌, ◌++◌, map, Ok, Err, refl, sym, ap, ◌∙◌, append_assoc, codes, inl, inr}
 use Rattle.std.proofs.lemmas.List.{append-nil}
 use Rattle.std.specs.List.{join_with_byte}
 use Rattle.rows_errors.specs.declared.fault.RowsError.{RowsError}
@@ -10,6 +10,7 @@ use Rattle.rows_jsonb.specs.declared.diff.JsonDiff.{JsonDiff}
 use Rattle.rows_jsonb.specs.JsonParsing.{Parses}
 use Rattle.feed_text.specs.CellText.{Appends}
 use Rattle.feed_text.specs.DiffText.{diff_text, diff_texts, bracketed, diffs_text}
+use Rattle.feed_text.specs.NamelessFaults.{HasNamelessValue, HasNamelessDiff}
 use Rattle.feed_text.proofs.CellLemmas.{no_more}
 use Rattle.feed_text.proofs.DocumentLemmas.{led}
 
@@ -57,3 +58,11 @@ ended ds all old out separator new h is written = rw h (
 pub no_texts : (ds : List JsonDiff) → ds ≡ [] → diff_texts (map diff_view ds) ≡ Ok []
 unfolding diff_texts
 no_texts ds h = rw h refl
+
+pub first_nameless : (d : Diff) (ds : List Diff) → HasNamelessValue d.1.1 → HasNamelessDiff (d ∷ ds)
+unfolding HasNamelessDiff
+first_nameless d ds h = inl h
+
+pub later_nameless : (d : Diff) (ds : List Diff) (t : List ℕ) → diff_text d ≡ Ok t → HasNamelessDiff ds → HasNamelessDiff (d ∷ ds)
+unfolding HasNamelessDiff
+later_nameless d ds t h p = inr (t, h, p)

@@ -16,3 +16,4 @@ pub mod DirectText
 pub mod FieldText
 pub mod ImageText
 pub mod RowText
+pub mod NamelessFaults

@@ -1,11 +1,13 @@
 //! The text of cells, in a buffer with room.
 
-ghost use Rattle.std.specs.Prelude.{◌≡◌, ◌≤◌, ◌+◌, ◌++◌, ◌*◌, ◌∷◌, [], OnOk, OnErr, IfErr, IfOk, IsTrue, false, length, take};
+ghost use Rattle.std.specs.Prelude.{◌≡◌, ◌≤◌, ◌+◌, ◌++◌, ◌*◌, ◌∷◌, [], None, OnOk, OnErr, IfErr, IfOk, IsTrue, false, length, take};
+ghost use Rattle.rows_errors.specs.declared.fault.RowsError.TheVariants.{Jsonb};
 ghost use Rattle.rows_jsonb.specs.DocumentTrees.{document_tree};
 ghost use Rattle.std.specs.List.{flat_map};
 ghost use Rattle.feed_writers.specs.Quoting.{quoted, quoted_byte};
 ghost use Rattle.rows_cells.specs.CellViews.{cell_value};
 ghost use Rattle.feed_text.specs.CellText.{label, cell_text, Appends, IsCellError};
+ghost use Rattle.feed_text.specs.NamelessFaults.{HasNamelessContent};
 ghost use Rattle.feed_text.specs.DirectText.{WritesDocument};
 ghost use Rattle.feed_text.specs.DecimalText.{quoted_decimal, AppendsSome, IsDecimalError};
 ghost use Rattle.feed_text.specs.TextPieces.{IsAppendError};
@@ -44,6 +46,7 @@ impl<A: Allocator> TextBuffer<A> {
     ) -> Result<(), RowsError>
         ensures ok { OnOk result (Appends (cell_text column (cell_value cell.entry)) (text_in self.old) (text_in self.new)) }
         ensures err { IfErr result (λ e. IsCellError e cell.entry (cell_text column (cell_value cell.entry)) (text_in self.old) (text_in self.new)) }
+        ensures nameless { IfErr result (λ e. e ≡ Jsonb None → HasNamelessContent (cell_value cell.entry)) }
     {
         let Ok(end) = self.write_label(column) else {
             return Err(RowsError::Memory);
@@ -208,6 +211,7 @@ impl<A: Allocator> TextBuffer<A> {
     ) -> Result<(), RowsError>
         ensures ok { OnOk result (Appends (cell_text column (cell_value cell.entry)) (text_in self.old) (text_in self.new)) }
         ensures err { IfErr result (λ e. IsCellError e cell.entry (cell_text column (cell_value cell.entry)) (text_in self.old) (text_in self.new)) }
+        ensures nameless { IfErr result (λ e. e ≡ Jsonb None → HasNamelessContent (cell_value cell.entry)) }
     {
         self.bytes.truncate(self.len);
         let put = put_cell_ref(alloc, column, cell, &mut self.bytes);

@@ -1,6 +1,7 @@
 //! The text of cells.
 
-ghost use Rattle.std.specs.Prelude.{◌≡◌, ◌≤◌, ◌+◌, ◌++◌, OnOk, IfErr, IfOk, length, take, map};
+ghost use Rattle.std.specs.Prelude.{◌≡◌, ◌≤◌, ◌+◌, ◌++◌, None, OnOk, IfErr, IfOk, length, take, map};
+ghost use Rattle.rows_errors.specs.declared.fault.RowsError.TheVariants.{Jsonb};
 ghost use Rattle.rows_jsonb.specs.JsonTreeViews.{view};
 ghost use Rattle.rows_jsonb.specs.DocumentTrees.{document_tree};
 ghost use Rattle.rows_jsonb.specs.JsonParsing.{Parses};
@@ -14,6 +15,7 @@ ghost use Rattle.feed_text.specs.DiffText.{diffs_text};
 ghost use Rattle.feed_text.specs.ShortTexts.{short_text};
 ghost use Rattle.feed_text.specs.ValueText.{value_text};
 ghost use Rattle.feed_text.specs.CellText.{label, cell_text, kept_cell_text, Appends, AppendsLabeled, AppendsLabeledReading, IsTextError, IsCellError};
+ghost use Rattle.feed_text.specs.NamelessFaults.{IsNamelessDocument, HasNamelessDiff, HasNamelessContent, HasNamelessPart};
 
 use crate::decimals::put_decimal;
 use crate::diffs::append_diffs;
@@ -48,6 +50,7 @@ pub fn put_cell<A: Allocator>(
 ) -> Result<(), RowsError>
     ensures ok { OnOk result (Appends (kept_cell_text column value.now) out.old.items out.new.items) }
     ensures err { IfErr result (λ e. IsTextError e (kept_cell_text column value.now) out.old.items out.new.items) }
+    ensures nameless { IfErr result (λ e. e ≡ Jsonb None → HasNamelessPart value.now) }
 {
     match value {
         BinlogValue::Value(value) => put_value_cell(column, value, out),
@@ -76,6 +79,7 @@ pub fn put_cell_ref<A: Allocator>(
 ) -> Result<(), RowsError>
     ensures ok { OnOk result (Appends (cell_text column (cell_value cell.entry)) out.old.items out.new.items) }
     ensures err { IfErr result (λ e. IsCellError e cell.entry (cell_text column (cell_value cell.entry)) out.old.items out.new.items) }
+    ensures nameless { IfErr result (λ e. e ≡ Jsonb None → HasNamelessContent (cell_value cell.entry)) }
 {
     match CellContent::of(cell) {
         CellContent::Short(short) => put_short_cell(column, short, out),
@@ -221,6 +225,7 @@ fn put_diffs_cell<A: Allocator>(
 ) -> Result<(), RowsError>
     ensures ok { OnOk result (AppendsLabeledReading column (diffs_text (map diff_view diffs.now)) out.old.items out.new.items) }
     ensures err { IfErr result (λ e. IsTextError e (diffs_text (map diff_view diffs.now)) out.old.items out.new.items) }
+    ensures nameless { IfErr result (λ e. e ≡ Jsonb None → HasNamelessDiff (map diff_view diffs.now)) }
 {
     let start = out.len();
     match append_label(column, out) {
@@ -238,7 +243,8 @@ fn put_diffs_cell<A: Allocator>(
 
 /// Parses a JSON document.
 fn tree_of(alloc: Global, bytes: &[u8]) -> Result<JsonDom, RowsError>
-    ensures { Parses view result (document_tree bytes.now) }
+    ensures tree { Parses view result (document_tree bytes.now) }
+    ensures nameless { IfErr result (λ e. e ≡ Jsonb None → IsNamelessDocument bytes.now) }
 {
     match JsonbValue::read_document(&mut ParseBuf(bytes)) {
         Ok(document) => document.parse(alloc),

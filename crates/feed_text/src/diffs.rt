@@ -1,13 +1,14 @@
 //! The text of partial updates of JSON documents.
 
-ghost use Rattle.std.specs.Prelude.{◌≡◌, ◌∷◌, ◌++◌, OnOk, IfErr, Err, length, take, map};
+ghost use Rattle.std.specs.Prelude.{◌≡◌, ◌∷◌, ◌++◌, None, OnOk, IfErr, Err, length, take, map};
 ghost use Rattle.rows_jsonb.specs.JsonDiffViews.{diff_view};
-ghost use Rattle.rows_jsonb.specs.JsonParsing.{Parses};
+ghost use Rattle.rows_jsonb.specs.JsonParsing.{Parses, HasNamelessFault};
 ghost use Rattle.feed_text.specs.CellText.{Appends};
+ghost use Rattle.feed_text.specs.NamelessFaults.{HasNamelessValue, HasNamelessDiff};
 ghost use Rattle.feed_text.specs.DiffText.{operation_text, document_part, diff_text, diffs_text};
 ghost use Rattle.rows_jsonb.specs.JsonbViews.{jsonb_value};
 ghost use Rattle.rows_jsonb.specs.JsonTreeViews.{view};
-ghost use Rattle.rows_errors.specs.declared.fault.RowsError.TheVariants.{Memory};
+ghost use Rattle.rows_errors.specs.declared.fault.RowsError.TheVariants.{Memory, Jsonb};
 ghost use Rattle.feed_text.specs.JsonText.{document_text};
 
 use crate::documents::put_json;
@@ -38,6 +39,7 @@ pub(crate) fn append_diffs<A: Allocator>(
 ) -> Result<(), RowsError>
     ensures ok { OnOk result (Appends (diffs_text (map diff_view diffs.now)) out.old.items out.new.items) }
     ensures err { IfErr result (λ e. Parses (λ t. t) (Err e) (diffs_text (map diff_view diffs.now))) }
+    ensures nameless { IfErr result (λ e. e ≡ Jsonb None → HasNamelessDiff (map diff_view diffs.now)) }
     ensures kept { take (length out.old.items) out.new.items ≡ out.old.items }
 {
     out.extend_from_slice(b"diff[")?;
@@ -63,6 +65,7 @@ fn append_diff<A: Allocator>(
 ) -> Result<(), RowsError>
     ensures ok { OnOk result (Appends (diff_text (diff_view diff.now)) out.old.items out.new.items) }
     ensures err { IfErr result (λ e. Parses (λ t. t) (Err e) (diff_text (diff_view diff.now))) }
+    ensures nameless { IfErr result (λ e. e ≡ Jsonb None → HasNamelessValue (diff_view diff.now).1.1) }
     ensures kept { take (length out.old.items) out.new.items ≡ out.old.items }
 {
     out.extend_from_slice(operation_word(diff.operation()))?;
@@ -84,6 +87,7 @@ fn append_value<A: Allocator>(
 ) -> Result<(), RowsError>
     ensures ok { OnOk result (Appends (document_part (jsonb_value value.now)) out.old.items out.new.items) }
     ensures err { IfErr result (λ e. Parses (λ t. t) (Err e) (document_part (jsonb_value value.now))) }
+    ensures nameless { IfErr result (λ e. e ≡ Jsonb None → HasNamelessFault (jsonb_value value.now)) }
     ensures kept { take (length out.old.items) out.new.items ≡ out.old.items }
 {
     match value.tree(alloc) {

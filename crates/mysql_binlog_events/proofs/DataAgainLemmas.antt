@@ -6,7 +6,7 @@ use Rattle.rows_table_map.proofs.MapLawLemmas.{map_whole}
 use Rattle.events_frames.specs.Descriptions.{Description, IsFields, event_description_of}
 use Rattle.events_frames.proofs.LawLemmas.{written_whole}
 use Rattle.events_bodies.proofs.BodyLemmas.{incident_whole}
-use Rattle.events_queries.proofs.QueryLemmas.{query_whole}
+use Rattle.events_bodies.proofs.QueryLemmas.{query_whole}
 use Rattle.events_bodies.proofs.LoadQueryLemmas.{load_query_whole}
 use Rattle.events_owned.specs.declared.event_data.EventData.TheVariants as read
 use Rattle.mysql_binlog_events.specs.ReadAgain.{IsReadAsEncoded}

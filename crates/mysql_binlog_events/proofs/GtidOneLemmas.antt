@@ -7,11 +7,11 @@ use Rattle.wire_buf.specs.Numbers.{IsLenenc}
 use Rattle.wire_buf.proofs.EncodingLemmas.{Reads-is}
 use Rattle.wire_fields.specs.ByteStrings.{IsAll}
 use Rattle.rows_table_map.specs.TableMaps.{little_endian}
-use Rattle.events_gtids.specs.Stamps.{AnnouncedPair, IsStamp, IsAnnounced, top_bit}
-use Rattle.events_gtids.specs.Gtids.{GtidBody, IsClock, IsGtid}
-use Rattle.events_gtids.proofs.AnnouncedPairLemmas.{alone_reads, twice_reads}
-use Rattle.events_gtids.proofs.OptionalLemmas.{Level, Tail, LinkRow, LinkSettled, last_level, last_runs, link_level, link_runs}
-use Rattle.events_gtids.proofs.GtidLemmas.{IsHead, Ticket, Version, Length, Time, ticket_on, version_on, length_on, time_on, fields_on, TicketSettled, VersionSettled, LengthSettled, TimeSettled, FieldsSettled, FieldsRow, gtid_reads, head, fields}
+use Rattle.events_bodies.specs.Stamps.{AnnouncedPair, IsStamp, IsAnnounced, top_bit}
+use Rattle.events_bodies.specs.Gtids.{GtidBody, IsClock, IsGtid}
+use Rattle.events_bodies.proofs.AnnouncedPairLemmas.{alone_reads, twice_reads}
+use Rattle.events_bodies.proofs.OptionalLemmas.{Level, Tail, LinkRow, LinkSettled, last_level, last_runs, link_level, link_runs}
+use Rattle.events_bodies.proofs.GtidLemmas.{IsHead, Ticket, Version, Length, Time, ticket_on, version_on, length_on, time_on, fields_on, TicketSettled, VersionSettled, LengthSettled, TimeSettled, FieldsSettled, FieldsRow, gtid_reads, head, fields}
 use Rattle.mysql_binlog_events.specs.ReadAgain.{IsReadAsEncoded}
 use Rattle.mysql_binlog_events.proofs.OneWayLemmas.{one_number, one_text, one_lenenc, one_both}
 

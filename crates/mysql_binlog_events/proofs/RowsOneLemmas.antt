@@ -12,7 +12,7 @@ use Rattle.rows_event_body.specs.declared.rows_event_type.RowsEventType.{RowsEve
 use Rattle.rows_event_body.proofs.FieldLemmas.{there_reads, extra_reads}
 use Rattle.rows_event_body.proofs.RowsEventLemmas.{parts, whole, event_reads}
 use Rattle.rows_event_body.proofs.WritingLemmas.{written_whole}
-use Rattle.events_typed_rows.specs.RowsContexts.{described_ctx}
+use Rattle.events_owned.specs.RowsContexts.{described_ctx}
 use Rattle.mysql_binlog_events.specs.ReadAgain.{IsReadAsEncoded, IsRowsReadAgain, IsRowsSameAgain}
 use Rattle.mysql_binlog_events.proofs.OneWayLemmas.{one_number, one_text, one_all, one_lenenc, one_both, whole_body}
 

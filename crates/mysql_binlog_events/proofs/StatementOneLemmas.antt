@@ -4,7 +4,7 @@ use Rattle.wire_buf.specs.Encoding.{Both}
 use Rattle.rows_table_map.specs.TableMaps.{little_endian}
 use Rattle.events_frames.specs.Queries.{IsQuery}
 use Rattle.events_bodies.specs.LoadQueries.{IsLoadQuery}
-use Rattle.events_queries.proofs.QueryLemmas as query
+use Rattle.events_bodies.proofs.QueryLemmas as query
 use Rattle.events_bodies.proofs.LoadQueryLemmas as load
 use Rattle.mysql_binlog_events.specs.ReadAgain.{IsReadAsEncoded}
 use Rattle.mysql_binlog_events.proofs.OneWayLemmas.{one_number, one_text, one_skipped, one_all, one_both, one_led}

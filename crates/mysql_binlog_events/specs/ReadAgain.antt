@@ -4,7 +4,7 @@ use Rattle.wire_buf.specs.Encoding.{Encoding, Begins, Reads, AreBytes}
 use Rattle.wire_buf.specs.Writing.{WritesField}
 use Rattle.rows_event_body.specs.RowsEvents.{RowsBody, IsRowsEvent, rows_event_encoded, written_body, written_ctx}
 use Rattle.rows_event_body.specs.declared.rows_event_type.RowsEventType.{RowsEventType}
-use Rattle.events_typed_rows.specs.RowsContexts.{described_ctx}
+use Rattle.events_owned.specs.RowsContexts.{described_ctx}
 use Rattle.events_frames.specs.Footers.{ChecksumSettings, no_settings}
 use Rattle.events_frames.specs.Descriptions.{Description, IsFields, IsDescription, description_encoded, written_description}
 

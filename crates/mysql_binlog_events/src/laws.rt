@@ -11,7 +11,7 @@ ghost use Rattle.events_frames.specs.RotateAndXid.{IsRotate, rotate_encoded, IsX
 ghost use Rattle.events_bodies.specs.UserVars.{IsUserVar, user_var_encoded, written_user_var};
 ghost use Rattle.events_frames.specs.Queries.{IsQuery, query_encoded, written_query};
 ghost use Rattle.events_bodies.specs.LoadQueries.{IsLoadQuery, load_query_encoded, written_load_query};
-ghost use Rattle.events_gtids.specs.Gtids.{IsGtid, gtid_encoded};
+ghost use Rattle.events_bodies.specs.Gtids.{IsGtid, gtid_encoded};
 ghost use Rattle.std.specs.Fn.{FnReturnsAt};
 ghost use Rattle.mysql_binlog_events.specs.DataAgain.{IsDataSameAgain};
 ghost use Rattle.events_frames.specs.LogReadings.{ReaderState, Change, first_reading};
@@ -27,6 +27,9 @@ pub use crate::frame_laws::{
 pub use crate::reader_laws::{
     accepted_events_have_no_error, events_are_accepted_in_one_way, table_maps_change_no_reading,
 };
+pub use events_bodies::gtid_laws::{
+    equal_gtids_say_the_same, gtids_are_written_back, worked_fields, worked_gtid,
+};
 pub use events_bodies::laws::{
     equal_begin_load_queries_say_the_same, equal_incidents_say_the_same,
     equal_intvars_say_the_same, equal_rands_say_the_same, equal_rotates_say_the_same,
@@ -38,14 +41,11 @@ pub use events_bodies::statement_laws::{
     equal_values_say_the_same, equal_variables_are_the_same, load_queries_are_written_whole,
     queries_are_written_whole, variables_are_read, worked_names, worked_queries, worked_variables,
 };
-pub use events_gtids::laws::{
-    equal_gtids_say_the_same, gtids_are_written_back, worked_fields, worked_gtid,
-};
 pub use events_owned::laws::{
     equal_bodies_say_the_same, files_end_once, files_give_few_items,
     whole_events_fail_only_as_too_short,
 };
-pub use events_typed_rows::laws::{
+pub use events_owned::rows_laws::{
     default_contexts_are_those_of_writing, equal_data_say_the_same, equal_events_say_the_same,
     images_are_those_of_the_kind, types_are_read_back, worked_contexts,
 };

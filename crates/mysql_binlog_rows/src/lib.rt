@@ -1,8 +1,10 @@
 //! The rows of MySQL's binary logs: table maps, rows events, cells, JSON documents, decimals and times.
 //!
-//! It re-exports its parts completely, and has their laws. `rows_table_map` and `rows_event_body` have the two kinds of events,
-//! `rows_cells` the cells of images, `rows_jsonb` JSON documents (`jsonb::Value`), `rows_values` decimals, times and plain
-//! values. The readers of packed times from a reader, such as `my_time_packed_from_binary`, are here, since no part needs them.
+//! It re-exports its parts, but for what only they call (`check_place`, `set_member`, `take_value`, `split_prefix`, and the digits
+//! that writers share), and the trait of sets of flags, `Flags`; and it has their laws. `rows_table_map` and `rows_event_body` have
+//! the two kinds of events, `rows_cells` the cells of images, `rows_jsonb` JSON documents (`jsonb::Value`), `rows_values` decimals,
+//! times and plain values. The readers of packed times from a reader, such as `my_time_packed_from_binary`, are here, since no part
+//! needs them.
 #![tactic(auto)]
 
 mod cell_laws;
@@ -13,6 +15,7 @@ mod table_map_laws;
 mod time_cells;
 mod value_laws;
 
+pub use bitflags::Flags;
 pub use rows_cells::BinlogValue;
 pub use rows_cells::BinlogValueCtx;
 pub use rows_cells::BinlogValueToValueError;

@@ -34,4 +34,4 @@ pub use Rattle.wire_packets.specs.Packets
 pub use Rattle.wire_packets.specs.CodecState
 pub use Rattle.wire_packets.specs.StreamPieces
 pub use Rattle.wire_packets.specs.PacketLaws
-pub use Rattle.wire_packets.specs.Version
+pub use Rattle.wire_fields.specs.Version

@@ -1,12 +1,15 @@
 //! MySQL's wire format: buffers, integers, fields, constants and packets.
 //!
-//! It re-exports its parts completely. `laws` has the theorems about framings, packets, and the representations of integers and
-//! strings. `Watched` is a reader or a writer that remembers whether it failed.
+//! It re-exports its parts, but for what only they call (`split_lenenc_int`), and of other crates the buffer of packets, `BytesMut`,
+//! and the trait of sets of flags, `Flags`. `laws` has the theorems about framings, packets, and the representations of integers
+//! and strings. `Watched` is a reader or a writer that remembers whether it failed.
 #![tactic(auto)]
 
 pub mod laws;
 mod packet_laws;
 
+pub use bitflags::Flags;
+pub use bytes::BytesMut;
 pub use wire_buf::AnySize;
 pub use wire_buf::FieldFault;
 pub use wire_buf::FixedSize;
@@ -53,7 +56,6 @@ pub use wire_fields::BeU48;
 pub use wire_fields::BeU56;
 pub use wire_fields::BeU64;
 pub use wire_fields::BeU128;
-pub use wire_fields::BufMutExt;
 pub use wire_fields::BytesRepr;
 pub use wire_fields::EofBytes;
 pub use wire_fields::Fixed;
@@ -91,7 +93,9 @@ pub use wire_fields::VarLen;
 pub use wire_fields::lenenc_bytes;
 pub use wire_fields::lenenc_int_len;
 pub use wire_fields::lenenc_str_len;
+pub use wire_fields::split_version;
 pub use wire_fields::varlen_bytes;
+pub use wire_fields_extra::BufMutExt;
 pub use wire_fields_extra::Command;
 pub use wire_fields_extra::Const;
 pub use wire_fields_extra::ConstBytes;
@@ -126,4 +130,3 @@ pub use wire_packets::PacketCodecError;
 pub use wire_packets::chunk_header;
 pub use wire_packets::decode_pieces;
 pub use wire_packets::packet_to_chunks;
-pub use wire_packets::split_version;

@@ -1,10 +1,10 @@
 //! Laws of framings, packets and versions, each proved as the contract of a function that does nothing.
 
 ghost use Rattle.std.specs.Prelude.{◌≡◌, ◌∷◌, [], codes, Some, None, ℕ, List};
-ghost use Rattle.wire_packets.specs.PacketLaws.{FramingsAreUniquelyRead, PacketsAreAPrefix, PacketsAreLongest, PacketsEnd, StreamsHaveASplit, FramingsAreReadBack, VersionsAreTheirNumbers};
+ghost use Rattle.wire_packets.specs.PacketLaws.{FramingsAreUniquelyRead, PacketsAreAPrefix, PacketsAreLongest, PacketsEnd, StreamsHaveASplit, FramingsAreReadBack};
 ghost use Rattle.wire_packets.specs.Framing.{framing, next_sequence_id};
 ghost use Rattle.wire_packets.specs.Packets.{packets, packet_fault};
-ghost use Rattle.wire_packets.specs.Version.{version_of};
+ghost use Rattle.wire_fields.specs.Version.{version_of, VersionsAreTheirNumbers};
 ghost use Rattle.wire_packets.specs.declared.error.PacketCodecError.TheVariants.{PacketTooLarge, PacketsOutOfSync};
 
 /// Framings from the same sequence id, each followed by any bytes, are equal only if the payloads are equal

@@ -7,8 +7,12 @@
 mod changes;
 mod check;
 mod lines;
-mod part;
+mod positions;
 mod run;
+mod selection;
+mod sink;
+mod status;
+mod walk;
 mod words;
 
 use changes_commands::{Refused, parse};
@@ -26,6 +30,12 @@ fn refuse(rt: &HostRuntime, refused: Refused) -> ExitCode {
         Refused::Value(option) => {
             let example = Refused::example(option);
             let _ = eprintln!(rt; "binlog-changes: --{option} wants a value such as {example}");
+            ExitCode::from(2)
+        }
+        Refused::List(option) => {
+            let _ = eprintln!(rt;
+                "binlog-changes: --{option} takes one name: give it once for each"
+            );
             ExitCode::from(2)
         }
         Refused::NoCommand => {

@@ -1,10 +1,10 @@
 //! What is said to people about logs and errors.
 
-use changes_commands::{advice, meaning, put_type};
+use crate::status::is_whole;
+use changes_commands::{Explanation, explain, put_type};
 use changes_json::Text;
 use feed_change_log::Stop;
 use feed_checks::{Verdict, name_of};
-use rows_constants::EventType;
 
 /// The transactions of a log that the options select.
 #[derive(Clone, Copy)]
@@ -19,6 +19,7 @@ pub(crate) struct Selected {
 pub(crate) struct Checked<'l> {
     pub(crate) path: &'l str,
     pub(crate) stop: Stop,
+    pub(crate) explanation: Explanation,
     /// The position up to which it was read, if that isn't its end.
     pub(crate) up_to: Option<u32>,
     /// The transactions that the options select, if there are such options.
@@ -26,11 +27,12 @@ pub(crate) struct Checked<'l> {
 }
 
 impl<'l> Checked<'l> {
-    /// What is known of a log that was read to its end or its first fault.
-    pub(crate) fn new(path: &'l str, stop: Stop) -> Checked<'l> {
+    /// What is known of a log that was read to its end or its first fault, and begins with these bytes.
+    pub(crate) fn new(path: &'l str, stop: Stop, first: &[u8]) -> Checked<'l> {
         Checked {
             path,
             stop,
+            explanation: explanation_of(stop, first),
             up_to: None,
             selected: None,
         }
@@ -45,13 +47,17 @@ impl<'l> Checked<'l> {
     }
 }
 
-/// Whether a log ended well: between two transactions.
-pub(crate) fn is_whole(stop: Stop) -> bool {
-    stop.verdict == Verdict::End && !stop.is_cut && !stop.is_open
+/// What the verdict of a log means that ended so, and begins with these bytes.
+fn explanation_of(stop: Stop, first: &[u8]) -> Explanation {
+    let event_type = match stop.header {
+        Some(header) => Some(header.event_type_raw()),
+        None => None,
+    };
+    explain(stop.verdict, event_type, first)
 }
 
 /// Appends why a log ended.
-fn put_cause(stop: Stop, out: &mut Text) {
+fn put_cause(stop: Stop, explanation: Explanation, out: &mut Text) {
     if stop.is_cut {
         out.words("the log ends within an event, ");
         out.unsigned(stop.remaining as u64);
@@ -60,7 +66,7 @@ fn put_cause(stop: Stop, out: &mut Text) {
     } else if stop.verdict == Verdict::End && stop.is_open {
         out.words("the log ends within a transaction");
     } else {
-        out.words(meaning(stop.verdict));
+        out.words(explanation.meaning);
     }
 }
 
@@ -102,7 +108,7 @@ pub(crate) fn put_checked(checked: Checked<'_>, out: &mut Text) {
     let is_end = stop.verdict == Verdict::End;
     out.words(checked.path);
     out.words(": ");
-    put_cause(stop, out);
+    put_cause(stop, checked.explanation, out);
     if let Some(position) = checked.up_to {
         out.words(" up to ");
         out.unsigned(u64::from(position));
@@ -117,19 +123,9 @@ pub(crate) fn put_checked(checked: Checked<'_>, out: &mut Text) {
     }
     if !is_end {
         out.words("; ");
-        out.words(advice(stop.verdict));
+        out.words(checked.explanation.advice);
     }
     out.push(b'\n');
-}
-
-/// Whether the last event of a log that ended so is a rotate.
-pub(crate) fn is_rotated(stop: Stop) -> bool {
-    stop.newest_type == Some(EventType::ROTATE_EVENT as u8)
-}
-
-/// Whether its server closed a log that ended so: the last event is a rotate or a stop.
-pub(crate) fn is_closed(stop: Stop) -> bool {
-    is_rotated(stop) || stop.newest_type == Some(EventType::STOP_EVENT as u8)
 }
 
 /// Appends that a log before another isn't closed.

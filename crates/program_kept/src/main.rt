@@ -5,55 +5,39 @@
 //! line feed. There are no arguments. On an error standard error has `Usage`, `Read`, `Memory` or `Write`, and the status is 1.
 #![tactic(auto)]
 
-use feed_resume::Keeper;
-use std::alloc::Global;
+mod finding;
+
+use finding::{Failure, write_kept};
 use std::env;
-use std::io::{ErrorKind, Read};
+use std::io::{self, ErrorKind};
 use std::process::ExitCode;
 use std::rt::Env;
-
-/// The position of the first event, after the magic number.
-const FIRST_POSITION: u32 = 4;
-
-/// The buffer size for reading standard input, in bytes.
-const PIECE_LEN: usize = 65_536;
+use wire_buf::Watched;
 
 /// Checks that there are no arguments. `Usage`: there is one. `Memory`: out of memory.
-fn no_words(rt: &(impl Env + Alloc)) -> Result<(), &'static str> {
+fn no_words(rt: &(impl Env + Alloc)) -> Result<(), Failure> {
     match env::args(rt) {
         Ok(words) if words.len() <= 1 => Ok(()),
-        Err(error) if error.kind() == ErrorKind::OutOfMemory => Err("Memory"),
-        _ => Err("Usage"),
+        Err(error) if error.kind() == ErrorKind::OutOfMemory => Err(Failure::Memory),
+        _ => Err(Failure::Usage),
     }
 }
 
-/// Reads all of a reader's bytes. The error is `Read` or `Memory`.
-fn keep_all<R: Read + Drop>(alloc: Global, mut reader: R) -> Result<Keeper, &'static str> {
-    let mut keeper = Keeper::new(alloc);
-    let mut piece = [0u8; PIECE_LEN];
-    for _ in 0..u64::MAX {
-        match reader.read(&mut piece) {
-            Ok(0) => return Ok(keeper),
-            Ok(len) => keeper.take(&piece[..len]).map_err(|_| "Memory")?,
-            Err(error) if error.kind() == ErrorKind::Interrupted => {}
-            Err(_) => return Err("Read"),
-        }
-    }
-    Err("Read")
-}
-
-/// Prints the result for standard input.
-fn run(rt: &HostRuntime) -> Result<(), &'static str> {
+/// Writes the line for standard input to standard output.
+fn run(rt: &HostRuntime) -> Result<(), Failure> {
     no_words(rt)?;
-    let (len, position) = keep_all(rt.alloc(), rt.reader())?.kept();
-    println!(rt; "{len} {}", position.unwrap_or(FIRST_POSITION)).map_err(|_| "Write")
+    write_kept(
+        rt.alloc(),
+        &mut Watched::new(rt.reader()),
+        &mut io::writer(rt),
+    )
 }
 
 fn main(rt: HostRuntime) -> ExitCode {
     match run(&rt) {
         Ok(()) => ExitCode::SUCCESS,
-        Err(name) => {
-            let _ = eprintln!(&rt; "{name}");
+        Err(failure) => {
+            let _ = eprintln!(&rt; "{}", failure.name());
             ExitCode::FAILURE
         }
     }

@@ -3,11 +3,12 @@
 ghost use Rattle.std.specs.Prelude.{◌≡◌, IfOk, map};
 ghost use Rattle.rows_jsonb.specs.JsonDiffViews.{diff_view};
 ghost use Rattle.rows_cells.specs.BinlogValues.{kept_view, plain_value};
+ghost use Rattle.rows_cells.specs.declared.conversions.BinlogValueToValueError.TheVariants.{Memory};
 
 use crate::binlog_value::BinlogValue;
 use rows_jsonb::JsonDiff;
 use rows_values::Value;
-use std::alloc::{AllocError, Global};
+use std::alloc::{AllocError, AllocFailed, Global};
 use thiserror::Error;
 
 impl BinlogValue<'_> {
@@ -49,6 +50,22 @@ pub enum BinlogValueToValueError {
     /// Out of memory. Only the conversion of a whole row returns this, never that of a single value.
     #[error("out of memory")]
     Memory,
+}
+
+impl From<AllocError> for BinlogValueToValueError {
+    ghost from_gives = { λ e f. f ≡ Memory };
+
+    fn from(_error: AllocError) -> BinlogValueToValueError {
+        BinlogValueToValueError::Memory
+    }
+}
+
+impl<T: Drop> From<AllocFailed<T>> for BinlogValueToValueError {
+    ghost from_gives = { λ e f. f ≡ Memory };
+
+    fn from(_error: AllocFailed<T>) -> BinlogValueToValueError {
+        BinlogValueToValueError::Memory
+    }
 }
 
 impl<'a> TryFrom<BinlogValue<'a>> for Value {

@@ -1,11 +1,13 @@
 -- The members of a column are written as their count and their strings in order, and no encoding of them is shorter.
-use Rattle.std.proofs.Common.{◌≡◌, ℕ, ◌+◌, ◌<◌, List, [], ◌∷◌, ◌++◌, length, map, take, get_or, Option, Some, refl, sym, ap, subst, ◌∙◌, arith, append_assoc, append-nil}
+use Rattle.std.proofs.Common.{◌≡◌, ℕ, ◌+◌, ◌<◌, List, [], ◌∷◌, ◌++◌, length, map, take, get_or, Option, Some, inl, inr, refl, sym, ap, subst, ◌∙◌, arith, append_assoc, append-nil}
 use Rattle.std.specs.Bool.{⊤}
 use Rattle.std.proofs.lemmas.List.{length-append, map_more}
 use Rattle.std.proofs.Math.Seq.{take-append_seam}
 use Rattle.wire_buf.specs.Encoding.{AreBytes, Alone}
 use Rattle.wire_buf.specs.Numbers.{IsLenenc, IsLenencString}
-use Rattle.wire_buf.specs.Writing.{Writes, WritesField}
+use Rattle.wire_buf.specs.Writing.{Writes, WritesField, WriteFails}
+use Rattle.wire_buf.specs.declared.fault.WireFault.{WireFault}
+use Rattle.wire_buf.specs.declared.fault.WireFault.TheVariants.{Memory}
 use Rattle.wire_buf.proofs.WritingLemmas.{AreBytes-prefix, AreBytes-suffix}
 use Rattle.wire_fields.specs.Strings.{lenenc_string_encoded}
 use Rattle.rows_table_map.specs.Members.{AreStrings, MembersEncoding}
@@ -42,24 +44,24 @@ strings_none vs old e = rw e (record {
   least = λ other rest h are. omega arith;
 })
 
-strings_more : (vs : List (List ℕ)) (v old mid new : List ℕ) → WritesStrings vs old mid → Writes string_encoded IsLenencString v mid new → WritesStrings (vs ++ (v ∷ [])) old new
+strings_more : (vs : List (List ℕ)) (v old mid new : List ℕ) → WritesStrings vs old mid → WritesField string_encoded (Alone IsLenencString) (λ rest. ⊤) v mid new → WritesStrings (vs ++ (v ∷ [])) old new
 strings_more vs v old mid new p q = record {
   bytes = p.bytes ++ q.bytes;
   is = ap (λ (l : List ℕ). Some l) (joined-snoc vs v ∙ rw (some-same _ _ p.is, some-same _ _ q.is) refl);
   appended = q.appended ∙ ap (λ (l : List ℕ). l ++ q.bytes) p.appended ∙ append_assoc old p.bytes q.bytes;
-  encodes = λ rest s. strings-snoc vs v p.bytes q.bytes (p.encodes rest tt) q.least.is;
+  encodes = λ rest s. strings-snoc vs v p.bytes q.bytes (p.encodes rest tt) (q.encodes rest tt);
   least = λ other rest h are.
       let t = strings-split vs v other h in
       let joined = t.2 in
       let all : AreBytes (t.0 ++ t.1) = subst AreBytes joined are in
       let a = p.least t.0 rest t.3 (AreBytes-prefix t.0 t.1 all) in
-      let b = q.least.least t.1 t.4 (AreBytes-suffix t.0 t.1 all) in
+      let b = q.least t.1 rest t.4 (AreBytes-suffix t.0 t.1 all) in
       omega (arith, a, b, ap length joined, length-append t.0 t.1, length-append p.bytes q.bytes);
 }
 
 -- one more member of xs is written
 pub member_written : {X : Type 0} (view : X → List ℕ) (xs : List X) (i : ℕ) (x : X) (v old mid new : List ℕ) → i < length xs → x ≡ get_or xs i x → v ≡ view x
-    → WritesStrings (map view (take i xs)) old mid → Writes string_encoded IsLenencString v mid new → WritesStrings (map view (take (i + 1) xs)) old new
+    → WritesStrings (map view (take i xs)) old mid → WritesField string_encoded (Alone IsLenencString) (λ rest. ⊤) v mid new → WritesStrings (map view (take (i + 1) xs)) old new
 member_written view xs i x v old mid new inside is e p q =
     let more = map_more view xs i x inside ∙ ap (λ y. map view (take i xs) ++ (view y ∷ [])) (sym is) ∙ ap (λ (y : List ℕ). map view (take i xs) ++ (y ∷ [])) (sym e) in
     rw more (strings_more (map view (take i xs)) v old mid new p q)
@@ -84,3 +86,10 @@ members_written n vs old mid new e p q = record {
 pub members_kept : (n : ℕ) (vs : List (List ℕ)) (old mid new : List ℕ) → Writes number_encoded IsLenenc n old mid → WritesStrings vs mid new → take (length old) new ≡ old
 members_kept n vs old mid new p q =
     ap (take (length old)) (q.appended ∙ ap (λ (l : List ℕ). l ++ q.bytes) p.appended ∙ append_assoc old p.bytes q.bytes) ∙ take-append_seam old (p.bytes ++ q.bytes)
+
+-- every count has an encoding, so only memory can be missing
+pub count_fails : (n : ℕ) (e : WireFault) (old new : List ℕ) → WriteFails number_encoded n e old new → e ≡ Memory
+count_fails n e old new w = elim w.why [
+  | inl memory ↦ memory
+  | inr form ↦ absurd (cc (form.1))
+]

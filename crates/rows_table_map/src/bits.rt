@@ -119,6 +119,22 @@ impl<'a> Bits<'a> {
     }
 }
 
+impl<'a> IntoIterator for Bits<'a> {
+    ghost use Rattle.std.specs.Prelude.{◌≡◌};
+    ghost use Rattle.rows_table_map.specs.BitLists.{all_bits};
+
+    type Item = bool;
+
+    type IntoIter = BitsIter<'a>;
+
+    ghost into_iter_gives = { λ bits it. it ≡ all_bits bits };
+
+    /// Returns an iterator over the bits in order.
+    fn into_iter(self) -> BitsIter<'a> {
+        self.iter()
+    }
+}
+
 /// Two are equal if they have the same bits in the same order, however the bytes store them.
 impl PartialEq for Bits<'_> {
     ghost use Rattle.std.specs.Bool.{beq};

@@ -40,7 +40,7 @@ impl TableMapEvent<'_> {
             columns,
             lenenc_int_len(metadata as u64) as usize,
             metadata,
-            self.null_bitmask().len(),
+            self.null_bitmask_raw().len(),
             self.optional_metadata_raw().len(),
         ])
     }

@@ -22,7 +22,7 @@ use std::borrow::{CowSlice, CowStr};
 use wire_buf::{
     AnySize, Inner, MyDeserialize, MySerialize, ParseBuf, WireFault, truncate_on_error,
 };
-use wire_fields::{BufMutExt, LenEnc, RawBytes};
+use wire_fields::{BytesRepr, IntRepr, LenEnc, RawBytes};
 
 /// The name of a member, which may not be UTF-8.
 #[derive(PartialEq, Eq, Drop)]
@@ -303,9 +303,9 @@ fn append_members<A: Allocator>(
     ensures err { IfErr result (λ e. e ≡ WantOfMemory) }
     ensures kept { take (length buf.old.items) buf.new.items ≡ buf.old.items }
 {
-    buf.put_lenenc_int(values.len() as u64)?;
+    <LenEnc as IntRepr>::serialize(values.len() as u64, buf)?;
     for value in values {
-        buf.put_lenenc_str(value.value_raw())?;
+        <LenEnc as BytesRepr>::serialize(value.value_raw(), buf)?;
     }
     Ok(())
 }

@@ -2,6 +2,8 @@
 use Rattle.std.specs.Prelude.{◌≡◌, ⊤, ℕ, ◌+◌, ◌-◌, List, [], ◌∷◌, ◌++◌, length, drop, map, Bool, false, not, ◌==◌, ◌&&◌, ◌||◌, nat_lt, Option, Some, None, if◌then◌else◌}
 use Rattle.std.specs.List.{prefix_len, list_all, before_first, after_first}
 use Rattle.std.specs.Char.{is_ascii_digit}
+use Rattle.rows_errors.specs.declared.fault.RowsError.{RowsError}
+use Rattle.rows_errors.specs.declared.fault.RowsError.TheVariants as rows
 use Rattle.rows_values.specs.Decimals.{DecimalParts, only_zeros}
 use Rattle.rows_values.specs.declared.parse.ParseDecimalError.{ParseDecimalError}
 use Rattle.rows_values.specs.declared.parse.ParseDecimalError.TheVariants.{Text, Memory}
@@ -88,3 +90,8 @@ are_allowed t = list_all (λ c. is_ascii_digit c || ((c == 43) || ((c == 45) || 
 abbrev pub IsTextFault : ParseDecimalError → Option DecimalParts → Type 0
 IsTextFault Text v = v ≡ None
 IsTextFault Memory v = ⊤
+
+-- the same as the error of a row
+abbrev pub decimal_error : ParseDecimalError → RowsError
+decimal_error Text = rows.Decimal
+decimal_error Memory = rows.Memory

@@ -6,11 +6,12 @@ ghost use Rattle.std.specs.List.{before_first, after_first, list_all};
 ghost use Rattle.std.specs.Char.{is_ascii_digit};
 ghost use Rattle.rows_values.specs.Decimals.{decimal_parts};
 ghost use Rattle.rows_values.specs.declared.parse.ParseDecimalError.TheVariants.{Memory, Text};
-ghost use Rattle.rows_values.specs.PrintedDecimals.{text_value, from_digit_texts as sequence_as, has_only_digits as is_sequence_as, one_zero as one_zero_of, has_minus, after_sign, digits_of as digits_in, are_zeros as are_zeros_in, are_allowed as are_allowed_in, IsTextFault};
+ghost use Rattle.rows_values.specs.PrintedDecimals.{text_value, from_digit_texts as sequence_as, has_only_digits as is_sequence_as, one_zero as one_zero_of, has_minus, after_sign, digits_of as digits_in, are_zeros as are_zeros_in, are_allowed as are_allowed_in, IsTextFault, decimal_error};
 
 use crate::digits::leading;
 use crate::fields::Decimal;
-use std::alloc::{AllocError, Global};
+use rows_errors::RowsError;
+use std::alloc::{AllocError, AllocFailed, Global};
 use std::str;
 use thiserror::Error;
 
@@ -30,6 +31,26 @@ impl From<AllocError> for ParseDecimalError {
 
     fn from(_error: AllocError) -> ParseDecimalError {
         ParseDecimalError::Memory
+    }
+}
+
+impl<T: Drop> From<AllocFailed<T>> for ParseDecimalError {
+    ghost from_gives = { λ e f. f ≡ Memory };
+
+    fn from(_error: AllocFailed<T>) -> ParseDecimalError {
+        ParseDecimalError::Memory
+    }
+}
+
+impl From<ParseDecimalError> for RowsError {
+    ghost from_gives = { λ e f. f ≡ decimal_error e };
+
+    /// A text that is no decimal is `Decimal`.
+    fn from(error: ParseDecimalError) -> RowsError {
+        match error {
+            ParseDecimalError::Text => RowsError::Decimal,
+            ParseDecimalError::Memory => RowsError::Memory,
+        }
     }
 }
 

@@ -1,9 +1,7 @@
 //! Statements and GTID events that constructors and setters make.
 
 use crate::written::is_read;
-use events_bodies::ExecuteLoadQueryEvent;
-use events_gtids::GtidEvent;
-use events_queries::QueryEvent;
+use events_bodies::{ExecuteLoadQueryEvent, GtidEvent, QueryEvent};
 use rows_constants_extra::{GtidFlags, LoadDuplicateHandling};
 use std::alloc::Global;
 use std::borrow::CowSlice;

@@ -6,6 +6,8 @@
 #[cfg(test)]
 mod change_following;
 #[cfg(test)]
+mod change_rehearsing;
+#[cfg(test)]
 mod rehearsing;
 #[cfg(test)]
 mod semi_rehearsing;

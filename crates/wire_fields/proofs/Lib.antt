@@ -5,3 +5,4 @@ pub mod BytewiseLemmas
 pub mod TextLemmas
 pub mod FieldLemmas
 pub mod ShortestLemmas
+pub mod VersionLemmas

@@ -5,18 +5,16 @@ use Rattle.std.proofs.lemmas.List.{length-take, length-append, length-replicate,
 use Rattle.std.proofs.lemmas.Result.{err_from_is_err_and}
 use Rattle.std.proofs.lemmas.List.Sums.{take_while-cons}
 use Rattle.std.proofs.lemmas.Bool.Decides.{eqb_tells}
-use Rattle.wire_buf.specs.Encoding.{Reads, Lacks, Alone, IsBytes}
+use Rattle.wire_buf.specs.Encoding.{Reads, Lacks, Alone, IsBytes, IsShortest}
 use Rattle.wire_buf.proofs.WritingLemmas.{bytes_written, all_written}
 use Rattle.wire_buf.specs.Numbers.{IsCounted, IsLittle}
 use Rattle.wire_buf.specs.Writing.{Writes, WritesField}
 use Rattle.wire_buf.specs.declared.fault.WireFault.{WireFault}
 use Rattle.wire_buf.specs.declared.fault.WireFault.TheVariants.{Eof}
 use Rattle.wire_buf.proofs.StringLemmas.{Lacks-count, Lacks-counted}
-use Rattle.wire_fields.specs.Sevens.{IsVarLen, varlen_encoded}
 use Rattle.wire_fields.specs.Strings.{counted_bytes, counted_encoded}
 use Rattle.wire_fields.proofs.WritingLemmas.{counted_least}
-use Rattle.wire_fields.proofs.SevenLemmas.{varlen_least}
-use Rattle.wire_fields.specs.ByteStrings.{before_zero, padded_bytes, varlen_string_encoded, CountedFails}
+use Rattle.wire_fields.specs.ByteStrings.{before_zero, padded_bytes, CountedFails}
 
 -- the bytes before the first zero, by its index
 pub before_zero-at : (x : List ℕ) (k : ℕ) → k ≤ length x → ((j : ℕ) → j < k → get_or x j 0 ≢ 0) → (k < length x → get_or x k 0 ≡ 0) → before_zero x ≡ take k x
@@ -48,17 +46,17 @@ padded_writes n k start size text old base mid new least same first room begin l
 pub cut_writes : (n k : ℕ) (text old new : List ℕ) → k ≡ min (length text) n → new ≡ old ++ take k text → WritesField (λ (v : List ℕ). Some v) (λ v. Alone (IsBytes (length v)) v) (λ rest. ⊤) (take n text) old new
 cut_writes n k text old new least last = all_written (take n text) old new (last ∙ ap (λ l. old ++ l) (ap (λ j. take j text) (omega (arith, least)) ∙ take_min n text))
 
--- a string after a `VarLen` length is written
-pub varlen_writes : (s t count old new : List ℕ) → s ≡ t → length s < 2 ^ 32 → count ≡ varlen_encoded (length s) → new ≡ (old ++ count) ++ s
-    → WritesField (λ v. Some (varlen_string_encoded v)) (Alone (IsCounted IsVarLen)) (λ rest. ⊤) t old new
-varlen_writes s t count old new e fits encoding_is last =
-    let shortest = counted_least IsVarLen s (varlen_encoded (length s)) (varlen_least (length s) fits) in
-    rw (← e) (record {
-      bytes = varlen_string_encoded s;
-      is = refl;
-      appended = last ∙ append_assoc old count s ∙ ap (λ (l : List ℕ). old ++ (l ++ s)) encoding_is;
-      encodes = λ rest h. shortest.is;
-      least = λ other rest h are. shortest.least other h are;
+-- a string after the shortest encoding of its length is written
+pub string_writes : (counts : ℕ → List ℕ → Type 0) (encoded : List ℕ → List ℕ) (s t count old new : List ℕ) → s ≡ t → IsShortest counts (length s) count → encoded s ≡ count ++ s
+    → new ≡ old ++ (count ++ s) → WritesField (λ v. Some (encoded v)) (Alone (IsCounted counts)) (λ rest. ⊤) t old new
+string_writes counts encoded s t count old new same shortest encoding_is appended =
+    let least = counted_least counts s count shortest in
+    rw (← same) (record {
+      bytes = count ++ s;
+      is = ap Some encoding_is;
+      appended = appended;
+      encodes = λ rest h. least.is;
+      least = λ other rest h are. least.least other h are;
     })
 
 some_if : {A : Type 0} (b : Bool) (x y : A) → (if b then Some x else None) ≡ Some y → x ≡ y

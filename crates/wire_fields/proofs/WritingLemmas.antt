@@ -31,7 +31,7 @@ counted_least count s prefix h = record {
 }
 
 -- the length in n bytes
-counted_count : (n k : ℕ) → k < 256 ^ n → IsShortest (IsLittle n) k (little_bytes n k)
+pub counted_count : (n k : ℕ) → k < 256 ^ n → IsShortest (IsLittle n) k (little_bytes n k)
 counted_count n k fits = let is = little_bytes-sound n k fits in record {
   is = is;
   least = λ other h _. let size = is.size in let e = h.size in omega (arith, size, e);

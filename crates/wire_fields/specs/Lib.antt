@@ -8,3 +8,4 @@ pub mod Bytewise
 pub mod ByteStrings
 pub mod OverwrittenRawConsts
 pub mod RawTexts
+pub mod Version

@@ -1,16 +1,17 @@
 //! Strings with a length prefix.
 
-ghost use Rattle.std.specs.Prelude.{◌≡◌, take};
+ghost use Rattle.std.specs.Prelude.{◌≡◌, ◌++◌, take, OnOk, IfErr};
 ghost use Rattle.std.proofs.Common.{refl};
 ghost use Rattle.wire_buf.specs.Encoding.{Alone};
 ghost use Rattle.wire_buf.specs.Numbers.{IsCounted, IsLenenc, IsLenencString, IsShortString};
+ghost use Rattle.wire_buf.specs.declared.fault.WireFault.TheVariants.{Memory};
 ghost use Rattle.wire_fields.specs.Strings.{lenenc_string_encoded, counted_bytes};
 ghost use Rattle.wire_fields.specs.Sevens.{IsVarLen};
 ghost use Rattle.wire_fields.specs.IntFaults.{lenenc_fault, varlen_fault};
 ghost use Rattle.wire_fields.specs.ByteStrings.{varlen_string_encoded, CountedFails};
 
 use crate::bytes_repr::{BytesRepr, InnerBytes};
-use crate::{BufMutExt, IntRepr, LenEnc, VarLen, varlen_bytes};
+use crate::{IntRepr, LenEnc, VarLen, lenenc_bytes, varlen_bytes};
 use std::alloc::Allocator;
 use std::borrow::CowSlice;
 use wire_buf::{AnySize, ParseBuf, WireFault};
@@ -39,7 +40,8 @@ impl BytesRepr for U8Bytes {
     }
 
     fn serialize<A: Allocator>(text: &[u8], buf: &mut Vec<u8, A>) -> Result<(), WireFault> {
-        buf.put_u8_str(text)
+        let text = &text[..text.len().min(255)];
+        put_counted(&[text.len() as u8], text, buf)
     }
 
     ghost sized = { λ ctx v bytes rest h. tt };
@@ -76,7 +78,8 @@ impl BytesRepr for LenEnc {
     }
 
     fn serialize<A: Allocator>(text: &[u8], buf: &mut Vec<u8, A>) -> Result<(), WireFault> {
-        buf.put_lenenc_str(text)
+        let (count, len) = lenenc_bytes(text.len() as u64);
+        put_counted(&count[..len], text, buf)
     }
 
     ghost sized = { λ ctx v bytes rest h. tt };
@@ -118,10 +121,7 @@ impl BytesRepr for VarLen {
     fn serialize<A: Allocator>(text: &[u8], buf: &mut Vec<u8, A>) -> Result<(), WireFault> {
         let text = &text[..text.len().min(0xffff_ffff)];
         let (count, len) = varlen_bytes(text.len() as u32);
-        buf.reserve(len + text.len())?;
-        buf.extend_from_slice(&count[..len])?;
-        buf.extend_from_slice(text)?;
-        Ok(())
+        put_counted(&count[..len], text, buf)
     }
 
     ghost sized = { λ ctx v bytes rest h. tt };
@@ -131,4 +131,19 @@ impl BytesRepr for VarLen {
 
 impl InnerBytes for VarLen {
     ghost before_any = { λ rest. tt };
+}
+
+/// Appends a string after its encoded length, or nothing. The room for both is reserved first, so that the buffer grows once.
+fn put_counted<A: Allocator>(
+    count: &[u8],
+    text: &[u8],
+    buf: &mut Vec<u8, A>,
+) -> Result<(), WireFault>
+    ensures ok { OnOk result (buf.new.items ≡ buf.old.items ++ (count.now ++ text.now)) }
+    ensures err { IfErr result (λ e. (e ≡ Memory) × (buf.new.items ≡ buf.old.items)) }
+{
+    buf.reserve(count.len() + text.len())?;
+    buf.extend_from_slice(count)?;
+    buf.extend_from_slice(text)?;
+    Ok(())
 }

@@ -7,7 +7,6 @@ ghost use Rattle.wire_fields.specs.Strings.{lenenc_string_encoded};
 ghost use Rattle.wire_fields.specs.IntFaults.{lenenc_fault};
 ghost use Rattle.wire_buf.specs.declared.fault.WireFault.TheVariants.{BadNumber};
 
-use crate::buf_mut_ext::BufMutExt;
 use crate::int_repr::IntRepr;
 use std::alloc::Allocator;
 use thiserror::Error;
@@ -50,7 +49,9 @@ impl IntRepr for LenEnc {
     }
 
     fn serialize<A: Allocator>(val: u64, buf: &mut Vec<u8, A>) -> Result<(), WireFault> {
-        buf.put_lenenc_int(val)
+        let (bytes, len) = lenenc_bytes(val);
+        buf.extend_from_slice(&bytes[..len])?;
+        Ok(())
     }
 
     ghost sized = { λ v bytes h. tt };

@@ -1,5 +1,4 @@
-//! Fields of packets and events: integers and byte strings in their encodings, raw constants, flags, and bytes without meaning;
-//! and integers and strings over buffers.
+//! Fields of packets and events: integers and byte strings in their encodings, raw constants, flags, and bytes without meaning.
 //!
 //! A field is a type with `MyDeserialize` and `MySerialize`. An encoding of integers is a type with the trait [`IntRepr`], and
 //! one of byte strings a type with [`BytesRepr`]; the contracts of these traits have their laws. [`RawInt`] and [`RawBytes`] are
@@ -7,7 +6,6 @@
 //! much of it is written.
 #![tactic(auto)]
 
-mod buf_mut_ext;
 mod byte;
 mod bytes_repr;
 mod consts;
@@ -21,8 +19,8 @@ mod plain_bytes;
 mod raw_bytes;
 mod skip;
 mod varlen;
+mod version;
 
-pub use buf_mut_ext::BufMutExt;
 pub use bytes_repr::{BytesRepr, InnerBytes};
 pub use consts::RawConst;
 pub use counted_bytes::U8Bytes;
@@ -41,3 +39,4 @@ pub use plain_bytes::{BareBytes, BareU8Bytes, BareU16Bytes, EofBytes, FixedLengt
 pub use raw_bytes::RawBytes;
 pub use skip::Skip;
 pub use varlen::{VarLen, varlen_bytes};
+pub use version::split_version;

@@ -6,10 +6,11 @@ ghost use Rattle.wire_buf.specs.Encoding.{Alone};
 ghost use Rattle.wire_buf.specs.Numbers.{IsLongString};
 ghost use Rattle.wire_fields.specs.Strings.{counted_bytes};
 
+use crate::buf_mut_ext::BufMutExt;
 use std::alloc::Allocator;
 use std::borrow::CowSlice;
 use wire_buf::{AnySize, ParseBuf, WireFault};
-use wire_fields::{BufMutExt, BytesRepr, InnerBytes};
+use wire_fields::{BytesRepr, InnerBytes};
 
 /// A string after its length in four little-endian bytes. Only the first 4,294,967,295 bytes of a longer
 /// string are written.

@@ -9,7 +9,7 @@ ghost use Rattle.wire_fields_extra.specs.declared.either.Either.{Either as Sides
 ghost use Rattle.wire_fields_extra.specs.declared.either.Either.TheVariants as side;
 
 use std::alloc::{Allocator, Global};
-use wire_buf::{Inner, MyDeserialize, MySerialize, ParseBuf, WireFault};
+use wire_buf::{Inner, MyDeserialize, MySerialize, PairSize, ParseBuf, WireFault};
 
 /// A field that has one of two formats.
 #[derive(Clone, Copy, Debug, PartialEq, Eq, Hash, Drop)]
@@ -44,24 +44,32 @@ impl<L: Drop, R: Drop> Either<L, R> {
     }
 }
 
-impl<L, R> Either<L, R> {
-    /// Reads the side that the context names, in that side's context.
-    pub fn deserialize<'de>(
+/// Reads the side that the context names, in that side's context.
+impl<'de, L: MyDeserialize<'de>, R: MyDeserialize<'de, Fault = L::Fault>> MyDeserialize<'de>
+    for Either<L, R> {
+    const SIZE: Option<usize> = None;
+
+    type Size = PairSize<L::Size, R::Size>;
+
+    type Ctx = Either<L::Ctx, R::Ctx>;
+
+    type Fault = L::Fault;
+
+    ghost View = { Sides L.View R.View };
+
+    ghost view = { either_view L.view R.view };
+
+    ghost encodes = { IsEither L.encodes R.encodes };
+
+    ghost fails_with = { EitherFails
+        (λ c. ParseFails L.Size.SIZE (L.fails_with c) (L.Fault.from_gives Eof))
+        (λ d. ParseFails R.Size.SIZE (R.fails_with d) (L.Fault.from_gives Eof)) };
+
+    fn deserialize(
         alloc: Global,
         ctx: Either<L::Ctx, R::Ctx>,
         buf: &mut ParseBuf<'de>,
-    ) -> Result<Either<L, R>, L::Fault>
-    where
-        L: MyDeserialize<'de>,
-        R: MyDeserialize<'de, Fault = L::Fault>,
-        ensures ok { IfOk result (λ v. Reads (IsEither L.encodes R.encodes ctx)
-            (either_view L.view R.view v) buf.old.0.now buf.new.0.now) }
-        ensures err { IfErr result
-            (λ e. L.Fault.is_memory e ⊎ Lacks (IsEither L.encodes R.encodes ctx) buf.old.0.now) }
-        ensures why { IfErr result (EitherFails
-            (λ c. ParseFails L.Size.SIZE (L.fails_with c) (L.Fault.from_gives Eof))
-            (λ d. ParseFails R.Size.SIZE (R.fails_with d) (L.Fault.from_gives Eof)) ctx buf.old.0.now) }
-    {
+    ) -> Result<Either<L, R>, L::Fault> {
         match ctx {
             Either::Left(ctx) => {
                 let value = buf.parse::<L>(alloc, ctx)?;
@@ -73,6 +81,8 @@ impl<L, R> Either<L, R> {
             }
         }
     }
+
+    ghost sized = { λ ctx v bytes rest h. tt };
 }
 
 impl<L: MySerialize, R: MySerialize> MySerialize for Either<L, R> {

@@ -2,9 +2,10 @@
 //!
 //! Constants: commands, types of results, the options of a query's session. Fields: strings that a zero byte ends or that follow a
 //! length of four bytes, constants, sequences, constant bytes, fields of one of two formats, halves of a number, and integers whose
-//! first byte shows their size. It also reads and writes integers and strings over readers and writers.
+//! first byte shows their size. It also reads and writes integers and strings over readers, writers and buffers.
 #![tactic(auto)]
 
+mod buf_mut_ext;
 mod command;
 mod const_bytes;
 mod consts;
@@ -24,6 +25,7 @@ mod seq_repr;
 mod varlen_uint;
 mod write_ext;
 
+pub use buf_mut_ext::BufMutExt;
 pub use command::Command;
 pub use const_bytes::{ConstBytes, ConstBytesValue, ConstU8, ConstU32};
 pub use consts::Const;

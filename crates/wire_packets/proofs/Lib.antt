@@ -4,4 +4,3 @@ pub mod CodecStateLemmas
 pub mod PacketLemmas
 pub mod PieceLemmas
 pub mod ChunkLemmas
-pub mod VersionLemmas

@@ -6,4 +6,3 @@ pub mod Packets
 pub mod CodecState
 pub mod StreamPieces
 pub mod PacketLaws
-pub mod Version

@@ -1,9 +1,8 @@
--- Laws of framings, packets and server versions.
+-- Laws of framings and packets.
 use Rattle.std.specs.Prelude.{◌≡◌, ℕ, ◌<◌, ◌≤◌, slice_index, Option, None, Some, ◌↔◌, List, ◌++◌, length, All}
 use Rattle.wire_buf.specs.Encoding.{AreBytes}
 use Rattle.wire_packets.specs.Framing.{framing, framings}
 use Rattle.wire_packets.specs.Packets.{packets, packet_fault}
-use Rattle.wire_packets.specs.Version.{numbers_at, IsVersion}
 use Rattle.wire_packets.specs.CodecState.{SplitsInto, Halts}
 use Rattle.wire_packets.specs.declared.error.PacketCodecError.{PacketCodecError}
 
@@ -43,7 +42,3 @@ pub record HasSplit (limit k : ℕ) (s : List ℕ) : Type 0 where
 -- every stream of bytes has such a split
 abbrev pub StreamsHaveASplit : Type 0
 StreamsHaveASplit = (limit k : ℕ) (s : List ℕ) → AreBytes s → HasSplit limit k s
-
--- a text has three numbers exactly if it begins with them, with points between them, and no digit after them
-abbrev pub VersionsAreTheirNumbers : Type 0
-VersionsAreTheirNumbers = (major minor patch : ℕ) (text : List ℕ) → (numbers_at text ≡ Some (major, minor, patch)) ↔ IsVersion major minor patch text

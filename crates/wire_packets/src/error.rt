@@ -3,7 +3,7 @@
 ghost use Rattle.std.specs.Prelude.{◌≡◌};
 ghost use Rattle.wire_packets.specs.declared.error.PacketCodecError.TheVariants.{Io, Memory};
 
-use std::alloc::AllocError;
+use std::alloc::{AllocError, AllocFailed};
 use thiserror::Error;
 use wire_buf::WireFault;
 
@@ -36,6 +36,14 @@ impl From<AllocError> for PacketCodecError {
     ghost from_gives = { λ fails_with error. error ≡ Memory };
 
     fn from(_error: AllocError) -> PacketCodecError {
+        PacketCodecError::Memory
+    }
+}
+
+impl<T: Drop> From<AllocFailed<T>> for PacketCodecError {
+    ghost from_gives = { λ fails_with error. error ≡ Memory };
+
+    fn from(_error: AllocFailed<T>) -> PacketCodecError {
         PacketCodecError::Memory
     }
 }

@@ -2,7 +2,7 @@
 //!
 //! `packet_to_chunks` and `PacketCodec::encode` write them. `PacketCodec::decode`, `ChunkDecoder` and
 //! `decode_pieces` read them; `PacketCodec::decode_in_place` borrows a payload from the input buffer. `laws`
-//! has the theorems about framings and packets. `split_version` reads a server's version.
+//! has the theorems about framings and packets.
 #![tactic(auto)]
 
 mod chunk_decoder;
@@ -11,7 +11,6 @@ mod framing;
 mod header;
 mod packet_codec;
 mod pieces;
-mod version;
 
 pub use chunk_decoder::{ChunkDecoder, ChunkInfo};
 pub use error::PacketCodecError;
@@ -19,4 +18,3 @@ pub use framing::packet_to_chunks;
 pub use header::{PACKET_HEADER_LEN, chunk_header};
 pub use packet_codec::PacketCodec;
 pub use pieces::decode_pieces;
-pub use version::split_version;

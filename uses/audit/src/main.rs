@@ -6,11 +6,9 @@
 #![tactic(auto)]
 
 use binlog_feed::{
-    Change, ChangeLog, CommittedTransaction, Filter, Gtid, RowImages, RowPart, TableRows, Verdict,
-    What, name_of, put_cell_ref, quote,
+    Change, ChangeLog, CommittedTransaction, Filter, Gtid, RowImages, RowPart, RowsError, TableRows,
+    Verdict, What, crc32, name_of, put_cell_ref, quote,
 };
-use crc32::crc32;
-use mysql_binlog_rows::RowsError;
 use std::alloc::{AllocError, Global};
 use std::env;
 use std::fs::File;

@@ -9,11 +9,9 @@
 #![tactic(auto)]
 
 use binlog_feed::{
-    ChangeLog, CommittedTransaction, RowImages, RowPart, TableRows, Verdict, What, name_of,
-    put_json, put_value,
+    BinlogValue, CellRef, ChangeLog, CommittedTransaction, RowImages, RowPart, RowsError, TableRows,
+    Value, Verdict, What, crc32, name_of, put_json, put_value,
 };
-use crc32::crc32;
-use mysql_binlog_rows::{BinlogValue, CellRef, RowsError, Value};
 use sqlite::types::{Bytes, ToSql, Value as Stored};
 use sqlite::{Alter, Connection, Error, Transaction, params};
 use std::alloc::{AllocError, AllocFailed, Global};

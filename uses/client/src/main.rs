@@ -6,10 +6,9 @@
 //! has no password.
 #![tactic(auto)]
 
-use bytes::BytesMut;
 use mysql_wire::{
-    Command, LeU32, MySerialize, NullBytes, PacketCodec, PacketCodecError, ParseBuf, RawBytes,
-    RawInt, Skip, U8Bytes, WireFault,
+    BytesMut, Command, LeU32, MySerialize, NullBytes, PacketCodec, PacketCodecError, ParseBuf,
+    RawBytes, RawInt, Skip, U8Bytes, WireFault,
 };
 use std::alloc::{AllocError, Global};
 use std::env;

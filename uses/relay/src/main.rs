@@ -10,10 +10,8 @@ ghost use Rattle.std.specs.Prelude.{◌≡◌, ◌∷◌, ℕ, length};
 ghost use Rattle.mysql_wire.specs.Framing.{framing};
 
 use binlog_feed::laws::lengths_of_packets;
-use binlog_feed::{Refusal, Served, Watched, request, serve};
-use bytes::BytesMut;
-use crc32::crc32;
-use mysql_wire::{PacketCodec, PacketCodecError};
+use binlog_feed::{Refusal, Served, Watched, crc32, request, serve};
+use mysql_wire::{BytesMut, PacketCodec, PacketCodecError};
 use std::alloc::{AllocError, Global};
 use std::env;
 use std::io::{ErrorKind, Read};

@@ -7,8 +7,7 @@
 //! its first answer drops after COUNT bytes, its next one after the next COUNT, and so on. Put your connection in place of `Server`.
 #![tactic(auto)]
 
-use binlog_feed::{Follower, Verdict, Watched, kept, name_of, serve};
-use crc32::crc32;
+use binlog_feed::{Follower, Verdict, Watched, crc32, kept, name_of, serve};
 use std::alloc::Global;
 use std::io::{self, Cursor, ErrorKind, Read, Write};
 use std::process::ExitCode;

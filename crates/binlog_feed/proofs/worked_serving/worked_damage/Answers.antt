@@ -2,7 +2,7 @@ use Rattle.std.proofs.Common.{refl}
 use Rattle.wire_buf.specs.LenencSplit.{split_number, split_lenenc}
 use Rattle.wire_packets.specs.Framing.{slice_of, chunks, framings, sequence_id_after}
 use Rattle.wire_packets.specs.Packets.{payload_in, packets_in}
-use Rattle.wire_packets.specs.Version.{number_at, after_point, numbers_at}
+use Rattle.wire_fields.specs.Version.{number_at, after_point, numbers_at}
 use Rattle.feed_checks.specs.BodyReaders.{rotate_in, table_map_in}
 use Rattle.feed_checks.specs.EventFields.{parts, description_of, in_force}
 use Rattle.feed_checks.specs.Kinds.{kind_by}

@@ -3,7 +3,7 @@ use Rattle.std.specs.Fmt.{digits}
 use Rattle.wire_buf.specs.LenencSplit.{split_number, split_lenenc}
 use Rattle.wire_packets.specs.Framing.{slice_of, chunks, framings, sequence_id_after}
 use Rattle.wire_packets.specs.Packets.{payload_in, packets_in, full_run}
-use Rattle.wire_packets.specs.Version.{number_at, after_point, numbers_at}
+use Rattle.wire_fields.specs.Version.{number_at, after_point, numbers_at}
 use Rattle.rows_table_map.specs.ColumnMetadata.{column_type, columns_with_metadata}
 use Rattle.rows_jsonb.specs.Items.{walk}
 use Rattle.rows_table_map.specs.Lists.{items_in, items_of}

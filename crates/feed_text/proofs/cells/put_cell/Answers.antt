@@ -1,7 +1,7 @@
 use Rattle.std.proofs.Common.{refl}
 use Rattle.std.proofs.lemmas.Result.{on_ok_weaker, IfErr-weaker}
 use Rattle.feed_text.specs.CellText.{kept_text}
-use Rattle.feed_text.proofs.CellLemmas.{appends, kept_value, kept_tree, kept_failed, kept_diffs, kept_diffs_failed}
+use Rattle.feed_text.proofs.CellLemmas.{appends, kept_value, kept_tree, kept_failed, kept_diffs, kept_diffs_failed, kept_nameless, kept_updates_nameless}
 use Rattle.feed_text.proofs.cells.put_cell.Goals as goal
 
 pub returns-in-Value-clause-ok : goal.returns-in-Value-clause-ok
@@ -21,3 +21,10 @@ returns-in-JsonDiff-clause-ok g c = on_ok_weaker c.put_diffs_cell.result (λ e. 
 pub returns-in-JsonDiff-clause-err : goal.returns-in-JsonDiff-clause-err
 returns-in-JsonDiff-clause-err g c =
     IfErr-weaker c.put_diffs_cell.result _ _ (λ e p. kept_diffs_failed c.args.column _ _ _ _ e c.in-JsonDiff.is (rw (← c.deref.ensures.value) p)) c.put_diffs_cell.ensures.err
+
+pub returns-in-Err-clause-nameless : goal.returns-in-Err-clause-nameless
+returns-in-Err-clause-nameless g c = λ same. kept_nameless _ _ c.in-Jsonb.is (c.in-Err.ensures.nameless same)
+
+pub returns-in-JsonDiff-clause-nameless : goal.returns-in-JsonDiff-clause-nameless
+returns-in-JsonDiff-clause-nameless g c =
+    IfErr-weaker c.put_diffs_cell.result _ _ (λ e p same. kept_updates_nameless _ _ c.in-JsonDiff.is (rw (← c.deref.ensures.value) (p same))) c.put_diffs_cell.ensures.nameless

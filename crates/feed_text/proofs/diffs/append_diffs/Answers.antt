@@ -6,13 +6,14 @@ use Rattle.rows_jsonb.specs.JsonDiffViews.{diff_view}
 use Rattle.feed_text.specs.DiffText.{diff_text, diff_texts}
 use Rattle.feed_text.proofs.QuoteLemmas.{kept_more, kept_twice}
 use Rattle.feed_text.proofs.DocumentLemmas.{one_more}
-use Rattle.feed_text.proofs.DiffTextLemmas.{begun, text_appended, first_text, no_first_text, no_later_text, no_diffs_text, ended, no_texts}
+use Rattle.feed_text.proofs.DiffTextLemmas.{begun, text_appended, first_text, no_first_text, no_later_text, no_diffs_text, ended, no_texts, first_nameless, later_nameless}
 use Rattle.feed_text.proofs.diffs.append_diffs.Goals as goal
 
 pub loop-diff-init : goal.loop-diff-init
 loop-diff-init g c = record {
   written = λ ts h. (ts, h, begun c.args.out.now.items _ c.as_slice-separator.result.now ts c.in_ok-extend_from_slice.ensures.items (search rules));
   failed = λ e p. p;
+  nameless = λ p. p;
   kept = kept_more c.args.out.now.items c.args.out.now.items _ _ (take-length c.args.out.now.items) c.in_ok-extend_from_slice.ensures.items;
 }
 
@@ -26,6 +27,14 @@ returns-in-Err-clause-err g c =
     let x = c.diff-item.result in
     let here : drop i xs ≡ x ∷ drop (i + 1) xs = drop_more xs i x (omega arith) ∙ ap (λ y. y ∷ drop (i + 1) xs) (sym c.diff-item.is) in
     no_diffs_text (map diff_view xs) c.in-Err.fault (c.loop-diff.invariant.failed c.in-Err.fault (rw here (no_first_text (diff_view x) (map diff_view (drop (i + 1) xs)) c.in-Err.fault c.in-Err.ensures.err)))
+
+pub returns-in-Err-clause-nameless : goal.returns-in-Err-clause-nameless
+returns-in-Err-clause-nameless g c = λ same.
+    let xs = c.args.diffs.now in
+    let i = c.loop-diff.diff-index in
+    let x = c.diff-item.result in
+    let here : drop i xs ≡ x ∷ drop (i + 1) xs = drop_more xs i x (omega arith) ∙ ap (λ y. y ∷ drop (i + 1) xs) (sym c.diff-item.is) in
+    c.loop-diff.invariant.nameless (rw here (first_nameless (diff_view x) (map diff_view (drop (i + 1) xs)) (c.in-Err.ensures.nameless same)))
 
 pub returns-in-Err-clause-kept : goal.returns-in-Err-clause-kept
 returns-in-Err-clause-kept g c = kept_twice c.args.out.now.items _ _ (kept_more _ _ _ _ c.loop-diff.invariant.kept c.in_ok-extend_from_slice-2.ensures.items) c.append_diff.ensures.kept
@@ -43,6 +52,7 @@ loop-diff-preserved g c =
           let all = c.loop-diff.invariant.written (text.0 ∷ ts) (ap diff_texts there ∙ first_text (diff_view x) rest text.0 ts text.1 h) in
           (all.0, all.1, one_more _ _ _ _ c.as_slice-separator-in-loop-diff.result.now _ _ _ _ c.in_ok-extend_from_slice-2.ensures.items text.2 (search rules) refl all.2);
       failed = λ e p. c.loop-diff.invariant.failed e (rw there (no_later_text (diff_view x) rest text.0 e text.1 p));
+      nameless = λ p. c.loop-diff.invariant.nameless (rw there (later_nameless (diff_view x) rest text.0 text.1 p));
       kept = kept_twice c.args.out.now.items _ _ (kept_more _ _ _ _ c.loop-diff.invariant.kept c.in_ok-extend_from_slice-2.ensures.items) c.append_diff.ensures.kept;
     }
 

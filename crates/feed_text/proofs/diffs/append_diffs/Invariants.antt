@@ -4,6 +4,7 @@ use Rattle.rows_errors.specs.declared.fault.RowsError.{RowsError}
 use Rattle.rows_jsonb.specs.JsonDiffViews.{diff_view}
 use Rattle.rows_jsonb.specs.JsonParsing.{Parses}
 use Rattle.feed_text.specs.DiffText.{diff_texts}
+use Rattle.feed_text.specs.NamelessFaults.{HasNamelessDiff}
 use Rattle.feed_text.proofs.DocumentLemmas.{led}
 use Rattle.feed_text.proofs.diffs.append_diffs.Given as goal
 
@@ -13,5 +14,6 @@ invariant-loop-diff g l = record {
   written : (ts : List (List ℕ)) → diff_texts (map diff_view (drop l.diff-index l.diffs)) ≡ Ok ts
       → (all : List (List ℕ)) × (diff_texts (map diff_view l.diffs) ≡ Ok all) × (l.out.items ++ led l.separator ts ≡ (l.fn.out.items ++ codes "diff[") ++ join_with_byte 44 all);
   failed : (e : RowsError) → Parses (λ (ts : List (List ℕ)). ts) (Err e) (diff_texts (map diff_view (drop l.diff-index l.diffs))) → Parses (λ (ts : List (List ℕ)). ts) (Err e) (diff_texts (map diff_view l.diffs));
+  nameless : HasNamelessDiff (map diff_view (drop l.diff-index l.diffs)) → HasNamelessDiff (map diff_view l.diffs);
   kept : take (length l.fn.out.items) l.out.items ≡ l.fn.out.items;
 }

@@ -1,7 +1,7 @@
 use Rattle.std.proofs.Common.{refl}
 use Rattle.rows_table_map.proofs.MapLawLemmas.{map_whole}
 use Rattle.events_bodies.proofs.BodyLemmas.{incident_whole}
-use Rattle.events_queries.proofs.QueryLemmas.{query_whole}
+use Rattle.events_bodies.proofs.QueryLemmas.{query_whole}
 use Rattle.events_bodies.proofs.LoadQueryLemmas.{load_query_whole}
 use Rattle.mysql_binlog_events.proofs.PlainBodyLemmas.{one_incident, one_user_var, one_table_map, user_var_whole}
 use Rattle.mysql_binlog_events.proofs.StatementOneLemmas.{one_query, one_load_query}

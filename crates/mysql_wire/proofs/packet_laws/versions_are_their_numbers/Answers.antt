@@ -1,4 +1,4 @@
-use Rattle.wire_packets.proofs.VersionLemmas.{version_numbers}
+use Rattle.wire_fields.proofs.VersionLemmas.{version_numbers}
 use Rattle.mysql_wire.proofs.packet_laws.versions_are_their_numbers.Goals as goal
 
 pub returns : goal.returns

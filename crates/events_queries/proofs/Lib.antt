@@ -1,4 +1,0 @@
-pub mod QueryLemmas
-pub mod PrefixLemmas
-pub mod StatusVarLemmas
-pub mod FieldLemmas

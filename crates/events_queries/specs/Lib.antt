@@ -1,5 +1,0 @@
-pub mod QueryViews
-pub mod StatusVars
-pub mod StatusVarsComputed
-pub mod DbNames
-pub mod StatusVarViews

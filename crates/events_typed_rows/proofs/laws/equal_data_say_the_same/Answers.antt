@@ -1,5 +1,0 @@
-use Rattle.events_typed_rows.proofs.EqualLemmas.{data_decide}
-use Rattle.events_typed_rows.proofs.laws.equal_data_say_the_same.Goals as goal
-
-pub returns : goal.returns
-returns c = data_decide

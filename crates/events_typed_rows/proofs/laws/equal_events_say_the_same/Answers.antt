@@ -1,5 +1,0 @@
-use Rattle.events_typed_rows.proofs.EqualLemmas.{same_kind_decides}
-use Rattle.events_typed_rows.proofs.laws.equal_events_say_the_same.Goals as goal
-
-pub returns : goal.returns
-returns g c = same_kind_decides

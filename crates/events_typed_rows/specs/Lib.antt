@@ -1,2 +1,0 @@
-pub mod RowsContexts
-pub mod RowsViews

@@ -1,0 +1,4 @@
+mod SelectionLemmas
+mod PassLemmas
+mod WalkLemmas
+mod CountingLemmas

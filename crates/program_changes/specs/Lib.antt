@@ -1,0 +1,5 @@
+pub mod Selections
+pub mod Locations
+pub mod LogWalks
+pub mod Counting
+pub mod Findings
