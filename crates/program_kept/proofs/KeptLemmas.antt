@@ -1,8 +1,9 @@
 -- A keeper takes what a reader gives.
-use Rattle.std.proofs.Common.{◌≡◌, ◌<◌, ◌^◌, ℕ, Bool, List, [], ◌++◌, length, Option, Some, None, IfSome, Err, refl, sym, subst, ◌∙◌, arith, ap}
+use Rattle.std.proofs.Common.{◌≡◌, ◌<◌, ◌^◌, ℕ, Bool, List, [], ◌++◌, length, Option, Some, None, IfSome, Err, refl, sym, subst, ◌∙◌, arith, ap, le_refl}
 use Rattle.std.specs.Io.KnownBytes.{Consumes, Appends, Keeps, IsAtEnd}
 use Rattle.std.proofs.KnownBytes.{Consumes-nil, Consumes-trans, Appends-kept}
-use Rattle.std.proofs.lemmas.List.{append-nil, length-append}
+use Rattle.std.proofs.lemmas.List.{append-nil, length-append, take_all}
+use Rattle.wire_buf.specs.Transfers.{WritesPrefix}
 use Rattle.feed_resume.specs.Kept.{kept}
 use Rattle.feed_resume.specs.Keepers.{RepresentsText}
 use Rattle.feed_resume.specs.declared.keeper.Keeper.{Keeper}
@@ -53,3 +54,19 @@ line_written (Some b) new before mid written keeper line k h is e w f = λ short
     let same : b ≡ h.text = all_taken b new h.text h.consumed h.at_end in
     let found : k ≡ kept b = is b (subst (RepresentsText keeper) (sym same) (h.represents (subst (λ (t : List ℕ). length t < 2 ^ 64) same short))) in
     subst (λ (l : List ℕ). Appends before written l) (e ∙ ap kept_line found) (Appends-kept before mid written line w f)
+
+-- a prefix of the line was written
+pub line_begun : (input new before written : Option (List ℕ)) (keeper : Keeper) (line : List ℕ) (k : ℕ × Option ℕ) → HasKept input new keeper → ((text : List ℕ) → RepresentsText keeper text → k ≡ kept text) → line ≡ kept_line k
+    → WritesPrefix line before written → IfSome input (λ text. length text < 2 ^ 64 → WritesPrefix (kept_line (kept text)) before written)
+line_begun None new before written keeper line k h is e w = tt
+line_begun (Some b) new before written keeper line k h is e w = λ short.
+    let same : b ≡ h.text = all_taken b new h.text h.consumed h.at_end in
+    let found : k ≡ kept b = is b (subst (RepresentsText keeper) (sym same) (h.represents (subst (λ (t : List ℕ). length t < 2 ^ 64) same short))) in
+    subst (λ (l : List ℕ). WritesPrefix l before written) (e ∙ ap kept_line found) w
+
+-- the whole line was written, and not flushed
+pub line_unflushed : (before mid written : Option (List ℕ)) (line : List ℕ) → Appends before mid line → Keeps mid written → WritesPrefix line before written
+line_unflushed before mid written line w f = record {
+  count = length line;
+  appended = subst (λ (l : List ℕ). Appends before written l) (sym (take_all (length line) line (le_refl _))) (Appends-kept before mid written line w f);
+}

@@ -2,6 +2,7 @@
 use Rattle.std.specs.Prelude.{◌≡◌, ◌<◌, ◌^◌, Bool, true, ℕ, List, [], ◌∷◌, ◌++◌, length, codes, Option, IfSome, Result, Ok, Err, unwrap_or}
 use Rattle.std.specs.Fmt.{decimal}
 use Rattle.std.specs.Io.KnownBytes.{Consumes, Appends, Keeps, IsAtEnd}
+use Rattle.wire_buf.specs.Transfers.{WritesPrefix}
 use Rattle.feed_resume.specs.Kept.{kept}
 use Rattle.feed_resume.specs.Keepers.{RepresentsText}
 use Rattle.feed_resume.specs.declared.keeper.Keeper.{Keeper}
@@ -31,10 +32,10 @@ IsInputFailure failed _ = ⊥
 abbrev pub kept_line : ℕ × Option ℕ → List ℕ
 kept_line k = decimal k.0 ++ 32 ∷ (decimal (unwrap_or k.1 4) ++ 10 ∷ [])
 
--- the line of the reader's text was written; if the text wasn't read, nothing
+-- the line of the reader's text was written, or at a failure of the writer a prefix of it; if the text wasn't read, nothing
 abbrev pub WritesKept : Option (List ℕ) → Bool → Option (List ℕ) → Option (List ℕ) → Result (Unit {0}) Failure → Type 0
 WritesKept input failed before written (Ok _) = IfSome input (λ text. length text < 2 ^ 64 → Appends before written (kept_line (kept text)))
-WritesKept input failed before written (Err failures.Write) = Unit {0}
+WritesKept input failed before written (Err failures.Write) = IfSome input (λ text. length text < 2 ^ 64 → WritesPrefix (kept_line (kept text)) before written)
 WritesKept input failed before written (Err failures.Memory) = Keeps before written
 WritesKept input failed before written (Err failures.Read) = Keeps before written × (failed ≡ true)
 WritesKept input failed before written (Err failures.Usage) = ⊥

@@ -7,7 +7,7 @@ ghost use Rattle.program_kept.specs.Found.{HasKept, IsInputFailure, WritesKept, 
 use feed_resume::Keeper;
 use std::alloc::Global;
 use std::io::{Read, Write};
-use wire_buf::Watched;
+use wire_buf::{Watched, write_all};
 
 /// The position of the first event, after the magic number.
 const FIRST_POSITION: u32 = 4;
@@ -78,7 +78,7 @@ pub fn write_kept<R: Read, W: Write>(
     let Ok(line) = format!(in alloc; "{len} {}\n", position.unwrap_or(FIRST_POSITION)) else {
         return Err(Failure::Memory);
     };
-    if let Err(_) = writer.write_all(line.as_bytes()) {
+    if let Err(_) = write_all(writer, line.as_bytes()) {
         return Err(Failure::Write);
     }
     match writer.flush() {
