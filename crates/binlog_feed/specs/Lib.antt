@@ -80,6 +80,7 @@ pub use Rattle.feed_text.specs.TextPieces
 pub use Rattle.feed_text.specs.Times
 pub use Rattle.feed_text.specs.ValueText
 pub use Rattle.feed_text.specs.DecimalText
+pub use Rattle.feed_text.specs.DocumentForms
 pub use Rattle.feed_text.specs.JsonText
 pub use Rattle.feed_text.specs.ShortTexts
 pub use Rattle.feed_text.specs.DiffText

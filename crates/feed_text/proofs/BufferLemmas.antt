@@ -7,7 +7,7 @@ use Rattle.feed_writers.specs.Quoting.{quoted_byte, quoted}
 use Rattle.rows_errors.specs.Readings.{Reading, ◌>>=◌}
 use Rattle.rows_jsonb.specs.DocumentTrees.{document_tree}
 use Rattle.rows_cells.specs.CellValues.{CellValue, json}
-use Rattle.feed_text.specs.JsonText.{document_text}
+use Rattle.feed_text.specs.JsonText.{document_text, feed_form}
 use Rattle.feed_text.specs.DirectText.{WritesDocument}
 use Rattle.feed_text.specs.CellText.{label, cell_value_text, cell_text, Appends, AppendsLabeled}
 use Rattle.feed_text.specs.DecimalText.{AppendsSome}
@@ -53,5 +53,5 @@ decimal_after column None old prefix new first h = absurd h
 decimal_after column (Some text) old prefix new first h = h ∙ ap (λ (t : List ℕ). t ++ text) first ∙ append_assoc old (label column) text
 
 -- the text of a JSON document was appended after a label
-pub document_after : (column : ℕ) (v : CellValue) (bytes old prefix new : List ℕ) → v ≡ json bytes → prefix ≡ old ++ label column → WritesDocument (document_tree bytes) prefix new → Appends (cell_text column v) old new
+pub document_after : (column : ℕ) (v : CellValue) (bytes old prefix new : List ℕ) → v ≡ json bytes → prefix ≡ old ++ label column → WritesDocument feed_form (document_tree bytes) prefix new → Appends (cell_text column v) old new
 document_after column v bytes old prefix new is first w = appended_after column (cell_value_text v) (document_text w.tree) old prefix new (tree_written v bytes w.tree is w.is) first w.text

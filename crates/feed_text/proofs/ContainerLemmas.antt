@@ -8,8 +8,7 @@ use Rattle.rows_jsonb.specs.JsonbValues.{JsonbValue, elem_in, object_key, count_
 use Rattle.rows_errors.specs.Readings.{Reading, ◌>>=◌}
 use Rattle.rows_jsonb.specs.DocumentTrees.{Counted, items, member_trees, tree_of, utf8, values_read}
 use Rattle.rows_jsonb.proofs.Building.{array_tree, object_tree, after_members, none_after_members, members_turn, members_end}
-use Rattle.feed_writers.specs.Quoting.{quoted}
-use Rattle.feed_text.specs.JsonText.{document_text, item_texts}
+use Rattle.feed_text.specs.DocumentForms.{Form, document_in, items_in}
 use Rattle.feed_text.specs.KeyOrder.{AreInOrder, read_key}
 use Rattle.feed_text.specs.Containers.{typed}
 use Rattle.feed_text.specs.DirectText.{separator, WritesTyped, WritesTree, WritesItems, WritesMembers, WritesMember, IsMember}
@@ -57,18 +56,18 @@ items_after ts used x = Ok (items_before ts x.0, used + x.1)
 abbrev pub after_items : List Tree → ℕ → Reading (Counted Items) → Reading (Counted Items)
 after_items ts used found = found >>= items_after ts used
 
-abbrev pub texts_of : List Tree → List (List ℕ)
-texts_of [] = []
-texts_of (t ∷ ts) = document_text t ∷ texts_of ts
+abbrev pub texts_of : Form → List Tree → List (List ℕ)
+texts_of f [] = []
+texts_of f (t ∷ ts) = document_in f t ∷ texts_of f ts
 
-texts_of-push : (ts : List Tree) (t : Tree) → texts_of (ts ++ t ∷ []) ≡ texts_of ts ++ document_text t ∷ []
-texts_of-push [] t = refl
-texts_of-push (s ∷ ts) t = ap (λ (l : List (List ℕ)). document_text s ∷ l) (texts_of-push ts t)
+texts_of-push : (f : Form) (ts : List Tree) (t : Tree) → texts_of f (ts ++ t ∷ []) ≡ texts_of f ts ++ document_in f t ∷ []
+texts_of-push f [] t = refl
+texts_of-push f (s ∷ ts) t = ap (λ (l : List (List ℕ)). document_in f s ∷ l) (texts_of-push f ts t)
 
-item_texts-before : (ts : List Tree) → item_texts (items_before ts no_items) ≡ texts_of ts
-unfolding document_text item_texts
-item_texts-before [] = refl
-item_texts-before (t ∷ ts) = ap (λ (l : List (List ℕ)). document_text t ∷ l) (item_texts-before ts)
+item_texts-before : (f : Form) (ts : List Tree) → items_in f (items_before ts no_items) ≡ texts_of f ts
+unfolding document_in items_in
+item_texts-before f [] = refl
+item_texts-before f (t ∷ ts) = ap (λ (l : List (List ℕ)). document_in f t ∷ l) (item_texts-before f ts)
 
 before_push : (ts : List Tree) (t : Tree) (rest : Items) → items_before ts (item t rest) ≡ items_before (ts ++ t ∷ []) rest
 before_push [] t rest = refl
@@ -86,16 +85,16 @@ after_push ts t used n (Ok x) = ap₂ (λ a b. Ok (a, b)) (before_push ts t x.0)
 after_push ts t used n (Err e) = refl
 
 -- some elements of an array are written
-pub record ItemsSoFar (depth : ℕ) (value : JsonbValue) (pos budget left : ℕ) (base out : List ℕ) (is_first : Bool) : Type 0 where
+pub record ItemsSoFar (f : Form) (depth : ℕ) (value : JsonbValue) (pos budget left : ℕ) (base out : List ℕ) (is_first : Bool) : Type 0 where
   pub done : List Tree
   pub used : ℕ
   pub is : items (tree_of depth) (elem_in value) 0 (count_in value) ≡ after_items done used (items (tree_of depth) (elem_in value) pos (count_in value - pos))
   pub taken : used + left ≡ budget
-  pub text : out ≡ base ++ join_with_byte 44 (texts_of done)
-  pub none : TellsNone is_first (texts_of done)
+  pub text : out ≡ base ++ join_with_byte 44 (texts_of f done)
+  pub none : TellsNone is_first (texts_of f done)
 
-pub no_items_yet : (depth : ℕ) (value : JsonbValue) (budget : ℕ) (base out : List ℕ) → out ≡ base → ItemsSoFar depth value 0 budget budget base out true
-no_items_yet depth value budget base out is =
+pub no_items_yet : (f : Form) (depth : ℕ) (value : JsonbValue) (budget : ℕ) (base out : List ℕ) → out ≡ base → ItemsSoFar f depth value 0 budget budget base out true
+no_items_yet f depth value budget base out is =
     let all = items (tree_of depth) (elem_in value) 0 (count_in value) in
     let whole : count_in value ≡ count_in value - 0 = omega arith in record {
       done = [];
@@ -106,43 +105,43 @@ no_items_yet depth value budget base out is =
       none = refl;
     }
 
-one_item_more : (depth : ℕ) (value seen : JsonbValue) (pos budget mid left : ℕ) (base out separated new : List ℕ) (is_first : Bool) → pos < count_in value → elem_in value pos ≡ Ok seen
-    → ItemsSoFar depth value pos budget mid base out is_first → separated ≡ out ++ separator is_first → WritesTree depth seen mid left separated new → ItemsSoFar depth value (pos + 1) budget left base new false
-one_item_more depth value seen pos budget mid left base out separated new is_first below here so first one =
+one_item_more : (f : Form) (depth : ℕ) (value seen : JsonbValue) (pos budget mid left : ℕ) (base out separated new : List ℕ) (is_first : Bool) → pos < count_in value → elem_in value pos ≡ Ok seen
+    → ItemsSoFar f depth value pos budget mid base out is_first → separated ≡ out ++ separator is_first → WritesTree f depth seen mid left separated new → ItemsSoFar f depth value (pos + 1) budget left base new false
+one_item_more f depth value seen pos budget mid left base out separated new is_first below here so first one =
     let below_it = tree_of depth in
     let at = elem_in value in
     let more : count_in value - pos ≡ suc (count_in value - (pos + 1)) = omega (arith, below) in
     let rest = items below_it at (pos + 1) (count_in value - (pos + 1)) in
-    let pushed = texts_of-push so.done one.tree in
+    let pushed = texts_of-push f so.done one.tree in
     let tree = one.is in
     let step : after_items so.done so.used (items below_it at pos (count_in value - pos)) ≡ after_items (so.done ++ one.tree ∷ []) (so.used + one.count) rest = rw (more, here, tree) (after_push so.done one.tree so.used one.count rest) in record {
       done = so.done ++ one.tree ∷ [];
       used = so.used + one.count;
       is = so.is ∙ step;
       taken = omega (arith, so.taken, one.taken);
-      text = text_more is_first (texts_of so.done) (document_text one.tree) base out separated new so.none so.text first one.text ∙ ap (λ (l : List (List ℕ)). base ++ join_with_byte 44 l) (sym pushed);
-      none = subst (TellsNone false) (sym pushed) (some_told (texts_of so.done) (document_text one.tree));
+      text = text_more is_first (texts_of f so.done) (document_in f one.tree) base out separated new so.none so.text first one.text ∙ ap (λ (l : List (List ℕ)). base ++ join_with_byte 44 l) (sym pushed);
+      none = subst (TellsNone false) (sym pushed) (some_told (texts_of f so.done) (document_in f one.tree));
     }
 
-pub all_items : (depth : ℕ) (value : JsonbValue) (pos budget left : ℕ) (old begun out new : List ℕ) (is_first : Bool) → count_in value ≤ pos → begun ≡ old ++ 91 ∷ [] → ItemsSoFar depth value pos budget left begun out is_first → new ≡ out ++ 93 ∷ []
-    → WritesItems depth value budget left old new
-all_items depth value pos budget left old begun out new is_first end begins so ends =
+pub all_items : (f : Form) (depth : ℕ) (value : JsonbValue) (pos budget left : ℕ) (old begun out new : List ℕ) (is_first : Bool) → count_in value ≤ pos → begun ≡ old ++ 91 ∷ [] → ItemsSoFar f depth value pos budget left begun out is_first → new ≡ out ++ 93 ∷ []
+    → WritesItems f depth value budget left old new
+all_items f depth value pos budget left old begun out new is_first end begins so ends =
     let none : count_in value - pos ≡ 0 = omega (arith, end) in
-    let texts = item_texts-before so.done in record {
+    let texts = item_texts-before f so.done in record {
       found = items_before so.done no_items;
       count = so.used;
       is = so.is ∙ ap (λ (k : ℕ). after_items so.done so.used (items (tree_of depth) (elem_in value) pos k)) none ∙ ap (λ (n : ℕ). Ok (items_before so.done no_items, n)) (omega arith);
       taken = so.taken;
       text =
-          ends ∙ ap (λ (t : List ℕ). t ++ 93 ∷ []) (so.text ∙ ap (λ (t : List ℕ). t ++ join_with_byte 44 (texts_of so.done)) begins)
-          ∙ append_assoc (old ++ 91 ∷ []) (join_with_byte 44 (texts_of so.done)) (93 ∷ [])
-          ∙ append_assoc old (91 ∷ []) (join_with_byte 44 (texts_of so.done) ++ 93 ∷ [])
+          ends ∙ ap (λ (t : List ℕ). t ++ 93 ∷ []) (so.text ∙ ap (λ (t : List ℕ). t ++ join_with_byte 44 (texts_of f so.done)) begins)
+          ∙ append_assoc (old ++ 91 ∷ []) (join_with_byte 44 (texts_of f so.done)) (93 ∷ [])
+          ∙ append_assoc old (91 ∷ []) (join_with_byte 44 (texts_of f so.done) ++ 93 ∷ [])
           ∙ ap (λ (l : List (List ℕ)). old ++ (91 ∷ (join_with_byte 44 l ++ 93 ∷ []))) (sym texts);
     }
 
-pub array_written : (depth d : ℕ) (value : JsonbValue) (budget mid left : ℕ) (old new : List ℕ) → depth ≡ suc d → is_array_in value ≡ true → mid + 1 ≡ budget → WritesItems d value mid left old new → WritesTree depth value budget left old new
-unfolding document_text
-array_written depth d value budget mid left old new deep is_array one w =
+pub array_written : (f : Form) (depth d : ℕ) (value : JsonbValue) (budget mid left : ℕ) (old new : List ℕ) → depth ≡ suc d → is_array_in value ≡ true → mid + 1 ≡ budget → WritesItems f d value mid left old new → WritesTree f depth value budget left old new
+unfolding document_in
+array_written f depth d value budget mid left old new deep is_array one w =
     let found = w.is in record {
       tree = array w.found;
       count = w.count + 1;
@@ -229,56 +228,56 @@ module _ (depth : ℕ) (value : JsonbValue) where
       ∙ members_end (tree_of depth) (values_read depth) (object_key value) (elem_in value) (along (keys_of value) (trees_of depth value) (counts_of depth value) order) (count_all (keys_of value) (trees_of depth value) (counts_of depth value) order) n 0 refl
 
 -- some members of an object are written
-pub record MembersSoFar (depth : ℕ) (value : JsonbValue) (done : List ℕ) (budget left : ℕ) (base out : List ℕ) (is_first : Bool) : Type 0 where
+pub record MembersSoFar (f : Form) (depth : ℕ) (value : JsonbValue) (done : List ℕ) (budget left : ℕ) (base out : List ℕ) (is_first : Bool) : Type 0 where
   pub there : AllOf (IsThere depth value) done
   pub taken : count_all (keys_of value) (trees_of depth value) (counts_of depth value) done + left ≡ budget
-  pub text : out ≡ base ++ join_with_byte 44 (texts_along (keys_of value) (trees_of depth value) (counts_of depth value) done)
-  pub none : TellsNone is_first (texts_along (keys_of value) (trees_of depth value) (counts_of depth value) done)
+  pub text : out ≡ base ++ join_with_byte 44 (texts_along f (keys_of value) (trees_of depth value) (counts_of depth value) done)
+  pub none : TellsNone is_first (texts_along f (keys_of value) (trees_of depth value) (counts_of depth value) done)
 
-pub no_members_yet : (depth : ℕ) (value : JsonbValue) (budget : ℕ) (base out : List ℕ) → out ≡ base → MembersSoFar depth value [] budget budget base out true
-no_members_yet depth value budget base out is = record { there = tt; taken = omega arith; text = is ∙ sym (append-nil base); none = refl }
+pub no_members_yet : (f : Form) (depth : ℕ) (value : JsonbValue) (budget : ℕ) (base out : List ℕ) → out ≡ base → MembersSoFar f depth value [] budget budget base out true
+no_members_yet f depth value budget base out is = record { there = tt; taken = omega arith; text = is ∙ sym (append-nil base); none = refl }
 
-pub one_member_more : (depth : ℕ) (value : JsonbValue) (done more : List ℕ) (pos budget mid left : ℕ) (base out separated new : List ℕ) (is_first : Bool) → more ≡ done ++ pos ∷ []
-    → MembersSoFar depth value done budget mid base out is_first → separated ≡ out ++ separator is_first → WritesMember depth value pos mid left separated new → MembersSoFar depth value more budget left base new false
-one_member_more depth value done more pos budget mid left base out separated new is_first one_more so first one =
+pub one_member_more : (f : Form) (depth : ℕ) (value : JsonbValue) (done more : List ℕ) (pos budget mid left : ℕ) (base out separated new : List ℕ) (is_first : Bool) → more ≡ done ++ pos ∷ []
+    → MembersSoFar f depth value done budget mid base out is_first → separated ≡ out ++ separator is_first → WritesMember f depth value pos mid left separated new → MembersSoFar f depth value more budget left base new false
+one_member_more f depth value done more pos budget mid left base out separated new is_first one_more so first one =
     let keys = keys_of value in
     let trees = trees_of depth value in
     let counts = counts_of depth value in
     let m = one.is in
     let key = same_key value pos one.key m.key_is in
     let same = same_tree depth value m.seen pos (one.tree, one.count) m.seen_is m.is in
-    let pushed = texts_push keys trees counts done pos in
-    let text : quoted one.key ++ (58 ∷ document_text one.tree) ≡ member_text keys trees counts pos = ap₂ (λ (k : List ℕ) (t : Tree). quoted k ++ (58 ∷ document_text t)) key same.0 in
-    let written : new ≡ separated ++ member_text keys trees counts pos = one.text ∙ ap (λ (t : List ℕ). separated ++ t) text in
-    subst (λ (ps : List ℕ). MembersSoFar depth value ps budget left base new false) (sym one_more) (record {
+    let pushed = texts_push f keys trees counts done pos in
+    let text : f.key one.key ++ (58 ∷ document_in f one.tree) ≡ member_text f keys trees counts pos = ap₂ (λ (k : List ℕ) (t : Tree). f.key k ++ (58 ∷ document_in f t)) key same.0 in
+    let written : new ≡ separated ++ member_text f keys trees counts pos = one.text ∙ ap (λ (t : List ℕ). separated ++ t) text in
+    subst (λ (ps : List ℕ). MembersSoFar f depth value ps budget left base new false) (sym one_more) (record {
       there = all_push (IsThere depth value) done pos so.there (there depth value pos one.key one.tree one.count m);
       taken = omega (arith, so.taken, one.taken, count_push keys trees counts done pos, same.1);
-      text = text_more is_first (texts_along keys trees counts done) (member_text keys trees counts pos) base out separated new so.none so.text first written ∙ ap (λ (l : List (List ℕ)). base ++ join_with_byte 44 l) (sym pushed);
-      none = subst (TellsNone false) (sym pushed) (some_told (texts_along keys trees counts done) (member_text keys trees counts pos));
+      text = text_more is_first (texts_along f keys trees counts done) (member_text f keys trees counts pos) base out separated new so.none so.text first written ∙ ap (λ (l : List (List ℕ)). base ++ join_with_byte 44 l) (sym pushed);
+      none = subst (TellsNone false) (sym pushed) (some_told (texts_along f keys trees counts done) (member_text f keys trees counts pos));
     })
 
-pub all_members : (depth : ℕ) (value : JsonbValue) (order done : List ℕ) (budget left : ℕ) (old begun out new : List ℕ) (is_first : Bool) → done ≡ order → AreInOrder (keys_of value) (count_in value) order → begun ≡ old ++ 123 ∷ []
-    → MembersSoFar depth value done budget left begun out is_first → new ≡ out ++ 125 ∷ [] → WritesMembers depth value budget left old new
-all_members depth value order done budget left old begun out new is_first whole are begins so ends =
+pub all_members : (f : Form) (depth : ℕ) (value : JsonbValue) (order done : List ℕ) (budget left : ℕ) (old begun out new : List ℕ) (is_first : Bool) → done ≡ order → AreInOrder (keys_of value) (count_in value) order → begun ≡ old ++ 123 ∷ []
+    → MembersSoFar f depth value done budget left begun out is_first → new ≡ out ++ 125 ∷ [] → WritesMembers f depth value budget left old new
+all_members f depth value order done budget left old begun out new is_first whole are begins so ends =
     let keys = keys_of value in
     let trees = trees_of depth value in
     let counts = counts_of depth value in
-    let texts = member_texts-along keys trees counts order in
+    let texts = member_texts-along f keys trees counts order in
     let all = subst (AllOf (IsThere depth value)) whole so.there in record {
       found = along keys trees counts order;
       count = count_all keys trees counts order;
       is = members_are depth value (count_in value) order are all;
       taken = ap (λ (ps : List ℕ). count_all keys trees counts ps + left) (sym whole) ∙ so.taken;
       text =
-          ends ∙ ap (λ (t : List ℕ). t ++ 125 ∷ []) (so.text ∙ ap₂ (λ (t : List ℕ) (ps : List ℕ). t ++ join_with_byte 44 (texts_along keys trees counts ps)) begins whole)
-          ∙ append_assoc (old ++ 123 ∷ []) (join_with_byte 44 (texts_along keys trees counts order)) (125 ∷ [])
-          ∙ append_assoc old (123 ∷ []) (join_with_byte 44 (texts_along keys trees counts order) ++ 125 ∷ [])
+          ends ∙ ap (λ (t : List ℕ). t ++ 125 ∷ []) (so.text ∙ ap₂ (λ (t : List ℕ) (ps : List ℕ). t ++ join_with_byte 44 (texts_along f keys trees counts ps)) begins whole)
+          ∙ append_assoc (old ++ 123 ∷ []) (join_with_byte 44 (texts_along f keys trees counts order)) (125 ∷ [])
+          ∙ append_assoc old (123 ∷ []) (join_with_byte 44 (texts_along f keys trees counts order) ++ 125 ∷ [])
           ∙ ap (λ (l : List (List ℕ)). old ++ (123 ∷ (join_with_byte 44 l ++ 125 ∷ []))) (sym texts);
     }
 
-pub object_written : (depth d : ℕ) (value : JsonbValue) (budget mid left : ℕ) (old new : List ℕ) → depth ≡ suc d → is_object_in value ≡ true → mid + 1 ≡ budget → WritesMembers d value mid left old new → WritesTree depth value budget left old new
-unfolding document_text
-object_written depth d value budget mid left old new deep is_object one w =
+pub object_written : (f : Form) (depth d : ℕ) (value : JsonbValue) (budget mid left : ℕ) (old new : List ℕ) → depth ≡ suc d → is_object_in value ≡ true → mid + 1 ≡ budget → WritesMembers f d value mid left old new → WritesTree f depth value budget left old new
+unfolding document_in
+object_written f depth d value budget mid left old new deep is_object one w =
     let found = w.is in record {
       tree = object w.found;
       count = w.count + 1;
@@ -288,9 +287,9 @@ object_written depth d value budget mid left old new deep is_object one w =
     }
 
 -- a key, a colon and a value were appended
-pub member_is : (depth : ℕ) (value : JsonbValue) (pos type_byte budget left : ℕ) (old keyed new key bytes : List ℕ) → object_key value pos ≡ Ok key → is_utf8 key ≡ true → keyed ≡ old ++ (quoted key ++ 58 ∷ [])
-    → elem_in value pos ≡ typed type_byte bytes → WritesTyped depth type_byte bytes budget left keyed new → WritesMember depth value pos budget left old new
-member_is depth value pos type_byte budget left old keyed new key bytes found valid first here w =
+pub member_is : (f : Form) (depth : ℕ) (value : JsonbValue) (pos type_byte budget left : ℕ) (old keyed new key bytes : List ℕ) → object_key value pos ≡ Ok key → is_utf8 key ≡ true → keyed ≡ old ++ (f.key key ++ 58 ∷ [])
+    → elem_in value pos ≡ typed type_byte bytes → WritesTyped f depth type_byte bytes budget left keyed new → WritesMember f depth value pos budget left old new
+member_is f depth value pos type_byte budget left old keyed new key bytes found valid first here w =
     let t = w.tree in record {
       key = key;
       tree = t.tree;
@@ -298,16 +297,16 @@ member_is depth value pos type_byte budget left old keyed new key bytes found va
       is = record { seen = w.value; key_is = found; is_text = valid; seen_is = here ∙ w.is; is = t.is };
       taken = t.taken;
       text =
-          t.text ∙ ap (λ (l : List ℕ). l ++ document_text t.tree) first
-          ∙ append_assoc old (quoted key ++ 58 ∷ []) (document_text t.tree)
-          ∙ ap (λ (l : List ℕ). old ++ l) (append_assoc (quoted key) (58 ∷ []) (document_text t.tree));
+          t.text ∙ ap (λ (l : List ℕ). l ++ document_in f t.tree) first
+          ∙ append_assoc old (f.key key ++ 58 ∷ []) (document_in f t.tree)
+          ∙ ap (λ (l : List ℕ). old ++ l) (append_assoc (f.key key) (58 ∷ []) (document_in f t.tree));
     }
 
 -- the text of a container with this type byte was appended
-pub typed_tree : (depth type_byte : ℕ) (bytes : List ℕ) (value : JsonbValue) (budget left : ℕ) (old new : List ℕ) → typed type_byte bytes ≡ Ok value → WritesTree depth value budget left old new → WritesTyped depth type_byte bytes budget left old new
-typed_tree depth type_byte bytes value budget left old new is w = record { value = value; is = is; tree = w }
+pub typed_tree : (f : Form) (depth type_byte : ℕ) (bytes : List ℕ) (value : JsonbValue) (budget left : ℕ) (old new : List ℕ) → typed type_byte bytes ≡ Ok value → WritesTree f depth value budget left old new → WritesTyped f depth type_byte bytes budget left old new
+typed_tree f depth type_byte bytes value budget left old new is w = record { value = value; is = is; tree = w }
 
-pub one_item_written : (depth : ℕ) (value : JsonbValue) (pos type_byte budget mid left : ℕ) (bytes base out separated new : List ℕ) (is_first : Bool) → pos < count_in value → elem_in value pos ≡ typed type_byte bytes
-    → ItemsSoFar depth value pos budget mid base out is_first → separated ≡ out ++ separator is_first → WritesTyped depth type_byte bytes mid left separated new → ItemsSoFar depth value (pos + 1) budget left base new false
-one_item_written depth value pos type_byte budget mid left bytes base out separated new is_first below here so first w =
-    one_item_more depth value w.value pos budget mid left base out separated new is_first below (here ∙ w.is) so first w.tree
+pub one_item_written : (f : Form) (depth : ℕ) (value : JsonbValue) (pos type_byte budget mid left : ℕ) (bytes base out separated new : List ℕ) (is_first : Bool) → pos < count_in value → elem_in value pos ≡ typed type_byte bytes
+    → ItemsSoFar f depth value pos budget mid base out is_first → separated ≡ out ++ separator is_first → WritesTyped f depth type_byte bytes mid left separated new → ItemsSoFar f depth value (pos + 1) budget left base new false
+one_item_written f depth value pos type_byte budget mid left bytes base out separated new is_first below here so first w =
+    one_item_more f depth value w.value pos budget mid left base out separated new is_first below (here ∙ w.is) so first w.tree

@@ -16,8 +16,7 @@ use Rattle.rows_jsonb.specs.JsonbValues as seen
 use Rattle.rows_jsonb.specs.JsonbValues.{JsonbValue, container, is_array_in, is_object_in, sized, literal, counted_at, document}
 use Rattle.rows_jsonb.specs.DocumentTrees.{utf8, tree_of, bare_tree, container_len, within_budget, document_tree}
 use Rattle.rows_jsonb.proofs.Building.{flat_tree, other_tree}
-use Rattle.feed_writers.specs.Quoting.{quoted}
-use Rattle.feed_text.specs.JsonText.{document_text, scalar_text}
+use Rattle.feed_text.specs.DocumentForms.{Form, document_in, scalar_in}
 use Rattle.feed_text.specs.Containers.{typed}
 use Rattle.feed_text.specs.DirectText.{WritesTyped, WritesTypedScalar, WritesDocument}
 use Rattle.feed_text.proofs.QuoteLemmas.{kept_more}
@@ -38,10 +37,10 @@ within_is : (size count : ℕ) (t : Tree) → count ≤ 1 + size → within_budg
 within_is size count t le = elim (leb_tells count (1 + size)) [ inl u ↦ (let e = u.0 in rw e refl) | inr u ↦ absurd (omega (arith, u.1, le)) ]
 
 -- the text of the document's tree was appended
-pub document_written : (bytes first rest : List ℕ) (s : JsonbValue) (budget left : ℕ) (old new : List ℕ) → 0 < length bytes → first ≡ take 1 bytes → rest ≡ drop 1 bytes → typed (slice_index first 0) rest ≡ Ok s → budget ≡ 1 + container_len s
-    → WritesTyped 100 (slice_index first 0) rest budget left old new → WritesDocument (document_tree bytes) old new
-document_written [] first rest s budget left old new some head tail is size w = absurd (omega (arith, some))
-document_written (b ∷ bytes) first rest s budget left old new some head tail is size w =
+pub document_written : (f : Form) (bytes first rest : List ℕ) (s : JsonbValue) (budget left : ℕ) (old new : List ℕ) → 0 < length bytes → first ≡ take 1 bytes → rest ≡ drop 1 bytes → typed (slice_index first 0) rest ≡ Ok s → budget ≡ 1 + container_len s
+    → WritesTyped f 100 (slice_index first 0) rest budget left old new → WritesDocument f (document_tree bytes) old new
+document_written f [] first rest s budget left old new some head tail is size w = absurd (omega (arith, some))
+document_written f (b ∷ bytes) first rest s budget left old new some head tail is size w =
     let same : s ≡ w.value = inside (typed (slice_index first 0) rest) s w.value is w.is in
     let t = w.tree in
     let found = t.is in
@@ -56,9 +55,9 @@ document_written (b ∷ bytes) first rest s budget left old new some head tail i
 -- ---- scalars
 
 -- the text of a scalar was appended
-pub typed_scalar : (type_byte : ℕ) (bytes old new text : List ℕ) (value : JsonbValue) (part : tree.Scalar) → typed type_byte bytes ≡ Ok value → bare_tree value ≡ Ok (tree.scalar part, 1) → scalar_text part ≡ text → new ≡ old ++ text
-    → WritesTypedScalar type_byte bytes old new
-typed_scalar type_byte bytes old new text value part is found same written = record {
+pub typed_scalar : (f : Form) (type_byte : ℕ) (bytes old new text : List ℕ) (value : JsonbValue) (part : tree.Scalar) → typed type_byte bytes ≡ Ok value → bare_tree value ≡ Ok (tree.scalar part, 1) → scalar_in f part ≡ text → new ≡ old ++ text
+    → WritesTypedScalar f type_byte bytes old new
+typed_scalar f type_byte bytes old new text value part is found same written = record {
   value = value;
   is = is;
   scalar = record { part = part; is = found; text = written ∙ ap (λ (t : List ℕ). old ++ t) (sym same) };
@@ -96,13 +95,13 @@ utf8_is : (s : List ℕ) → is_utf8 s ≡ true → utf8 s ≡ Ok s
 utf8_is s h = rw h refl
 
 -- the text of a string was appended, or nothing
-pub string_written : {E : Type 0} (bytes string old new : List ℕ) (r : Result (Unit {0}) E) → counted_at bytes ≡ Ok string → OnOk r (is_utf8 string ≡ true) → OnOk r (new ≡ old ++ quoted string) → OnOk r (WritesTypedScalar 12 bytes old new)
-unfolding scalar_text
-string_written bytes string old new (Ok x) is valid written =
+pub string_written : {E : Type 0} (f : Form) (bytes string old new : List ℕ) (r : Result (Unit {0}) E) → counted_at bytes ≡ Ok string → OnOk r (is_utf8 string ≡ true) → OnOk r (new ≡ old ++ f.string string) → OnOk r (WritesTypedScalar f 12 bytes old new)
+unfolding scalar_in
+string_written f bytes string old new (Ok x) is valid written =
     let whole = utf8_is string valid in
     let found : typed 12 bytes ≡ Ok (seen.text string) = ap (λ (f : Reading (List ℕ)). f >>= (λ s. Ok (seen.text s))) is in
-    typed_scalar 12 bytes old new (quoted string) (seen.text string) (tree.string string) found (rw whole refl) refl written
-string_written bytes string old new (Err e) is valid written = tt
+    typed_scalar f 12 bytes old new (f.string string) (seen.text string) (tree.string string) found (rw whole refl) refl written
+string_written f bytes string old new (Err e) is valid written = tt
 
 -- a string after its length in one byte
 pub short_counted : (bytes first rest : List ℕ) (len : ℕ) → 0 < length bytes → slice_index bytes 0 < 128 → first ≡ take 1 bytes → rest ≡ drop 1 bytes → len ≡ slice_index first 0 → len ≤ length rest → counted_at bytes ≡ Ok (take len rest)
@@ -128,9 +127,9 @@ bare_as_tree depth (container f n bytes) part h = absurd cc
 bare_as_tree depth s part h = scalar_tree depth s refl refl
 
 -- a scalar counts one
-scalar_as_tree : (depth type_byte : ℕ) (bytes : List ℕ) (budget left : ℕ) (old new : List ℕ) → left + 1 ≡ budget → WritesTypedScalar type_byte bytes old new → WritesTyped depth type_byte bytes budget left old new
-unfolding document_text
-scalar_as_tree depth type_byte bytes budget left old new one w =
+scalar_as_tree : (f : Form) (depth type_byte : ℕ) (bytes : List ℕ) (budget left : ℕ) (old new : List ℕ) → left + 1 ≡ budget → WritesTypedScalar f type_byte bytes old new → WritesTyped f depth type_byte bytes budget left old new
+unfolding document_in
+scalar_as_tree f depth type_byte bytes budget left old new one w =
     let s = w.scalar in record {
       value = w.value;
       is = w.is;
@@ -143,10 +142,10 @@ scalar_as_tree depth type_byte bytes budget left old new one w =
       };
     }
 
-pub scalar_counted : {E : Type 0} (r : Result (Unit {0}) E) (depth type_byte : ℕ) (bytes : List ℕ) (budget left : ℕ) (old new : List ℕ) → OnOk r (left + 1 ≡ budget) → OnOk r (WritesTypedScalar type_byte bytes old new) → OnOk r (WritesTyped depth type_byte bytes budget left old new)
-scalar_counted (Ok x) depth type_byte bytes budget left old new one w = scalar_as_tree depth type_byte bytes budget left old new one w
-scalar_counted (Err e) depth type_byte bytes budget left old new one w = tt
+pub scalar_counted : {E : Type 0} (f : Form) (r : Result (Unit {0}) E) (depth type_byte : ℕ) (bytes : List ℕ) (budget left : ℕ) (old new : List ℕ) → OnOk r (left + 1 ≡ budget) → OnOk r (WritesTypedScalar f type_byte bytes old new) → OnOk r (WritesTyped f depth type_byte bytes budget left old new)
+scalar_counted f (Ok x) depth type_byte bytes budget left old new one w = scalar_as_tree f depth type_byte bytes budget left old new one w
+scalar_counted f (Err e) depth type_byte bytes budget left old new one w = tt
 
-pub scalar_kept : {E : Type 0} (r : Result (Unit {0}) E) (type_byte : ℕ) (bytes old new : List ℕ) → OnOk r (WritesTypedScalar type_byte bytes old new) → OnErr r (new ≡ old) → take (length old) new ≡ old
-scalar_kept (Ok x) type_byte bytes old new w same = let s = w.scalar in kept_after old new (scalar_text s.part) s.text
-scalar_kept (Err e) type_byte bytes old new w same = kept_same old new same
+pub scalar_kept : {E : Type 0} (f : Form) (r : Result (Unit {0}) E) (type_byte : ℕ) (bytes old new : List ℕ) → OnOk r (WritesTypedScalar f type_byte bytes old new) → OnErr r (new ≡ old) → take (length old) new ≡ old
+scalar_kept f (Ok x) type_byte bytes old new w same = let s = w.scalar in kept_after old new (scalar_in f s.part) s.text
+scalar_kept f (Err e) type_byte bytes old new w same = kept_same old new same

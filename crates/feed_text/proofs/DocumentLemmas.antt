@@ -3,8 +3,7 @@ use Rattle.std.proofs.Common.{◌≡◌, ℕ, List, [], ◌∷◌, ◌++◌, ref
 use Rattle.std.proofs.lemmas.List.{append-nil}
 use Rattle.std.specs.List.{join_with_byte}
 use Rattle.rows_jsonb.specs.JsonTrees.{Tree, Items, item, Members, member}
-use Rattle.feed_writers.specs.Quoting.{quoted}
-use Rattle.feed_text.specs.JsonText.{document_text, item_texts, member_texts}
+use Rattle.feed_text.specs.DocumentForms.{Form, document_in, items_in, members_in}
 
 -- the texts yet to write, with a separator before them
 abbrev pub led : List ℕ → List (List ℕ) → List ℕ
@@ -45,10 +44,10 @@ member_written separated keyed pointed new key value first second third =
     ∙ append_assoc (separated ++ key) (58 ∷ []) value
     ∙ append_assoc separated key (58 ∷ value)
 
-pub item_texts-item : (t : Tree) (ts : Items) → item_texts (item t ts) ≡ document_text t ∷ item_texts ts
-unfolding document_text item_texts member_texts
-item_texts-item t ts = refl
+pub item_texts-item : (f : Form) (t : Tree) (ts : Items) → items_in f (item t ts) ≡ document_in f t ∷ items_in f ts
+unfolding document_in items_in members_in
+item_texts-item f t ts = refl
 
-pub member_texts-member : (k : List ℕ) (t : Tree) (ms : Members) → member_texts (member k t ms) ≡ (quoted k ++ (58 ∷ document_text t)) ∷ member_texts ms
-unfolding document_text item_texts member_texts
-member_texts-member k t ms = refl
+pub member_texts-member : (f : Form) (k : List ℕ) (t : Tree) (ms : Members) → members_in f (member k t ms) ≡ (f.key k ++ (58 ∷ document_in f t)) ∷ members_in f ms
+unfolding document_in items_in members_in
+member_texts-member f k t ms = refl

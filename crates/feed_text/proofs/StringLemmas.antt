@@ -1,12 +1,12 @@
 -- Plain bytes are UTF-8, and are copied between quotes.
-use Rattle.std.proofs.Common.{◌≡◌, ◌≤◌, ◌<◌, ◌+◌, ℕ, zero, suc, Bool, true, false, List, [], ◌∷◌, ◌++◌, length, take, drop, inl, inr, refl, sym, ap, subst, ◌∙◌, append_assoc, arith}
-use Rattle.std.proofs.Math.Seq.{take-append_seam, take-length}
+use Rattle.std.proofs.Common.{◌≡◌, ◌≤◌, ◌<◌, ◌+◌, ℕ, zero, suc, Bool, true, false, List, [], ◌∷◌, ◌++◌, length, take, drop, inl, inr, refl, sym, ap, ◌∙◌, append_assoc, arith}
+use Rattle.std.proofs.Math.Seq.{take-length}
 use Rattle.std.proofs.lemmas.Bool.Decides.{leb_tells}
 use Rattle.std.proofs.lemmas.List.{append-nil, drop_all, length-append, length-take-le}
-use Rattle.std.proofs.lemmas.Str.{IsUtf8-from_ascii, is_utf8-from_IsUtf8}
-use Rattle.std.specs.Prelude.{take_while, nat_le, not, ◌&&◌, ◌==◌}
+use Rattle.std.proofs.lemmas.Str.{IsUtf8-from_ascii, is_utf8-from_IsUtf8, IsUtf8-from_is_utf8, IsUtf8-string_bytes}
+use Rattle.std.specs.Prelude.{take_while, nat_le, not, ◌&&◌, ◌==◌, Option, Some, None, IfSome, String, string_bytes}
 use Rattle.std.specs.List.{flat_map}
-use Rattle.std.specs.Str.{is_utf8, IsAscii}
+use Rattle.std.specs.Str.{is_utf8, IsUtf8, IsAscii}
 use Rattle.feed_writers.specs.Quoting.{is_plain_byte, quoted_byte, quoted}
 use Rattle.feed_text.proofs.QuoteLemmas.{plain_run}
 
@@ -55,13 +55,23 @@ utf8_by_end at end len old new bytes within room few is text =
     let long = length-take-le len bytes few in
     utf8_as_long s (omega (arith, whole, left, base, first, second, long, is))
 
--- the same for bytes in a block
-pub utf8_in_block : (at end : ℕ) (old new bytes copied rest : List ℕ) → copied ≡ bytes → at ≤ length old → end ≤ length new → end ≡ at + length bytes + 2 → take end new ≡ take at old ++ quoted (take (length bytes) (copied ++ rest)) → is_utf8 bytes ≡ true
-utf8_in_block at end old new bytes copied rest same within room is text =
-    let whole : take (length bytes) (copied ++ rest) ≡ bytes = ap (λ (l : List ℕ). take (length bytes) (l ++ rest)) same ∙ take-append_seam bytes rest in
-    let long = length-append copied rest in
-    let copied_long = ap length same in
-    subst (λ (l : List ℕ). is_utf8 l ≡ true) whole (utf8_by_end at end (length bytes) old new (copied ++ rest) within room (omega (arith, long, copied_long)) is text)
+-- the same where there is an end
+pub utf8_by_result : (r : Option ℕ) (at len : ℕ) (old new bytes : List ℕ) → at + 18 ≤ length old → length new ≡ length old → len ≤ 16 → len ≤ length bytes → IfSome r (λ end. end ≡ at + len + 2)
+    → IfSome r (λ end. take end new ≡ take at old ++ quoted (take len bytes)) → IfSome r (λ end. is_utf8 (take len bytes) ≡ true)
+utf8_by_result None at len old new bytes room long few within is text = tt
+utf8_by_result (Some end) at len old new bytes room long few within is text = utf8_by_end at end len old new bytes (omega (arith, room)) (omega (arith, room, long, few, is)) within is text
+
+-- no bytes that aren't UTF-8
+pub utf8_refuted : (xs : List ℕ) → ¬ (IsUtf8 xs) → is_utf8 xs ≡ false
+utf8_refuted xs h = either (is_utf8 xs) refl
+  where
+    either : (b : Bool) → is_utf8 xs ≡ b → is_utf8 xs ≡ false
+    either true e = absurd (h (IsUtf8-from_is_utf8 xs e))
+    either false e = e
+
+-- the bytes of a string are UTF-8
+pub utf8_string : {Z : Type 0} (s : String Z) (bytes : List ℕ) → bytes ≡ string_bytes s → is_utf8 bytes ≡ true
+utf8_string s bytes is = rw is (is_utf8-from_IsUtf8 (string_bytes s) (IsUtf8-string_bytes s))
 
 plain_copied : (xs : List ℕ) → length (take_while is_plain_byte xs) ≡ length xs → flat_map quoted_byte xs ≡ xs
 plain_copied xs h =

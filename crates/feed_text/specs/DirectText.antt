@@ -1,4 +1,4 @@
--- What the functions that write JSON directly from the bytes append: the text of the tree that the bytes have.
+-- What the functions that write JSON directly from the bytes append: the text, in their form, of the tree that the bytes have.
 use Rattle.std.specs.Prelude.{◌≡◌, ◌+◌, ℕ, Bool, true, false, List, [], ◌∷◌, ◌++◌}
 use Rattle.std.specs.declared.result.Result.TheVariants.{Ok}
 use Rattle.std.specs.Str.{is_utf8}
@@ -7,9 +7,8 @@ use Rattle.rows_jsonb.specs.JsonTrees.{Tree, Items, Members, no_members, Scalar,
 use Rattle.rows_jsonb.specs.JsonbValues.{JsonbValue, elem_in, object_key, count_in}
 use Rattle.rows_errors.specs.Readings.{Reading}
 use Rattle.rows_jsonb.specs.DocumentTrees.{tree_of, bare_tree, items, member_trees}
-use Rattle.feed_writers.specs.Quoting.{quoted}
 use Rattle.feed_text.specs.Containers.{typed}
-use Rattle.feed_text.specs.JsonText.{document_text, scalar_text, item_texts, member_texts}
+use Rattle.feed_text.specs.DocumentForms.{Form, document_in, scalar_in, items_in, members_in}
 
 -- a comma, except before the first element
 abbrev pub separator : Bool → List ℕ
@@ -17,46 +16,46 @@ separator true = []
 separator false = 44 ∷ []
 
 -- the value is a scalar, and its text was appended
-pub record WritesScalar (value : JsonbValue) (old new : List ℕ) : Type 0 where
+pub record WritesScalar (f : Form) (value : JsonbValue) (old new : List ℕ) : Type 0 where
   pub part : Scalar
   pub is : bare_tree value ≡ Ok (scalar part, 1)
-  pub text : new ≡ old ++ scalar_text part
+  pub text : new ≡ old ++ scalar_in f part
 
 -- the value has a tree, whose text was appended, and the number of its values was subtracted from the budget
-pub record WritesTree (depth : ℕ) (value : JsonbValue) (budget left : ℕ) (old new : List ℕ) : Type 0 where
+pub record WritesTree (f : Form) (depth : ℕ) (value : JsonbValue) (budget left : ℕ) (old new : List ℕ) : Type 0 where
   pub tree : Tree
   pub count : ℕ
   pub is : tree_of depth value ≡ Ok (tree, count)
   pub taken : count + left ≡ budget
-  pub text : new ≡ old ++ document_text tree
+  pub text : new ≡ old ++ document_in f tree
 
 -- the same for the value with this type byte that the bytes begin with
-pub record WritesTyped (depth type_byte : ℕ) (bytes : List ℕ) (budget left : ℕ) (old new : List ℕ) : Type 0 where
+pub record WritesTyped (f : Form) (depth type_byte : ℕ) (bytes : List ℕ) (budget left : ℕ) (old new : List ℕ) : Type 0 where
   pub value : JsonbValue
   pub is : typed type_byte bytes ≡ Ok value
-  pub tree : WritesTree depth value budget left old new
+  pub tree : WritesTree f depth value budget left old new
 
 -- the value with this type byte that the bytes begin with is a scalar, and its text was appended
-pub record WritesTypedScalar (type_byte : ℕ) (bytes : List ℕ) (old new : List ℕ) : Type 0 where
+pub record WritesTypedScalar (f : Form) (type_byte : ℕ) (bytes : List ℕ) (old new : List ℕ) : Type 0 where
   pub value : JsonbValue
   pub is : typed type_byte bytes ≡ Ok value
-  pub scalar : WritesScalar value old new
+  pub scalar : WritesScalar f value old new
 
 -- the same for the elements of an array
-pub record WritesItems (depth : ℕ) (value : JsonbValue) (budget left : ℕ) (old new : List ℕ) : Type 0 where
+pub record WritesItems (f : Form) (depth : ℕ) (value : JsonbValue) (budget left : ℕ) (old new : List ℕ) : Type 0 where
   pub found : Items
   pub count : ℕ
   pub is : items (tree_of depth) (elem_in value) 0 (count_in value) ≡ Ok (found, count)
   pub taken : count + left ≡ budget
-  pub text : new ≡ old ++ 91 ∷ (join_with_byte 44 (item_texts found) ++ 93 ∷ [])
+  pub text : new ≡ old ++ 91 ∷ (join_with_byte 44 (items_in f found) ++ 93 ∷ [])
 
 -- the same for the members of an object
-pub record WritesMembers (depth : ℕ) (value : JsonbValue) (budget left : ℕ) (old new : List ℕ) : Type 0 where
+pub record WritesMembers (f : Form) (depth : ℕ) (value : JsonbValue) (budget left : ℕ) (old new : List ℕ) : Type 0 where
   pub found : Members
   pub count : ℕ
   pub is : member_trees (tree_of depth) (object_key value) (elem_in value) 0 (count_in value) no_members ≡ Ok (found, count)
   pub taken : count + left ≡ budget
-  pub text : new ≡ old ++ 123 ∷ (join_with_byte 44 (member_texts found) ++ 125 ∷ [])
+  pub text : new ≡ old ++ 123 ∷ (join_with_byte 44 (members_in f found) ++ 125 ∷ [])
 
 -- the member of an object with index pos
 pub record IsMember (depth : ℕ) (value : JsonbValue) (pos : ℕ) (key : List ℕ) (tree : Tree) (count : ℕ) : Type 0 where
@@ -67,16 +66,16 @@ pub record IsMember (depth : ℕ) (value : JsonbValue) (pos : ℕ) (key : List �
   pub is : tree_of depth seen ≡ Ok (tree, count)
 
 -- the same for one member
-pub record WritesMember (depth : ℕ) (value : JsonbValue) (pos budget left : ℕ) (old new : List ℕ) : Type 0 where
+pub record WritesMember (f : Form) (depth : ℕ) (value : JsonbValue) (pos budget left : ℕ) (old new : List ℕ) : Type 0 where
   pub key : List ℕ
   pub tree : Tree
   pub count : ℕ
   pub is : IsMember depth value pos key tree count
   pub taken : count + left ≡ budget
-  pub text : new ≡ old ++ (quoted key ++ (58 ∷ document_text tree))
+  pub text : new ≡ old ++ (f.key key ++ (58 ∷ document_in f tree))
 
 -- the JSON document has a tree, whose text was appended
-pub record WritesDocument (found : Reading Tree) (old new : List ℕ) : Type 0 where
+pub record WritesDocument (f : Form) (found : Reading Tree) (old new : List ℕ) : Type 0 where
   pub tree : Tree
   pub is : found ≡ Ok tree
-  pub text : new ≡ old ++ document_text tree
+  pub text : new ≡ old ++ document_in f tree

@@ -4,6 +4,7 @@ pub mod TextPieces
 pub mod Times
 pub mod ValueText
 pub mod DecimalText
+pub mod DocumentForms
 pub mod JsonText
 pub mod ShortTexts
 pub mod DiffText

@@ -16,6 +16,7 @@ float_text bits = 102 ∷ encode_lower (to_be_bytes w32 bits)
 abbrev pub double_text : ℕ → List ℕ
 double_text bits = 100 ∷ encode_lower (to_be_bytes w64 bits)
 
+-- the text of a value: NULL, bytes in quotes, digits (after `u` if unsigned), the bits of a FLOAT or DOUBLE, a date, or a time
 unfoldable pub value_text : Value → List ℕ
 value_text NULL = codes "NULL"
 value_text (Bytes bytes) = quoted bytes.items

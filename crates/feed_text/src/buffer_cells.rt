@@ -9,6 +9,7 @@ ghost use Rattle.rows_cells.specs.CellViews.{cell_value};
 ghost use Rattle.feed_text.specs.CellText.{label, cell_text, Appends, IsCellError};
 ghost use Rattle.feed_text.specs.NamelessFaults.{HasNamelessContent};
 ghost use Rattle.feed_text.specs.DirectText.{WritesDocument};
+ghost use Rattle.feed_text.specs.JsonText.{feed_form};
 ghost use Rattle.feed_text.specs.DecimalText.{quoted_decimal, AppendsSome, IsDecimalError};
 ghost use Rattle.feed_text.specs.TextPieces.{IsAppendError};
 ghost use Rattle.feed_text.specs.ShortTexts.{short_text};
@@ -17,6 +18,7 @@ use crate::buffer::TextBuffer;
 use crate::cells::{LABEL_LEN_MAX, put_cell_ref, put_label};
 use crate::decimals::write_quoted;
 use crate::direct::write_document;
+use crate::feed_form::FeedForm;
 use crate::parts::CellContent;
 use crate::short::{FEW_DIGITS, SHORT_BYTES_MAX, SHORT_LEN_MAX, Short, put_short};
 use feed_writers::{put_byte, put_quoted, put_quoted_content};
@@ -189,12 +191,12 @@ impl<A: Allocator> TextBuffer<A> {
     fn truncate_and_put_direct(&mut self, start: usize, bytes: &[u8]) -> bool
         requires room { start + 76 ≤ length self.old.bytes.items }
         requires following { self.old.len ≤ start }
-        ensures yes { IsTrue result → WritesDocument (document_tree bytes.now) (take start self.old.bytes.items) (text_in self.new) }
+        ensures yes { IsTrue result → WritesDocument feed_form (document_tree bytes.now) (take start self.old.bytes.items) (text_in self.new) }
         ensures no { result ≡ false → text_in self.new ≡ text_in self.old }
     {
         let old = self.len;
         self.len = start;
-        let Ok(()) = write_document(self, bytes) else {
+        let Ok(()) = write_document::<A, FeedForm>(self, bytes) else {
             self.len = old;
             return false;
         };

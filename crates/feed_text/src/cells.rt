@@ -20,6 +20,7 @@ ghost use Rattle.feed_text.specs.NamelessFaults.{IsNamelessDocument, HasNameless
 use crate::decimals::put_decimal;
 use crate::diffs::append_diffs;
 use crate::documents::put_json;
+use crate::feed_form::FeedForm;
 use crate::parts::CellContent;
 use crate::quoting::quote;
 use crate::short::{SHORT_LEN_MAX, Short, put_short};
@@ -232,7 +233,7 @@ fn put_diffs_cell<A: Allocator>(
         Ok(()) => {}
         Err(fault) => return Err(fault),
     }
-    match append_diffs(alloc, diffs, out) {
+    match append_diffs::<A, FeedForm>(alloc, diffs, out) {
         Ok(()) => Ok(()),
         Err(fault) => {
             out.truncate(start);
@@ -242,7 +243,7 @@ fn put_diffs_cell<A: Allocator>(
 }
 
 /// Parses a JSON document.
-fn tree_of(alloc: Global, bytes: &[u8]) -> Result<JsonDom, RowsError>
+pub(crate) fn tree_of(alloc: Global, bytes: &[u8]) -> Result<JsonDom, RowsError>
     ensures tree { Parses view result (document_tree bytes.now) }
     ensures nameless { IfErr result (λ e. e ≡ Jsonb None → IsNamelessDocument bytes.now) }
 {

@@ -14,6 +14,7 @@ ghost use Rattle.feed_text.specs.DirectText.{separator, WritesTyped, WritesTyped
 use crate::buffer::TextBuffer;
 use crate::direct_parts::{Container, NotDirect};
 use crate::direct_scalars::write_scalar;
+use crate::document_form::DocumentForm;
 use crate::key_order::put_order;
 use crate::short_strings::{append_key, append_separator};
 use arrayvec::ArrayVec;
@@ -27,34 +28,34 @@ const LAST_CONTAINER: u8 = 3;
 /// An error may leave a part of the text.
 #[cycle(direct)]
 #[inline(always)]
-fn write_value<A: Allocator>(
+fn write_value<A: Allocator, F: DocumentForm>(
     out: &mut TextBuffer<A>,
     type_byte: u8,
     bytes: &[u8],
     depth: usize,
     budget: &mut usize,
 ) -> Result<(), NotDirect>
-    ensures ok { OnOk result (WritesTyped depth type_byte bytes.now budget.old budget.new (text_in out.old) (text_in out.new)) }
+    ensures ok { OnOk result (WritesTyped F.form depth type_byte bytes.now budget.old budget.new (text_in out.old) (text_in out.new)) }
     ensures kept { take (length (text_in out.old)) (text_in out.new) ≡ text_in out.old }
 {
     match type_byte {
-        0 => write_small_object(out, bytes, depth, budget),
-        1 => write_large_object(out, bytes, depth, budget),
-        2 => write_small_array(out, bytes, depth, budget),
-        3 => write_large_array(out, bytes, depth, budget),
-        _ => write_counted_scalar(out, type_byte, bytes, budget),
+        0 => write_small_object::<A, F>(out, bytes, depth, budget),
+        1 => write_large_object::<A, F>(out, bytes, depth, budget),
+        2 => write_small_array::<A, F>(out, bytes, depth, budget),
+        3 => write_large_array::<A, F>(out, bytes, depth, budget),
+        _ => write_counted_scalar::<A, F>(out, type_byte, bytes, budget),
     }
 }
 
 /// Appends the text of a scalar, and subtracts one from `budget`. An error appends nothing.
 #[inline(always)]
-fn write_counted_scalar<A: Allocator>(
+fn write_counted_scalar<A: Allocator, F: DocumentForm>(
     out: &mut TextBuffer<A>,
     type_byte: u8,
     bytes: &[u8],
     budget: &mut usize,
 ) -> Result<(), NotDirect>
-    ensures ok { OnOk result (WritesTypedScalar type_byte bytes.now (text_in out.old) (text_in out.new)) }
+    ensures ok { OnOk result (WritesTypedScalar F.form type_byte bytes.now (text_in out.old) (text_in out.new)) }
     ensures counted { OnOk result (budget.new + 1 ≡ budget.old) }
     ensures err { OnErr result (text_in out.new ≡ text_in out.old) }
 {
@@ -62,123 +63,123 @@ fn write_counted_scalar<A: Allocator>(
         return Err(NotDirect);
     }
     *budget -= 1;
-    write_scalar(out, type_byte, bytes)
+    write_scalar::<A, F>(out, type_byte, bytes)
 }
 
 /// Appends the text of the object with offsets of two bytes that the bytes begin with. An error may leave a part of it.
 #[cycle(direct)]
 #[inline(never)]
-fn write_small_object<A: Allocator>(
+fn write_small_object<A: Allocator, F: DocumentForm>(
     out: &mut TextBuffer<A>,
     bytes: &[u8],
     depth: usize,
     budget: &mut usize,
 ) -> Result<(), NotDirect>
-    ensures ok { OnOk result (WritesTyped depth 0 bytes.now budget.old budget.new (text_in out.old) (text_in out.new)) }
+    ensures ok { OnOk result (WritesTyped F.form depth 0 bytes.now budget.old budget.new (text_in out.old) (text_in out.new)) }
     ensures kept { take (length (text_in out.old)) (text_in out.new) ≡ text_in out.old }
 {
     let container = Container::read(false, false, bytes)?;
-    write_object(out, &container, depth, budget)
+    write_object::<A, F>(out, &container, depth, budget)
 }
 
 /// Appends the text of the object with offsets of four bytes that the bytes begin with. An error may leave a part of it.
 #[cycle(direct)]
 #[inline(never)]
-fn write_large_object<A: Allocator>(
+fn write_large_object<A: Allocator, F: DocumentForm>(
     out: &mut TextBuffer<A>,
     bytes: &[u8],
     depth: usize,
     budget: &mut usize,
 ) -> Result<(), NotDirect>
-    ensures ok { OnOk result (WritesTyped depth 1 bytes.now budget.old budget.new (text_in out.old) (text_in out.new)) }
+    ensures ok { OnOk result (WritesTyped F.form depth 1 bytes.now budget.old budget.new (text_in out.old) (text_in out.new)) }
     ensures kept { take (length (text_in out.old)) (text_in out.new) ≡ text_in out.old }
 {
     let container = Container::read(true, false, bytes)?;
-    write_object(out, &container, depth, budget)
+    write_object::<A, F>(out, &container, depth, budget)
 }
 
 /// Appends the text of the array with offsets of two bytes that the bytes begin with. An error may leave a part of it.
 #[cycle(direct)]
 #[inline(never)]
-fn write_small_array<A: Allocator>(
+fn write_small_array<A: Allocator, F: DocumentForm>(
     out: &mut TextBuffer<A>,
     bytes: &[u8],
     depth: usize,
     budget: &mut usize,
 ) -> Result<(), NotDirect>
-    ensures ok { OnOk result (WritesTyped depth 2 bytes.now budget.old budget.new (text_in out.old) (text_in out.new)) }
+    ensures ok { OnOk result (WritesTyped F.form depth 2 bytes.now budget.old budget.new (text_in out.old) (text_in out.new)) }
     ensures kept { take (length (text_in out.old)) (text_in out.new) ≡ text_in out.old }
 {
     let container = Container::read(false, true, bytes)?;
-    write_array(out, &container, depth, budget)
+    write_array::<A, F>(out, &container, depth, budget)
 }
 
 /// Appends the text of the array with offsets of four bytes that the bytes begin with. An error may leave a part of it.
 #[cycle(direct)]
 #[inline(never)]
-fn write_large_array<A: Allocator>(
+fn write_large_array<A: Allocator, F: DocumentForm>(
     out: &mut TextBuffer<A>,
     bytes: &[u8],
     depth: usize,
     budget: &mut usize,
 ) -> Result<(), NotDirect>
-    ensures ok { OnOk result (WritesTyped depth 3 bytes.now budget.old budget.new (text_in out.old) (text_in out.new)) }
+    ensures ok { OnOk result (WritesTyped F.form depth 3 bytes.now budget.old budget.new (text_in out.old) (text_in out.new)) }
     ensures kept { take (length (text_in out.old)) (text_in out.new) ≡ text_in out.old }
 {
     let container = Container::read(true, true, bytes)?;
-    write_array(out, &container, depth, budget)
+    write_array::<A, F>(out, &container, depth, budget)
 }
 
 /// Appends the text of an array. An error may leave a part of it.
 #[cycle(direct)]
 #[inline(always)]
-fn write_array<A: Allocator>(
+fn write_array<A: Allocator, F: DocumentForm>(
     out: &mut TextBuffer<A>,
     array: &Container<'_>,
     depth: usize,
     budget: &mut usize,
 ) -> Result<(), NotDirect>
     requires { array.now.is_array ≡ true }
-    ensures ok { OnOk result (WritesTree depth (value_of array.now) budget.old budget.new (text_in out.old) (text_in out.new)) }
+    ensures ok { OnOk result (WritesTree F.form depth (value_of array.now) budget.old budget.new (text_in out.old) (text_in out.new)) }
     ensures kept { take (length (text_in out.old)) (text_in out.new) ≡ text_in out.old }
 {
     if depth == 0 || *budget == 0 {
         return Err(NotDirect);
     }
     *budget -= 1;
-    write_items(out, array, depth - 1, budget)
+    write_items::<A, F>(out, array, depth - 1, budget)
 }
 
 /// Appends the text of an object. An error may leave a part of it.
 #[cycle(direct)]
 #[inline(always)]
-fn write_object<A: Allocator>(
+fn write_object<A: Allocator, F: DocumentForm>(
     out: &mut TextBuffer<A>,
     object: &Container<'_>,
     depth: usize,
     budget: &mut usize,
 ) -> Result<(), NotDirect>
     requires { object.now.is_array ≡ false }
-    ensures ok { OnOk result (WritesTree depth (value_of object.now) budget.old budget.new (text_in out.old) (text_in out.new)) }
+    ensures ok { OnOk result (WritesTree F.form depth (value_of object.now) budget.old budget.new (text_in out.old) (text_in out.new)) }
     ensures kept { take (length (text_in out.old)) (text_in out.new) ≡ text_in out.old }
 {
     if depth == 0 || *budget == 0 {
         return Err(NotDirect);
     }
     *budget -= 1;
-    write_members(out, object, depth - 1, budget)
+    write_members::<A, F>(out, object, depth - 1, budget)
 }
 
 /// Appends the elements of an array in brackets. An error may leave a part of this.
 #[cycle(direct)]
 #[inline(always)]
-fn write_items<A: Allocator>(
+fn write_items<A: Allocator, F: DocumentForm>(
     out: &mut TextBuffer<A>,
     array: &Container<'_>,
     depth: usize,
     budget: &mut usize,
 ) -> Result<(), NotDirect>
-    ensures ok { OnOk result (WritesItems depth (value_of array.now) budget.old budget.new (text_in out.old) (text_in out.new)) }
+    ensures ok { OnOk result (WritesItems F.form depth (value_of array.now) budget.old budget.new (text_in out.old) (text_in out.new)) }
     ensures kept { take (length (text_in out.old)) (text_in out.new) ≡ text_in out.old }
 {
     out.put(b'[')?;
@@ -186,7 +187,7 @@ fn write_items<A: Allocator>(
     'items: for pos in 0..array.count {
         append_separator(out, is_first)?;
         let (type_byte, bytes) = array.value_at(pos)?;
-        write_value(out, type_byte, bytes, depth, budget)?;
+        write_value::<A, F>(out, type_byte, bytes, depth, budget)?;
         is_first = false;
     }
     out.put(b']')?;
@@ -196,14 +197,14 @@ fn write_items<A: Allocator>(
 /// Appends the members of an object in braces. An error may leave a part of this.
 #[cycle(direct)]
 #[inline(always)]
-fn write_members<A: Allocator>(
+fn write_members<A: Allocator, F: DocumentForm>(
     out: &mut TextBuffer<A>,
     object: &Container<'_>,
     depth: usize,
     budget: &mut usize,
 ) -> Result<(), NotDirect>
     requires { object.now.is_array ≡ false }
-    ensures ok { OnOk result (WritesMembers depth (value_of object.now) budget.old budget.new (text_in out.old) (text_in out.new)) }
+    ensures ok { OnOk result (WritesMembers F.form depth (value_of object.now) budget.old budget.new (text_in out.old) (text_in out.new)) }
     ensures kept { take (length (text_in out.old)) (text_in out.new) ≡ text_in out.old }
 {
     let mut order = ArrayVec::new();
@@ -212,7 +213,7 @@ fn write_members<A: Allocator>(
     out.put(b'{')?;
     let mut is_first = true;
     'members: for pos in order {
-        write_member(out, is_first, object, u32::from(*pos), depth, budget)?;
+        write_member::<A, F>(out, is_first, object, u32::from(*pos), depth, budget)?;
         is_first = false;
     }
     out.put(b'}')?;
@@ -222,7 +223,7 @@ fn write_members<A: Allocator>(
 /// Appends the text of a member of an object, after a comma unless `is_first`. An error may leave a part of it.
 #[cycle(direct)]
 #[inline(always)]
-fn write_member<A: Allocator>(
+fn write_member<A: Allocator, F: DocumentForm>(
     out: &mut TextBuffer<A>,
     is_first: bool,
     object: &Container<'_>,
@@ -233,24 +234,24 @@ fn write_member<A: Allocator>(
     requires object { object.now.is_array ≡ false }
     requires below { pos < object.now.count }
     requires known { IsFound (object_key (value_of object.now) pos) }
-    ensures ok { OnOk result (WritesMember depth (value_of object.now) pos budget.old budget.new (text_in out.old ++ separator is_first) (text_in out.new)) }
+    ensures ok { OnOk result (WritesMember F.form depth (value_of object.now) pos budget.old budget.new (text_in out.old ++ separator is_first) (text_in out.new)) }
     ensures kept { take (length (text_in out.old)) (text_in out.new) ≡ text_in out.old }
 {
     let (key, len) = object.known_key_at(pos);
-    append_key(out, is_first, key, len)?;
+    append_key::<A, F>(out, is_first, key, len)?;
     let (type_byte, bytes) = object.value_at(pos)?;
-    write_value(out, type_byte, bytes, depth, budget)
+    write_value::<A, F>(out, type_byte, bytes, depth, budget)
 }
 
 /// The maximum number of nested containers.
 const MAX_DEPTH: usize = 100;
 
 /// Appends the text of a JSON document that is a container. An error may leave a part of it.
-pub(crate) fn write_document<A: Allocator>(
+pub(crate) fn write_document<A: Allocator, F: DocumentForm>(
     out: &mut TextBuffer<A>,
     bytes: &[u8],
 ) -> Result<(), NotDirect>
-    ensures ok { OnOk result (WritesDocument (document_tree bytes.now) (text_in out.old) (text_in out.new)) }
+    ensures ok { OnOk result (WritesDocument F.form (document_tree bytes.now) (text_in out.old) (text_in out.new)) }
     ensures kept { take (length (text_in out.old)) (text_in out.new) ≡ text_in out.old }
 {
     if bytes.is_empty() || bytes[0] > LAST_CONTAINER {
@@ -261,5 +262,5 @@ pub(crate) fn write_document<A: Allocator>(
         return Err(NotDirect);
     };
     let mut budget = document.bytes.len() + 1;
-    write_value(out, first[0], rest, MAX_DEPTH, &mut budget)
+    write_value::<A, F>(out, first[0], rest, MAX_DEPTH, &mut budget)
 }

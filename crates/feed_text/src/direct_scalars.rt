@@ -1,51 +1,57 @@
 //! The scalars of JSON documents, directly from MySQL's binary JSON.
 
-ghost use Rattle.std.specs.Prelude.{◌≡◌, ◌++◌, ◌∷◌, OnOk, OnErr};
-ghost use Rattle.std.specs.Fmt.{decimal, signed_decimal};
+ghost use Rattle.std.specs.Prelude.{◌≡◌, ◌++◌, OnOk, OnErr};
+ghost use Rattle.std.specs.Fmt.{signed_decimal};
 ghost use Rattle.feed_text.specs.Buffers.{text_in};
-ghost use Rattle.feed_text.specs.ValueText.{double_text};
 ghost use Rattle.feed_text.specs.DirectText.{WritesTypedScalar};
 
 use crate::buffer::TextBuffer;
 use crate::direct_parts::NotDirect;
+use crate::document_form::DocumentForm;
 use crate::short_strings::append_first;
 use byteorder::{ByteOrder, LittleEndian};
-use feed_writers::{put_byte, put_hexadecimal, put_number, put_signed};
+use feed_writers::put_signed;
 use std::alloc::Allocator;
 use wire_buf::ParseBuf;
 use wire_fields::{IntRepr, VarLen};
 
-/// The maximum length of a number's text in bytes.
+/// The maximum length of an integer's text in bytes.
 const NUMBER_LEN_MAX: usize = 24;
+
+/// The room for a double's text in bytes.
+const DOUBLE_ROOM: usize = 32;
 
 /// Appends the text of the scalar with this type byte that the bytes begin with, or nothing. It gives up on opaque values.
 #[inline(always)]
-pub(crate) fn write_scalar<A: Allocator>(
+pub(crate) fn write_scalar<A: Allocator, F: DocumentForm>(
     out: &mut TextBuffer<A>,
     type_byte: u8,
     bytes: &[u8],
 ) -> Result<(), NotDirect>
-    ensures ok { OnOk result (WritesTypedScalar type_byte bytes.now (text_in out.old) (text_in out.new)) }
+    ensures ok { OnOk result (WritesTypedScalar F.form type_byte bytes.now (text_in out.old) (text_in out.new)) }
     ensures err { OnErr result (text_in out.new ≡ text_in out.old) }
 {
     match type_byte {
-        4 => append_literal(out, bytes),
-        5 => append_i16(out, bytes),
-        6 => append_u16(out, bytes),
-        7 => append_i32(out, bytes),
-        8 => append_u32(out, bytes),
-        9 => append_i64(out, bytes),
-        10 => append_u64(out, bytes),
-        11 => append_f64(out, bytes),
-        12 => append_counted(out, bytes),
+        4 => append_literal::<A, F>(out, bytes),
+        5 => append_i16::<A, F>(out, bytes),
+        6 => append_u16::<A, F>(out, bytes),
+        7 => append_i32::<A, F>(out, bytes),
+        8 => append_u32::<A, F>(out, bytes),
+        9 => append_i64::<A, F>(out, bytes),
+        10 => append_u64::<A, F>(out, bytes),
+        11 => append_f64::<A, F>(out, bytes),
+        12 => append_counted::<A, F>(out, bytes),
         _ => Err(NotDirect),
     }
 }
 
 /// Appends `null`, `true` or `false`, or nothing.
 #[inline(always)]
-fn append_literal<A: Allocator>(out: &mut TextBuffer<A>, bytes: &[u8]) -> Result<(), NotDirect>
-    ensures ok { OnOk result (WritesTypedScalar 4 bytes.now (text_in out.old) (text_in out.new)) }
+fn append_literal<A: Allocator, F: DocumentForm>(
+    out: &mut TextBuffer<A>,
+    bytes: &[u8],
+) -> Result<(), NotDirect>
+    ensures ok { OnOk result (WritesTypedScalar F.form 4 bytes.now (text_in out.old) (text_in out.new)) }
     ensures err { OnErr result (text_in out.new ≡ text_in out.old) }
 {
     if bytes.is_empty() {
@@ -61,8 +67,11 @@ fn append_literal<A: Allocator>(out: &mut TextBuffer<A>, bytes: &[u8]) -> Result
 
 /// Appends a signed number of 16 bits, or nothing.
 #[inline(never)]
-fn append_i16<A: Allocator>(out: &mut TextBuffer<A>, bytes: &[u8]) -> Result<(), NotDirect>
-    ensures ok { OnOk result (WritesTypedScalar 5 bytes.now (text_in out.old) (text_in out.new)) }
+fn append_i16<A: Allocator, F: DocumentForm>(
+    out: &mut TextBuffer<A>,
+    bytes: &[u8],
+) -> Result<(), NotDirect>
+    ensures ok { OnOk result (WritesTypedScalar F.form 5 bytes.now (text_in out.old) (text_in out.new)) }
     ensures err { OnErr result (text_in out.new ≡ text_in out.old) }
 {
     let Some(number) = ParseBuf(bytes).checked_eat_i16_le() else {
@@ -73,20 +82,26 @@ fn append_i16<A: Allocator>(out: &mut TextBuffer<A>, bytes: &[u8]) -> Result<(),
 
 /// Appends an unsigned number of 16 bits, or nothing.
 #[inline(never)]
-fn append_u16<A: Allocator>(out: &mut TextBuffer<A>, bytes: &[u8]) -> Result<(), NotDirect>
-    ensures ok { OnOk result (WritesTypedScalar 6 bytes.now (text_in out.old) (text_in out.new)) }
+fn append_u16<A: Allocator, F: DocumentForm>(
+    out: &mut TextBuffer<A>,
+    bytes: &[u8],
+) -> Result<(), NotDirect>
+    ensures ok { OnOk result (WritesTypedScalar F.form 6 bytes.now (text_in out.old) (text_in out.new)) }
     ensures err { OnErr result (text_in out.new ≡ text_in out.old) }
 {
     let Some(number) = ParseBuf(bytes).checked_eat_u16_le() else {
         return Err(NotDirect);
     };
-    append_uint(out, u64::from(number))
+    append_uint::<A, F>(out, u64::from(number))
 }
 
 /// Appends a signed number of 32 bits, or nothing.
 #[inline(never)]
-fn append_i32<A: Allocator>(out: &mut TextBuffer<A>, bytes: &[u8]) -> Result<(), NotDirect>
-    ensures ok { OnOk result (WritesTypedScalar 7 bytes.now (text_in out.old) (text_in out.new)) }
+fn append_i32<A: Allocator, F: DocumentForm>(
+    out: &mut TextBuffer<A>,
+    bytes: &[u8],
+) -> Result<(), NotDirect>
+    ensures ok { OnOk result (WritesTypedScalar F.form 7 bytes.now (text_in out.old) (text_in out.new)) }
     ensures err { OnErr result (text_in out.new ≡ text_in out.old) }
 {
     let Some(number) = ParseBuf(bytes).checked_eat_i32_le() else {
@@ -97,20 +112,26 @@ fn append_i32<A: Allocator>(out: &mut TextBuffer<A>, bytes: &[u8]) -> Result<(),
 
 /// Appends an unsigned number of 32 bits, or nothing.
 #[inline(never)]
-fn append_u32<A: Allocator>(out: &mut TextBuffer<A>, bytes: &[u8]) -> Result<(), NotDirect>
-    ensures ok { OnOk result (WritesTypedScalar 8 bytes.now (text_in out.old) (text_in out.new)) }
+fn append_u32<A: Allocator, F: DocumentForm>(
+    out: &mut TextBuffer<A>,
+    bytes: &[u8],
+) -> Result<(), NotDirect>
+    ensures ok { OnOk result (WritesTypedScalar F.form 8 bytes.now (text_in out.old) (text_in out.new)) }
     ensures err { OnErr result (text_in out.new ≡ text_in out.old) }
 {
     let Some(number) = ParseBuf(bytes).checked_eat_u32_le() else {
         return Err(NotDirect);
     };
-    append_uint(out, u64::from(number))
+    append_uint::<A, F>(out, u64::from(number))
 }
 
 /// Appends a signed number of 64 bits, or nothing.
 #[inline(never)]
-fn append_i64<A: Allocator>(out: &mut TextBuffer<A>, bytes: &[u8]) -> Result<(), NotDirect>
-    ensures ok { OnOk result (WritesTypedScalar 9 bytes.now (text_in out.old) (text_in out.new)) }
+fn append_i64<A: Allocator, F: DocumentForm>(
+    out: &mut TextBuffer<A>,
+    bytes: &[u8],
+) -> Result<(), NotDirect>
+    ensures ok { OnOk result (WritesTypedScalar F.form 9 bytes.now (text_in out.old) (text_in out.new)) }
     ensures err { OnErr result (text_in out.new ≡ text_in out.old) }
 {
     let Some(number) = ParseBuf(bytes).checked_eat_i64_le() else {
@@ -121,49 +142,61 @@ fn append_i64<A: Allocator>(out: &mut TextBuffer<A>, bytes: &[u8]) -> Result<(),
 
 /// Appends an unsigned number of 64 bits, or nothing.
 #[inline(never)]
-fn append_u64<A: Allocator>(out: &mut TextBuffer<A>, bytes: &[u8]) -> Result<(), NotDirect>
-    ensures ok { OnOk result (WritesTypedScalar 10 bytes.now (text_in out.old) (text_in out.new)) }
+fn append_u64<A: Allocator, F: DocumentForm>(
+    out: &mut TextBuffer<A>,
+    bytes: &[u8],
+) -> Result<(), NotDirect>
+    ensures ok { OnOk result (WritesTypedScalar F.form 10 bytes.now (text_in out.old) (text_in out.new)) }
     ensures err { OnErr result (text_in out.new ≡ text_in out.old) }
 {
     let Some(number) = ParseBuf(bytes).checked_eat_u64_le() else {
         return Err(NotDirect);
     };
-    append_uint(out, number)
+    append_uint::<A, F>(out, number)
 }
 
 /// Appends a double, or nothing.
 #[inline(always)]
-fn append_f64<A: Allocator>(out: &mut TextBuffer<A>, bytes: &[u8]) -> Result<(), NotDirect>
-    ensures ok { OnOk result (WritesTypedScalar 11 bytes.now (text_in out.old) (text_in out.new)) }
+fn append_f64<A: Allocator, F: DocumentForm>(
+    out: &mut TextBuffer<A>,
+    bytes: &[u8],
+) -> Result<(), NotDirect>
+    ensures ok { OnOk result (WritesTypedScalar F.form 11 bytes.now (text_in out.old) (text_in out.new)) }
     ensures err { OnErr result (text_in out.new ≡ text_in out.old) }
 {
     let Some(bits) = ParseBuf(bytes).checked_eat_u64_le() else {
         return Err(NotDirect);
     };
-    append_double(out, bits)
+    append_double::<A, F>(out, bits)
 }
 
 /// Appends a string that is after its length, or nothing.
 #[inline(always)]
-fn append_counted<A: Allocator>(out: &mut TextBuffer<A>, bytes: &[u8]) -> Result<(), NotDirect>
-    ensures ok { OnOk result (WritesTypedScalar 12 bytes.now (text_in out.old) (text_in out.new)) }
+fn append_counted<A: Allocator, F: DocumentForm>(
+    out: &mut TextBuffer<A>,
+    bytes: &[u8],
+) -> Result<(), NotDirect>
+    ensures ok { OnOk result (WritesTypedScalar F.form 12 bytes.now (text_in out.old) (text_in out.new)) }
     ensures err { OnErr result (text_in out.new ≡ text_in out.old) }
 {
     if bytes.is_empty() || bytes[0] >= 128 {
-        return append_long(out, bytes);
+        return append_long::<A, F>(out, bytes);
     }
     let (first, rest) = bytes.split_at(1);
     let len = usize::from(first[0]);
     if rest.len() < len {
         return Err(NotDirect);
     }
-    append_first(out, rest, len)
+    append_first::<A, F>(out, rest, len)
 }
 
 /// Appends a string that is after its length in any number of bytes, or nothing.
 #[inline(never)]
-fn append_long<A: Allocator>(out: &mut TextBuffer<A>, bytes: &[u8]) -> Result<(), NotDirect>
-    ensures ok { OnOk result (WritesTypedScalar 12 bytes.now (text_in out.old) (text_in out.new)) }
+fn append_long<A: Allocator, F: DocumentForm>(
+    out: &mut TextBuffer<A>,
+    bytes: &[u8],
+) -> Result<(), NotDirect>
+    ensures ok { OnOk result (WritesTypedScalar F.form 12 bytes.now (text_in out.old) (text_in out.new)) }
     ensures err { OnErr result (text_in out.new ≡ text_in out.old) }
 {
     let mut rest = ParseBuf(bytes);
@@ -173,7 +206,7 @@ fn append_long<A: Allocator>(out: &mut TextBuffer<A>, bytes: &[u8]) -> Result<()
     if rest.len() < len as usize {
         return Err(NotDirect);
     }
-    append_first(out, rest.0, len as usize)
+    append_first::<A, F>(out, rest.0, len as usize)
 }
 
 /// Appends bytes, or nothing.
@@ -197,26 +230,28 @@ fn append_int<A: Allocator>(out: &mut TextBuffer<A>, number: i64) -> Result<(), 
     Ok(())
 }
 
-/// Appends `u` and an unsigned integer, or nothing.
-fn append_uint<A: Allocator>(out: &mut TextBuffer<A>, number: u64) -> Result<(), NotDirect>
-    ensures ok { OnOk result (text_in out.new ≡ text_in out.old ++ (117 ∷ decimal number)) }
+/// Appends an unsigned integer, or nothing.
+fn append_uint<A: Allocator, F: DocumentForm>(
+    out: &mut TextBuffer<A>,
+    number: u64,
+) -> Result<(), NotDirect>
+    ensures ok { OnOk result (text_in out.new ≡ text_in out.old ++ F.form.uint number) }
     ensures err { OnErr result (text_in out.new ≡ text_in out.old) }
 {
     out.reserve(NUMBER_LEN_MAX)?;
-    let text = out.bytes.as_mut_slice();
-    let end = put_byte(text, out.len, b'u');
-    out.len = put_number(text, end, number);
+    out.len = F::put_uint(out.bytes.as_mut_slice(), out.len, number);
     Ok(())
 }
 
-/// Appends `d` and the hexadecimal digits of a double's bits, or nothing.
-fn append_double<A: Allocator>(out: &mut TextBuffer<A>, bits: u64) -> Result<(), NotDirect>
-    ensures ok { OnOk result (text_in out.new ≡ text_in out.old ++ double_text bits) }
+/// Appends a double, or nothing.
+fn append_double<A: Allocator, F: DocumentForm>(
+    out: &mut TextBuffer<A>,
+    bits: u64,
+) -> Result<(), NotDirect>
+    ensures ok { OnOk result (text_in out.new ≡ text_in out.old ++ F.form.double bits) }
     ensures err { OnErr result (text_in out.new ≡ text_in out.old) }
 {
-    out.reserve(NUMBER_LEN_MAX)?;
-    let text = out.bytes.as_mut_slice();
-    let end = put_byte(text, out.len, b'd');
-    out.len = put_hexadecimal(text, end, &bits.to_be_bytes());
+    out.reserve(DOUBLE_ROOM)?;
+    out.len = F::put_double(out.bytes.as_mut_slice(), out.len, bits);
     Ok(())
 }

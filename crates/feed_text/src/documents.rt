@@ -4,10 +4,12 @@ ghost use Rattle.std.specs.Prelude.{◌≡◌, ◌++◌, OnOk, IfErr, length, ta
 ghost use Rattle.rows_jsonb.specs.JsonTrees.{array, object};
 ghost use Rattle.rows_jsonb.specs.JsonTreeViews.{view, items_view, members_view};
 ghost use Rattle.feed_text.specs.TextPieces.{IsAppendError};
+ghost use Rattle.feed_text.specs.DocumentForms.{document_in};
 ghost use Rattle.feed_text.specs.JsonText.{document_text};
 
-use crate::json_scalars::append_scalar;
-use crate::quoting::quote;
+use crate::document_form::DocumentForm;
+use crate::feed_form::FeedForm;
+use crate::json_scalars::{append_key, append_scalar};
 use rows_errors::RowsError;
 use rows_jsonb::{JsonContainer, JsonDom};
 use std::alloc::Allocator;
@@ -31,8 +33,19 @@ pub fn put_json<A: Allocator>(document: &JsonDom, out: &mut Vec<u8, A>) -> Resul
     ensures ok { OnOk result (out.new.items ≡ out.old.items ++ document_text (view document.now)) }
     ensures err { IfErr result (λ e. IsAppendError e out.old.items out.new.items) }
 {
+    put_tree::<A, FeedForm>(document, out)
+}
+
+/// Appends the text of a JSON document in a form. `Memory`: out of memory; nothing is appended.
+pub fn put_tree<A: Allocator, F: DocumentForm>(
+    document: &JsonDom,
+    out: &mut Vec<u8, A>,
+) -> Result<(), RowsError>
+    ensures ok { OnOk result (out.new.items ≡ out.old.items ++ document_in F.form (view document.now)) }
+    ensures err { IfErr result (λ e. IsAppendError e out.old.items out.new.items) }
+{
     let start = out.len();
-    let Ok(()) = append_document(document, out) else {
+    let Ok(()) = append_document::<A, F>(document, out) else {
         out.truncate(start);
         return Err(RowsError::Memory);
     };
@@ -41,28 +54,34 @@ pub fn put_json<A: Allocator>(document: &JsonDom, out: &mut Vec<u8, A>) -> Resul
 
 /// Appends the text of a JSON document. An error may leave a part of it.
 #[cycle(document)]
-fn append_document<A: Allocator>(document: &JsonDom, out: &mut Vec<u8, A>) -> Result<(), RowsError>
-    ensures ok { OnOk result (out.new.items ≡ out.old.items ++ document_text (view document.now)) }
+fn append_document<A: Allocator, F: DocumentForm>(
+    document: &JsonDom,
+    out: &mut Vec<u8, A>,
+) -> Result<(), RowsError>
+    ensures ok { OnOk result (out.new.items ≡ out.old.items ++ document_in F.form (view document.now)) }
     ensures kept { take (length out.old.items) out.new.items ≡ out.old.items }
 {
     match document {
-        JsonDom::Scalar(scalar) => append_scalar(scalar, out),
-        JsonDom::Container(JsonContainer::Array(items)) => append_items(items, out),
-        JsonDom::Container(JsonContainer::Object(members)) => append_members(members, out),
+        JsonDom::Scalar(scalar) => append_scalar::<A, F>(scalar, out),
+        JsonDom::Container(JsonContainer::Array(items)) => append_items::<A, F>(items, out),
+        JsonDom::Container(JsonContainer::Object(members)) => append_members::<A, F>(members, out),
     }
 }
 
 /// Appends the text of an array. An error may leave a part of it.
 #[cycle(document)]
-fn append_items<A: Allocator>(items: &Vec<JsonDom>, out: &mut Vec<u8, A>) -> Result<(), RowsError>
-    ensures ok { OnOk result (out.new.items ≡ out.old.items ++ document_text (array (items_view items.now.items))) }
+fn append_items<A: Allocator, F: DocumentForm>(
+    items: &Vec<JsonDom>,
+    out: &mut Vec<u8, A>,
+) -> Result<(), RowsError>
+    ensures ok { OnOk result (out.new.items ≡ out.old.items ++ document_in F.form (array (items_view items.now.items))) }
     ensures kept { take (length out.old.items) out.new.items ≡ out.old.items }
 {
     out.push(b'[')?;
     let mut separator = b"".as_slice();
     for item in items {
         out.extend_from_slice(separator)?;
-        append_document(item, out)?;
+        append_document::<A, F>(item, out)?;
         separator = b",".as_slice();
     }
     out.push(b']')?;
@@ -71,20 +90,20 @@ fn append_items<A: Allocator>(items: &Vec<JsonDom>, out: &mut Vec<u8, A>) -> Res
 
 /// Appends the text of an object. An error may leave a part of it.
 #[cycle(document)]
-fn append_members<A: Allocator>(
+fn append_members<A: Allocator, F: DocumentForm>(
     members: &BTreeMap<String, JsonDom>,
     out: &mut Vec<u8, A>,
 ) -> Result<(), RowsError>
-    ensures ok { OnOk result (out.new.items ≡ out.old.items ++ document_text (object (members_view members.now.entries))) }
+    ensures ok { OnOk result (out.new.items ≡ out.old.items ++ document_in F.form (object (members_view members.now.entries))) }
     ensures kept { take (length out.old.items) out.new.items ≡ out.old.items }
 {
     out.push(b'{')?;
     let mut separator = b"".as_slice();
     for (key, member) in members.iter() {
         out.extend_from_slice(separator)?;
-        quote(key.as_bytes(), out)?;
+        append_key::<A, F>(key.as_bytes(), out)?;
         out.push(b':')?;
-        append_document(member, out)?;
+        append_document::<A, F>(member, out)?;
         separator = b",".as_slice();
     }
     out.push(b'}')?;

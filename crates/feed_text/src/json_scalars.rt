@@ -1,64 +1,65 @@
-//! The text of the scalars of JSON documents.
+//! The text of the scalars of JSON documents, by way of their trees.
 
-ghost use Rattle.std.specs.Prelude.{◌≡◌, ◌++◌, ◌∷◌, ◌≤◌, ◌+◌, OnOk, IfErr, length, take};
-ghost use Rattle.rows_jsonb.specs.JsonTrees.{time as time_scalar, opaque};
+ghost use Rattle.std.specs.Prelude.{◌≡◌, ◌+◌, ◌++◌, OnOk, IfErr, true, length, take};
+ghost use Rattle.std.specs.Str.{is_utf8};
 ghost use Rattle.rows_jsonb.specs.JsonTreeViews.{scalar_view, number_view};
-ghost use Rattle.wire_constants.specs.ColumnTypes.{column_type_number};
-ghost use Rattle.std.specs.Fmt.{decimal, signed_decimal};
+ghost use Rattle.std.specs.Fmt.{signed_decimal};
 ghost use Rattle.feed_text.specs.TextPieces.{IsAppendError};
-ghost use Rattle.feed_text.specs.ValueText.{double_text};
-ghost use Rattle.feed_text.specs.JsonText.{scalar_text, temporal_text};
+ghost use Rattle.feed_text.specs.DocumentForms.{scalar_in};
 
+use crate::document_form::DocumentForm;
 use crate::pieces::append_all;
-use crate::quoting::quote;
-use feed_writers::{
-    Clock, Day, put_byte, put_clock, put_day, put_hexadecimal, put_number, put_signed,
-};
-use itoa::Buffer;
+use crate::short_strings::string_room;
+use feed_writers::put_signed;
 use rows_errors::RowsError;
-use rows_jsonb::{JsonNumber, JsonOpaque, JsonScalar};
-use rows_values::{MysqlTime, MysqlTimestampType};
+use rows_jsonb::{JsonNumber, JsonScalar};
+use rows_values::MysqlTime;
 use std::alloc::Allocator;
 
 /// Appends the text of a scalar. An error may leave a part of it.
-#[tactic(auto, using(crate::proofs::QuoteLemmas::kept_either), unfolding(crate::specs::JsonText::scalar_text))]
-pub(crate) fn append_scalar<A: Allocator>(
+#[tactic(auto, using(crate::proofs::QuoteLemmas::kept_either), unfolding(crate::specs::DocumentForms::scalar_in))]
+pub(crate) fn append_scalar<A: Allocator, F: DocumentForm>(
     scalar: &JsonScalar,
     out: &mut Vec<u8, A>,
 ) -> Result<(), RowsError>
-    ensures ok { OnOk result (out.new.items ≡ out.old.items ++ scalar_text (scalar_view scalar.now)) }
+    ensures ok { OnOk result (out.new.items ≡ out.old.items ++ scalar_in F.form (scalar_view scalar.now)) }
     ensures kept { take (length out.old.items) out.new.items ≡ out.old.items }
 {
     match scalar {
         JsonScalar::Null => append_all(&[b"null".as_slice()], out),
         JsonScalar::Boolean(true) => append_all(&[b"true".as_slice()], out),
         JsonScalar::Boolean(false) => append_all(&[b"false".as_slice()], out),
-        JsonScalar::Number(number) => append_number(number, out),
-        JsonScalar::String(string) => quote(string.as_bytes(), out),
-        JsonScalar::DateTime(time) => append_temporal(time, out),
-        JsonScalar::Opaque(opaque) => append_opaque(opaque, out),
-    }
-}
-
-/// Appends the text of a number, or nothing.
-#[tactic(auto, unfolding(crate::specs::JsonText::scalar_text))]
-fn append_number<A: Allocator>(number: &JsonNumber, out: &mut Vec<u8, A>) -> Result<(), RowsError>
-    ensures ok { OnOk result (out.new.items ≡ out.old.items ++ scalar_text (number_view number.now)) }
-    ensures err { IfErr result (λ e. IsAppendError e out.old.items out.new.items) }
-{
-    match number {
-        JsonNumber::Int(number) => append_int(*number, out),
-        JsonNumber::Uint(number) => append_uint(*number, out),
-        JsonNumber::Double(bits) => append_double(*bits, out),
-        JsonNumber::Decimal(decimal) => {
-            decimal.append_text(out)?;
-            Ok(())
+        JsonScalar::Number(number) => append_number::<A, F>(number, out),
+        JsonScalar::String(string) => append_string::<A, F>(string.as_bytes(), out),
+        JsonScalar::DateTime(time) => append_time::<A, F>(time, out),
+        JsonScalar::Opaque(opaque) => {
+            F::append_opaque(u8::from(opaque.field_type()), opaque.value(), out)
         }
     }
 }
 
-/// The maximum length of a number's text in bytes.
+/// Appends the text of a number. An error may leave a part of it.
+#[tactic(auto, using(crate::proofs::QuoteLemmas::kept_either), unfolding(crate::specs::DocumentForms::scalar_in))]
+fn append_number<A: Allocator, F: DocumentForm>(
+    number: &JsonNumber,
+    out: &mut Vec<u8, A>,
+) -> Result<(), RowsError>
+    ensures ok { OnOk result (out.new.items ≡ out.old.items ++ scalar_in F.form (number_view number.now)) }
+    ensures kept { take (length out.old.items) out.new.items ≡ out.old.items }
+{
+    match number {
+        JsonNumber::Int(number) => append_int(*number, out),
+        JsonNumber::Uint(number) => append_uint::<A, F>(*number, out),
+        JsonNumber::Double(bits) => append_double::<A, F>(*bits, out),
+        JsonNumber::Decimal(decimal) => F::append_decimal(decimal, out),
+    }
+}
+
+/// The maximum length of an integer's text in bytes.
 const NUMBER_LEN_MAX: usize = 24;
+
+/// The room for a double's text in bytes.
+const DOUBLE_ROOM: usize = 32;
 
 /// Appends an integer, or nothing.
 fn append_int<A: Allocator>(number: i64, out: &mut Vec<u8, A>) -> Result<(), RowsError>
@@ -72,99 +73,105 @@ fn append_int<A: Allocator>(number: i64, out: &mut Vec<u8, A>) -> Result<(), Row
     Ok(())
 }
 
-/// Appends `u` and an unsigned integer, or nothing.
-fn append_uint<A: Allocator>(number: u64, out: &mut Vec<u8, A>) -> Result<(), RowsError>
-    ensures ok { OnOk result (out.new.items ≡ out.old.items ++ (117 ∷ decimal number)) }
+/// Appends an unsigned integer, or nothing.
+fn append_uint<A: Allocator, F: DocumentForm>(
+    number: u64,
+    out: &mut Vec<u8, A>,
+) -> Result<(), RowsError>
+    ensures ok { OnOk result (out.new.items ≡ out.old.items ++ F.form.uint number) }
     ensures err { IfErr result (λ e. IsAppendError e out.old.items out.new.items) }
 {
     let start = out.len();
     out.resize(start + NUMBER_LEN_MAX, 0)?;
-    let text = out.as_mut_slice();
-    let end = put_byte(text, start, b'u');
-    let end = put_number(text, end, number);
+    let end = F::put_uint(out.as_mut_slice(), start, number);
     out.truncate(end);
     Ok(())
 }
 
-/// Appends `d` and the hexadecimal digits of a double's bits, or nothing.
-fn append_double<A: Allocator>(bits: u64, out: &mut Vec<u8, A>) -> Result<(), RowsError>
-    ensures ok { OnOk result (out.new.items ≡ out.old.items ++ double_text bits) }
+/// Appends a double, or nothing.
+fn append_double<A: Allocator, F: DocumentForm>(
+    bits: u64,
+    out: &mut Vec<u8, A>,
+) -> Result<(), RowsError>
+    ensures ok { OnOk result (out.new.items ≡ out.old.items ++ F.form.double bits) }
     ensures err { IfErr result (λ e. IsAppendError e out.old.items out.new.items) }
 {
     let start = out.len();
-    out.resize(start + NUMBER_LEN_MAX, 0)?;
-    let text = out.as_mut_slice();
-    let end = put_byte(text, start, b'd');
-    let end = put_hexadecimal(text, end, &bits.to_be_bytes());
+    out.resize(start + DOUBLE_ROOM, 0)?;
+    let end = F::put_double(out.as_mut_slice(), start, bits);
     out.truncate(end);
     Ok(())
 }
 
-/// Appends `o`, the number of a column type, `:` and quoted bytes. An error may leave a part of this.
-#[tactic(auto, using(crate::proofs::QuoteLemmas::kept_either), unfolding(crate::specs::JsonText::scalar_text))]
-fn append_opaque<A: Allocator>(value: &JsonOpaque, out: &mut Vec<u8, A>) -> Result<(), RowsError>
-    ensures ok { OnOk result (out.new.items ≡ out.old.items
-        ++ scalar_text (opaque (column_type_number value.now.field_type) value.now.value.items)) }
-    ensures kept { take (length out.old.items) out.new.items ≡ out.old.items }
+/// Appends a string, or nothing.
+fn append_string<A: Allocator, F: DocumentForm>(
+    bytes: &[u8],
+    out: &mut Vec<u8, A>,
+) -> Result<(), RowsError>
+    requires { is_utf8 bytes.now ≡ true }
+    ensures ok { OnOk result (out.new.items ≡ out.old.items ++ F.form.string bytes.now) }
+    ensures err { IfErr result (λ e. IsAppendError e out.old.items out.new.items) }
 {
-    let mut buffer = Buffer::new();
-    let number = buffer.format(u8::from(value.field_type()));
-    append_all(&[b"o".as_slice(), number.as_bytes(), b":".as_slice()], out)?;
-    quote(value.value(), out)
+    let start = out.len();
+    let Some(room) = string_room::<F>(bytes.len()) else {
+        return Err(RowsError::Memory);
+    };
+    make_room(room, out)?;
+    let Some(end) = F::put_string(out.as_mut_slice(), start, bytes) else {
+        unreachable!()
+    };
+    out.truncate(end);
+    Ok(())
 }
 
-/// The maximum length of a quoted date and time of day, in bytes.
-const MOMENT_LEN_MAX: usize = 80;
+/// Appends the text of a key, or nothing.
+pub(crate) fn append_key<A: Allocator, F: DocumentForm>(
+    bytes: &[u8],
+    out: &mut Vec<u8, A>,
+) -> Result<(), RowsError>
+    requires { is_utf8 bytes.now ≡ true }
+    ensures ok { OnOk result (out.new.items ≡ out.old.items ++ F.form.key bytes.now) }
+    ensures err { IfErr result (λ e. IsAppendError e out.old.items out.new.items) }
+{
+    let start = out.len();
+    let Some(room) = string_room::<F>(bytes.len()) else {
+        return Err(RowsError::Memory);
+    };
+    make_room(room, out)?;
+    let Some(end) = F::put_key(out.as_mut_slice(), start, bytes) else {
+        unreachable!()
+    };
+    out.truncate(end);
+    Ok(())
+}
 
-/// Appends a quoted date, a quoted time, or both quoted; or nothing.
-#[tactic(auto, unfolding(crate::specs::JsonText::scalar_text))]
-fn append_temporal<A: Allocator>(time: &MysqlTime, out: &mut Vec<u8, A>) -> Result<(), RowsError>
-    ensures ok { OnOk result (out.new.items ≡ out.old.items ++ scalar_text (time_scalar time.now)) }
+/// Appends zeros, or nothing.
+fn make_room<A: Allocator>(room: usize, out: &mut Vec<u8, A>) -> Result<(), RowsError>
+    ensures room { OnOk result (length out.new.items ≡ length out.old.items + room) }
+    ensures kept { OnOk result (take (length out.old.items) out.new.items ≡ out.old.items) }
+    ensures err { IfErr result (λ e. IsAppendError e out.old.items out.new.items) }
+{
+    let Some(len) = out.len().checked_add(room) else {
+        return Err(RowsError::Memory);
+    };
+    out.resize(len, 0)?;
+    Ok(())
+}
+
+/// The maximum length of a date and time of day, in bytes.
+const MOMENT_LEN_MAX: usize = 96;
+
+/// Appends a date, a time, or both; or nothing.
+fn append_time<A: Allocator, F: DocumentForm>(
+    time: &MysqlTime,
+    out: &mut Vec<u8, A>,
+) -> Result<(), RowsError>
+    ensures ok { OnOk result (out.new.items ≡ out.old.items ++ F.form.time time.now) }
     ensures err { IfErr result (λ e. IsAppendError e out.old.items out.new.items) }
 {
     let start = out.len();
     out.resize(start + MOMENT_LEN_MAX, 0)?;
-    let text = out.as_mut_slice();
-    let end = put_byte(text, start, b't');
-    let end = put_byte(text, end, b'\'');
-    let end = put_temporal(text, end, time);
-    let end = put_byte(text, end, b'\'');
+    let end = F::put_time(out.as_mut_slice(), start, time);
     out.truncate(end);
     Ok(())
-}
-
-/// Writes a date, a time, or both.
-#[tactic(auto, unfolding(crate::specs::JsonText::temporal_text))]
-fn put_temporal(text: &mut [u8], at: usize, time: &MysqlTime) -> usize
-    requires { at + 77 ≤ length text.old }
-    ensures most { result ≤ at + 76 }
-    ensures text { take result text.new ≡ take at text.old ++ temporal_text time.now }
-{
-    let day = Day {
-        year: time.year,
-        month: time.month,
-        day: time.day,
-    };
-    let clock = Clock {
-        hour: time.hour,
-        minute: time.minute,
-        second: time.second,
-        micros: time.second_part,
-    };
-    match time.time_type {
-        MysqlTimestampType::MYSQL_TIMESTAMP_DATE => put_day(text, at, day),
-        MysqlTimestampType::MYSQL_TIMESTAMP_TIME => {
-            let start = if time.neg {
-                put_byte(text, at, b'-')
-            } else {
-                at
-            };
-            put_clock(text, start, clock)
-        }
-        _ => {
-            let end = put_day(text, at, day);
-            let end = put_byte(text, end, b' ');
-            put_clock(text, end, clock)
-        }
-    }
 }

@@ -6,6 +6,7 @@
 
 mod buffer;
 mod buffer_cells;
+mod buffer_documents;
 mod buffer_text;
 mod cells;
 mod decimals;
@@ -13,7 +14,9 @@ mod diffs;
 mod direct;
 mod direct_parts;
 mod direct_scalars;
+mod document_form;
 mod documents;
+mod feed_form;
 mod fields;
 mod images;
 mod json_scalars;
@@ -29,10 +32,14 @@ mod short_decimals;
 mod short_strings;
 mod values;
 mod word_decimals;
+mod writing;
 
 pub use buffer::TextBuffer;
 pub use cells::{put_cell, put_cell_ref};
 pub use decimals::put_decimal;
-pub use documents::put_json;
+pub use document_form::{DocumentForm, UpdateForm};
+pub use documents::{put_json, put_tree};
+pub use feed_form::{FeedForm, put_temporal};
 pub use quoting::quote;
 pub use values::put_value;
+pub use writing::Writing;

@@ -36,12 +36,12 @@ decreases-write_member g l = 6 * l.depth + 4
 
 abbrev pub invariant-write_items-items : goal.invariant-write_items-items
 invariant-write_items-items g l = record {
-  so_far : ItemsSoFar l.depth (value_of l.array) l.pos l.initial.budget l.budget (text_in l.initial.out) (text_in l.out) l.is_first;
+  so_far : ItemsSoFar g.F.DocumentForm.form l.depth (value_of l.array) l.pos l.initial.budget l.budget (text_in l.initial.out) (text_in l.out) l.is_first;
   kept : take (length (text_in l.fn.out)) (text_in l.out) ≡ text_in l.fn.out;
 }
 
 abbrev pub invariant-write_members-members : goal.invariant-write_members-members
 invariant-write_members-members g l = record {
-  so_far : MembersSoFar l.depth (value_of l.object) (take l.pos-index l.order) l.initial.budget l.budget (text_in l.initial.out) (text_in l.out) l.is_first;
+  so_far : MembersSoFar g.F.DocumentForm.form l.depth (value_of l.object) (take l.pos-index l.order) l.initial.budget l.budget (text_in l.initial.out) (text_in l.out) l.is_first;
   kept : take (length (text_in l.fn.out)) (text_in l.out) ≡ text_in l.fn.out;
 }

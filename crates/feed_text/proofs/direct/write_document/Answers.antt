@@ -9,6 +9,6 @@ returns g c =
     let s = value_of c.in-Ok.document in
     let bytes = c.args.bytes.now in
     let some : 0 < length bytes = search rules in record {
-      ok = on_ok_weaker c.write_value.result (λ w. document_written bytes c.split_at.result.0.now c.split_at.result.1.now s _ _ _ _ some c.split_at.ensures.front c.split_at.ensures.back c.in-Ok.ensures (omega arith) w) c.write_value.ensures.ok;
+      ok = on_ok_weaker c.write_value.result (λ w. document_written _ bytes c.split_at.result.0.now c.split_at.result.1.now s _ _ _ _ some c.split_at.ensures.front c.split_at.ensures.back c.in-Ok.ensures (omega arith) w) c.write_value.ensures.ok;
       kept = c.write_value.ensures.kept;
     }

@@ -5,17 +5,17 @@ use Rattle.std.proofs.lemmas.Result.{IfOk-from_err, on_ok_weaker}
 use Rattle.rows_jsonb.specs.JsonTrees.{array}
 use Rattle.rows_jsonb.specs.JsonTreeViews.{view, items_view, members_view}
 use Rattle.rows_jsonb.proofs.DomLemmas.{view-Scalar}
-use Rattle.feed_writers.specs.Quoting.{quoted}
-use Rattle.feed_text.specs.JsonText.{document_text, item_texts, member_texts}
+use Rattle.feed_text.specs.DocumentForms.{document_in, items_in, members_in}
 use Rattle.feed_text.proofs.QuoteLemmas.{kept_more, kept_twice}
+use Rattle.feed_text.proofs.StringLemmas.{utf8_string}
 use Rattle.feed_text.proofs.DocumentLemmas.{one_more, closed, member_written, item_texts-item, member_texts-member}
 use Rattle.feed_text.proofs.documents.+document.Goals as goal
 
 pub append_document-returns-in-Scalar-clause-ok : goal.append_document-returns-in-Scalar-clause-ok
-unfolding document_text item_texts member_texts
+unfolding document_in items_in members_in
 append_document-returns-in-Scalar-clause-ok g t c =
     let seen = ap view c.in-Scalar.is ∙ view-Scalar c.in-Scalar.scalar in
-    on_ok_weaker c.append_scalar.result (λ e. e ∙ ap (λ d. c.args.out.now.items ++ document_text d) (sym seen)) c.append_scalar.ensures.ok
+    on_ok_weaker c.append_scalar.result (λ e. e ∙ ap (λ d. c.args.out.now.items ++ document_in g.F.DocumentForm.form d) (sym seen)) c.append_scalar.ensures.ok
 
 pub append_items-returns-in_err-append_document-clause-kept : goal.append_items-returns-in_err-append_document-clause-kept
 append_items-returns-in_err-append_document-clause-kept g t c =
@@ -27,24 +27,24 @@ append_items-loop-item-preserved g t c =
     let xs = c.deref-item-items.result.now in
     let x = c.item-item.result in
     let here : drop l.item-index xs ≡ x ∷ drop (l.item-index + 1) xs = drop_more xs l.item-index x (omega arith) ∙ ap (λ y. y ∷ drop (l.item-index + 1) xs) (sym c.item-item.is) in
-    let left = ap (λ ys. item_texts (items_view ys)) here ∙ item_texts-item (view x) (items_view (drop (l.item-index + 1) xs)) in record {
+    let left = ap (λ ys. items_in g.F.DocumentForm.form (items_view ys)) here ∙ item_texts-item g.F.DocumentForm.form (view x) (items_view (drop (l.item-index + 1) xs)) in record {
       written = one_more _ _ _ _ _ _ _ _ _ c.in_ok-extend_from_slice.ensures.items c.in_ok-append_document.ensures.ok (search rules) left l.invariant.written;
       kept = kept_twice c.args.out.now.items _ _ (kept_more _ _ _ _ l.invariant.kept c.in_ok-extend_from_slice.ensures.items) c.append_document.ensures.kept;
     }
 
 pub append_items-returns-clause-ok : goal.append_items-returns-clause-ok
-unfolding document_text item_texts member_texts
+unfolding document_in items_in members_in
 append_items-returns-clause-ok g t c =
     let l = c.loop-item in
     let xs = c.deref-item-items.result.now in
     let none : drop l.item-index xs ≡ [] = drop_all l.item-index xs (omega arith) in
-    closed c.args.out.now.items _ _ l.separator.now (item_texts (items_view xs)) _ 91 93 (ap (λ ys. item_texts (items_view ys)) none) l.invariant.written c.in_ok-push-2.ensures.items
-    ∙ ap (λ ys. c.args.out.now.items ++ document_text (array (items_view ys))) c.deref-item-items.ensures.value
+    closed c.args.out.now.items _ _ l.separator.now (items_in g.F.DocumentForm.form (items_view xs)) _ 91 93 (ap (λ ys. items_in g.F.DocumentForm.form (items_view ys)) none) l.invariant.written c.in_ok-push-2.ensures.items
+    ∙ ap (λ ys. c.args.out.now.items ++ document_in g.F.DocumentForm.form (array (items_view ys))) c.deref-item-items.ensures.value
 
 pub append_members-returns-in_err-append_document-clause-kept : goal.append_members-returns-in_err-append_document-clause-kept
 append_members-returns-in_err-append_document-clause-kept g t c =
     let separated = kept_more c.args.out.now.items _ _ _ c.loop-key.invariant.kept c.in_ok-extend_from_slice.ensures.items in
-    let keyed = kept_more c.args.out.now.items _ _ _ separated c.in_ok-quote.ensures.ok in
+    let keyed = kept_more c.args.out.now.items _ _ _ separated c.in_ok-append_key.ensures.ok in
     kept_twice c.args.out.now.items _ _ (kept_more _ _ _ _ keyed c.in_ok-push-2.ensures.items) c.append_document.ensures.kept
 
 pub append_members-loop-key-preserved : goal.append_members-loop-key-preserved
@@ -52,20 +52,20 @@ append_members-loop-key-preserved g t c =
     let l = c.loop-key in
     let k = string_bytes c.in-Some.key.now in
     let rest = c.next.new.self in
-    let left = ap (λ es. member_texts (members_view es)) c.in-Some.ensures.steps ∙ member_texts-member k (view c.in-Some.member.now) (members_view rest) in
-    let keyed = c.in_ok-quote.ensures.ok ∙ ap (λ b. c.extend_from_slice.new.self.items ++ quoted b) c.as_bytes.ensures.value in
+    let left = ap (λ es. members_in g.F.DocumentForm.form (members_view es)) c.in-Some.ensures.steps ∙ member_texts-member g.F.DocumentForm.form k (view c.in-Some.member.now) (members_view rest) in
+    let keyed = c.in_ok-append_key.ensures.ok ∙ ap (λ b. c.extend_from_slice.new.self.items ++ g.F.DocumentForm.form.key b) c.as_bytes.ensures.value in
     let new = member_written _ _ _ _ _ _ keyed c.in_ok-push-2.ensures.items c.in_ok-append_document.ensures.ok in
     let separated = kept_more c.args.out.now.items _ _ _ l.invariant.kept c.in_ok-extend_from_slice.ensures.items in
-    let after_key = kept_more c.args.out.now.items _ _ _ separated c.in_ok-quote.ensures.ok in record {
+    let after_key = kept_more c.args.out.now.items _ _ _ separated c.in_ok-append_key.ensures.ok in record {
       written = one_more _ _ _ _ _ _ _ _ _ c.in_ok-extend_from_slice.ensures.items new (search rules) left l.invariant.written;
       kept = kept_twice c.args.out.now.items _ _ (kept_more _ _ _ _ after_key c.in_ok-push-2.ensures.items) c.append_document.ensures.kept;
     }
 
 pub append_members-returns-clause-ok : goal.append_members-returns-clause-ok
-unfolding document_text item_texts member_texts
+unfolding document_in items_in members_in
 append_members-returns-clause-ok g t c =
     let l = c.loop-key in
-    closed c.args.out.now.items _ _ l.separator.now (member_texts (members_view c.args.members.now.entries)) _ 123 125 (ap (λ es. member_texts (members_view es)) c.in-None.ensures.steps.0) l.invariant.written c.in_ok-push-3.ensures.items
+    closed c.args.out.now.items _ _ l.separator.now (members_in g.F.DocumentForm.form (members_view c.args.members.now.entries)) _ 123 125 (ap (λ es. members_in g.F.DocumentForm.form (members_view es)) c.in-None.ensures.steps.0) l.invariant.written c.in_ok-push-3.ensures.items
 
 pub append_items-returns-in_err-push-clause-ok : goal.append_items-returns-in_err-push-clause-ok
 append_items-returns-in_err-push-clause-ok g t c = IfOk-from_err c.from_residual.result _ c.from_residual.ensures.0
@@ -103,17 +103,17 @@ append_members-returns-in_err-extend_from_slice-clause-ok g t c = IfOk-from_err 
 pub append_members-returns-in_err-extend_from_slice-clause-kept : goal.append_members-returns-in_err-extend_from_slice-clause-kept
 append_members-returns-in_err-extend_from_slice-clause-kept g t c = ap (take (length c.args.out.now.items)) c.in_err-extend_from_slice.ensures.items ∙ c.loop-key.invariant.kept
 
-pub append_members-returns-in_err-quote-clause-ok : goal.append_members-returns-in_err-quote-clause-ok
-append_members-returns-in_err-quote-clause-ok g t c = IfOk-from_err c.from_residual-in_err-quote.result _ c.from_residual-in_err-quote.ensures.0
+pub append_members-returns-in_err-append_key-clause-ok : goal.append_members-returns-in_err-append_key-clause-ok
+append_members-returns-in_err-append_key-clause-ok g t c = IfOk-from_err c.from_residual-in_err-append_key.result _ c.from_residual-in_err-append_key.ensures.0
 
-pub append_members-returns-in_err-quote-clause-kept : goal.append_members-returns-in_err-quote-clause-kept
-append_members-returns-in_err-quote-clause-kept g t c = ap (take (length c.args.out.now.items)) c.in_err-quote.ensures.err.1 ∙ kept_more c.args.out.now.items _ _ _ c.loop-key.invariant.kept c.in_ok-extend_from_slice.ensures.items
+pub append_members-returns-in_err-append_key-clause-kept : goal.append_members-returns-in_err-append_key-clause-kept
+append_members-returns-in_err-append_key-clause-kept g t c = ap (take (length c.args.out.now.items)) c.in_err-append_key.ensures.err.1 ∙ kept_more c.args.out.now.items _ _ _ c.loop-key.invariant.kept c.in_ok-extend_from_slice.ensures.items
 
 pub append_members-returns-in_err-push-2-clause-ok : goal.append_members-returns-in_err-push-2-clause-ok
 append_members-returns-in_err-push-2-clause-ok g t c = IfOk-from_err c.from_residual-in_err-push-2.result _ c.from_residual-in_err-push-2.ensures.0
 
 pub append_members-returns-in_err-push-2-clause-kept : goal.append_members-returns-in_err-push-2-clause-kept
-append_members-returns-in_err-push-2-clause-kept g t c = ap (take (length c.args.out.now.items)) c.in_err-push-2.ensures.items ∙ kept_more c.args.out.now.items _ _ _ (kept_more c.args.out.now.items _ _ _ c.loop-key.invariant.kept c.in_ok-extend_from_slice.ensures.items) c.in_ok-quote.ensures.ok
+append_members-returns-in_err-push-2-clause-kept g t c = ap (take (length c.args.out.now.items)) c.in_err-push-2.ensures.items ∙ kept_more c.args.out.now.items _ _ _ (kept_more c.args.out.now.items _ _ _ c.loop-key.invariant.kept c.in_ok-extend_from_slice.ensures.items) c.in_ok-append_key.ensures.ok
 
 pub append_members-returns-in_err-append_document-clause-ok : goal.append_members-returns-in_err-append_document-clause-ok
 append_members-returns-in_err-append_document-clause-ok g t c = IfOk-from_err c.from_residual-in_err-append_document.result _ c.from_residual-in_err-append_document.ensures.0
@@ -126,3 +126,6 @@ append_members-returns-in_err-push-3-clause-kept g t c = ap (take (length c.args
 
 pub append_members-returns-clause-kept : goal.append_members-returns-clause-kept
 append_members-returns-clause-kept g t c = kept_more c.args.out.now.items _ _ _ c.loop-key.invariant.kept c.in_ok-push-3.ensures.items
+
+pub append_members-append_key-requires : goal.append_members-append_key-requires
+append_members-append_key-requires g t c = utf8_string c.in-Some.key.now _ c.as_bytes.ensures.value

@@ -4,7 +4,7 @@ use Rattle.std.proofs.lemmas.Result.{IfOk-from_err, IfErr-weaker, on_ok_weaker, 
 use Rattle.rows_jsonb.specs.JsonTreeViews.{view}
 use Rattle.feed_text.specs.JsonText.{document_text}
 use Rattle.feed_text.proofs.QuoteLemmas.{kept_more, kept_either, kept_twice}
-use Rattle.feed_text.proofs.diffs.append_tree.Goals as goal
+use Rattle.feed_text.proofs.feed_form.append_after_space.Goals as goal
 
 pub returns-in_err-push-clause-ok : goal.returns-in_err-push-clause-ok
 returns-in_err-push-clause-ok g c = IfOk-from_err c.from_residual.result _ c.from_residual.ensures.0
