@@ -6,4 +6,5 @@ pub mod CommittedLists
 pub mod Stops
 pub mod Filters
 pub mod ChangeLogs
+pub mod RecordedLogs
 pub mod ChangeLaws

@@ -14,11 +14,13 @@ mod kept_changes;
 mod kept_tables;
 pub mod laws;
 mod parts;
+mod recorded_log;
 mod stop;
 
 pub use change::{Change, Changes, TableRows, What};
-pub use change_log::{ChangeLog, NoLog};
+pub use change_log::ChangeLog;
 pub use change_recorder::ChangeRecorder;
 pub use committed_transaction::{CommittedTransaction, OwnedTransaction};
 pub use filter::{Filter, TakenChanges};
+pub use recorded_log::{NoLog, RecordedLog};
 pub use stop::Stop;
