@@ -1,0 +1,11 @@
+pub mod EscapeLemmas
+pub mod PlainLemmas
+pub mod StringLemmas
+pub mod SixBitLemmas
+pub mod Base64Lemmas
+pub mod TimeStringLemmas
+pub mod CalendarLemmas
+pub mod StringLawLemmas
+pub mod FloatLawLemmas
+pub mod DateLawLemmas
+pub mod Utf8LawLemmas

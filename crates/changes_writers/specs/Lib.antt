@@ -1,0 +1,9 @@
+pub mod JsonStrings
+pub mod PlainText
+pub mod SixBits
+pub mod Base64Texts
+pub mod JsonNumbers
+pub mod FloatTexts
+pub mod TimeStrings
+pub mod CivilDates
+pub mod MarchYears
