@@ -29,7 +29,6 @@ ghost use Rattle.feed_replication.specs.ServerLaws.{ServesTheFile, StopsAtDamage
 ghost use Rattle.wire_buf.specs.Encoding.{AreBytes};
 ghost use Rattle.feed_replication.specs.Streams.{stream_transactions};
 ghost use Rattle.feed_replication.specs.declared.step.Step.{Step};
-ghost use Rattle.feed_replication.specs.Headline.{IsFollowable};
 ghost use Rattle.feed_replication.specs.AnswerLaws.{GivesTheRest};
 ghost use Rattle.feed_replication.specs.Runs.{run};
 ghost use Rattle.binlog_feed.specs.LastCommits.{EndsWithLastCommit};
@@ -172,11 +171,10 @@ pub fn transactions_have_lines()
 /// transactions that events show, that a stream of packets shows, and that a run over dropped connections prints. So a follower
 /// asks again from the position in the last commit line that it printed.
 ///
-/// Conditions: the positions fit in 32 bits, as those in the headers of a list of bytes do; for a run, those of
-/// `broken_runs_are_whole`.
+/// Condition: the positions fit in 32 bits, as those in the headers of a list of bytes do.
 pub fn the_last_commit_line_has_the_last_position()
     ensures events { (f : List ℕ → ℕ) (l : List Event) → Each (λ t. t.position < 2 ^ 32) (shown (rules f) l) → EndsWithLastCommit (shown (rules f) l) }
     ensures stream { (f : List ℕ → ℕ) (format : Format) (limit : ℕ) (s : List ℕ) → AreBytes s → EndsWithLastCommit (stream_transactions (rules f) format limit s) }
-    ensures run { (f : List ℕ → ℕ) (format : Format) (b : List ℕ) (steps : List Step) → AreBytes b → IsFollowable (rules f) format b
+    ensures run { (f : List ℕ → ℕ) (format : Format) (b : List ℕ) (steps : List Step) → AreBytes b
         → EndsWithLastCommit (run (rules f) format b steps).transactions }
 {}

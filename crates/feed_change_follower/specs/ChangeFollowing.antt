@@ -197,7 +197,7 @@ abbrev pub Ends : {F : Type 0} → Reading → ChangeFollower F → ChangeFollow
 Ends x old new s dealt acks verdicts.Memory = RunsOut x old new s dealt acks
 Ends x old new s dealt acks v = EndsWith x old new s dealt acks v
 
--- the same once these transactions were passed
+-- what `advance` does once these transactions were passed: the next one is lent, or these are all so far, or all that there are
 abbrev pub Takes : {F : Type 0} → Reading → ChangeFollower F → ChangeFollower F → List ℕ → List Committed → List (List ℕ) → Result Bool Verdict → Type 0
 Takes x old new s dealt acks (Ok true) = Lends x old new s dealt acks
 Takes x old new s dealt acks (Ok false) = HasAll x old new s dealt acks

@@ -3,6 +3,7 @@ use Rattle.std.specs.Prelude.{ℕ, List, codes}
 use Rattle.feed_checks.specs.declared.verdict.Verdict.{Verdict}
 use Rattle.feed_checks.specs.declared.verdict.Verdict.TheVariants.{End, Closed, Mark, TooLarge, OutOfNumber, ServerError, NotAnEvent, Frame, Algorithm, Checksum, Size, Body, NoTableMap, Row, Outside, Inside, Unshown, UnknownKind, Memory, Read, Write}
 
+-- the name of a verdict
 abbrev pub verdict_name : Verdict → List ℕ
 verdict_name End = codes "End"
 verdict_name Closed = codes "Closed"

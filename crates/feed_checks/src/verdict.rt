@@ -135,7 +135,7 @@ impl From<EventError> for Verdict {
 impl From<RowsError> for Verdict {
     ghost from_gives = { λ error v. v ≡ rows_verdict error };
 
-    /// The verdict of a log in which a row has this error.
+    /// The verdict of a log in which a row has this error: `Memory` and `Read` stay, any other is `Row`.
     fn from(error: RowsError) -> Verdict {
         match error {
             RowsError::Memory => Verdict::Memory,

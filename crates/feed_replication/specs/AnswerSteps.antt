@@ -23,7 +23,7 @@ pub record Yields (r : Rules) (format : Format) (limit : ℕ) (s : List ℕ) (ps
   pub acknowledged : (name : List ℕ) → acknowledgements r format limit name s ≡ requested_acks format name ps
   pub verdict : stream_verdict r format limit s ≡ v
 
--- They begin with these, and its acknowledgements with those that their payloads ask for.
+-- The events of a stream up to its first fault begin with these, the newest first, and its acknowledgements with those that their payloads ask for.
 pub record YieldsFirst (r : Rules) (format : Format) (limit : ℕ) (s : List ℕ) (ps : List (List ℕ)) (past : List Event) : Type 0 where
   pub more : List Event
   pub events : good r (stream_events format limit s) ≡ in_log_order past more

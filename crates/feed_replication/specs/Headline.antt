@@ -19,7 +19,7 @@ HasPositions r b =
     (l : List Event) (e : Event) (later : List Event) → good r (file_events b) ≡ l ++ e ∷ later → (r.shows (onto [] l) e ≡ [])
     ⊎ (log_pos_of e ≡ 4 + length (joined l) + length e)
 
--- the conditions under which a log can be followed through dropped connections
+-- the conditions under which a log can be followed through dropped connections: its magic number, the positions in its headers, and the lengths of its payloads
 pub record IsFollowable (r : Rules) (format : Format) (b : List ℕ) : Type 0 where
   pub magic : has_magic_number b ≡ true
   pub positions : HasPositions r b

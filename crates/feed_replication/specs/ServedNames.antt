@@ -6,12 +6,14 @@ use Rattle.feed_replication.specs.declared.served.Refusal.TheVariants.{NotADump,
 use Rattle.feed_replication.specs.declared.served.Served.{Served}
 use Rattle.feed_replication.specs.declared.served.Served.TheVariants.{Whole, Refused, Fault}
 
+-- the name of a reason to reject a request
 abbrev pub error_name : Refusal → List ℕ
 error_name NotADump = codes "NotADump"
 error_name Flags = codes "Flags"
 error_name Name = codes "Name"
 error_name Place = codes "Place"
 
+-- the name of a result: `Whole`, or that of the rejection or of the fault
 abbrev pub served_name : Served → List ℕ
 served_name Whole = codes "Whole"
 served_name (Refused error) = error_name error

@@ -1,9 +1,10 @@
 //! The result of a request for a binary log.
 
-ghost use Rattle.std.specs.Prelude.{◌≡◌};
+ghost use Rattle.std.specs.Prelude.{◌≡◌, Some};
 ghost use Rattle.feed_replication.specs.ServedNames.{error_name, served_name};
 
 use feed_checks::{Verdict, name_of};
+use std::fmt;
 
 /// The reason why a request is rejected.
 #[derive(Clone, Copy, Debug, PartialEq, Eq)]
@@ -53,5 +54,27 @@ impl Served {
             Served::Refused(error) => error.name(),
             Served::Fault(verdict) => name_of(verdict),
         }
+    }
+}
+
+impl fmt::Display for Refusal {
+    ghost output = { λ error. Some (error_name error) };
+
+    ghost styled_output = { λ error _. Some (error_name error) };
+
+    /// Writes the name, whatever flags and width are asked for.
+    fn fmt<W: fmt::Write>(&self, f: &mut fmt::Formatter<W>) -> fmt::Result {
+        f.write_str(self.name())
+    }
+}
+
+impl fmt::Display for Served {
+    ghost output = { λ served. Some (served_name served) };
+
+    ghost styled_output = { λ served _. Some (served_name served) };
+
+    /// Writes the name, whatever flags and width are asked for.
+    fn fmt<W: fmt::Write>(&self, f: &mut fmt::Formatter<W>) -> fmt::Result {
+        f.write_str(self.name())
     }
 }

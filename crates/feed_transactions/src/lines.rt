@@ -12,7 +12,9 @@ use rows_cells::{ImageCells, ImagePlan, RowPlan};
 use rows_errors::RowsError;
 use std::alloc::{Allocator, Global};
 
-/// The feed's verdict for an error of the rows reader.
+/// The feed's verdict for an error in the rows of an event, which are read from its bytes in memory: `Memory`, else `Row`.
+///
+/// `Verdict::from` differs for `Read`, which stays `Read`: it takes the error of any reader, and here none can fail.
 #[inline(always)]
 pub fn row_verdict(fault: RowsError) -> Verdict
     ensures { result ≡ row_verdict fault }

@@ -38,6 +38,7 @@ pub record Devices : Type 0 where
   pub write_failed : Bool
   pub flush_failed : Bool
 
+-- those of the reader and the writer alone
 abbrev pub io_of : Devices → Io
 io_of d = record { input = d.input; unread = d.unread; before = d.before; written = d.written }
 
@@ -81,6 +82,7 @@ pub record MakesRequest (position server : ℕ) (name : List ℕ) (before writte
   pub bytes : WritesBytes (dump_request position server name) before written write_failed verdict
   pub ending_is : IsVerdictEnding (verdict_after flush_failed verdict) ending
 
+-- `request`: there was none, or it was written
 abbrev pub WritesRequest : ℕ → ℕ → List ℕ → Option (List ℕ) → Option (List ℕ) → Bool → Bool → Ending → Type 0
 WritesRequest position server name before written write_failed flush_failed ending =
     MakesNoRequest name before written ending ⊎ MakesRequest position server name before written write_failed flush_failed ending
@@ -101,6 +103,7 @@ pub record Answers (r : Rules) (format : Format) (name : List ℕ) (question : O
   pub blamed : IsServedFailure served d.read_failed d.write_failed
   pub ending_is : IsServedEnding (served_after d.flush_failed served) ending
 
+-- `serve` and `serve-semi`: the input couldn't be read, or the answer was written
 abbrev pub WritesAnswer : Rules → Format → List ℕ → Option (List ℕ) → Bool → Devices → Ending → Type 0
 WritesAnswer r format name question input_failed d ending =
     HasNoInput input_failed d.before d.written ending ⊎ Answers r format name question d ending
@@ -117,5 +120,6 @@ pub record RunsFollower (r : Rules) (counts : List ℕ) (d : Devices) (ending : 
   pub blamed : IsRunFailure verdict d.write_failed
   pub ending_is : IsVerdictEnding (verdict_after d.flush_failed verdict) ending
 
+-- `rehearse`: the input couldn't be read, or what a follower prints was written
 abbrev pub WritesRehearsal : Rules → List ℕ → Devices → Ending → Type 0
 WritesRehearsal r counts d ending = HasNoInput d.read_failed d.before d.written ending ⊎ RunsFollower r counts d ending

@@ -11,10 +11,11 @@ use Rattle.program_feed.specs.Commands.{Devices}
 use Rattle.program_feed.specs.Endings.{IsVerdictEnding}
 use Rattle.program_feed.specs.declared.endings.Ending.{Ending}
 
--- the texts of the transactions that the packets show, and their verdict
+-- the texts of the transactions that the packets show
 abbrev pub packet_texts : Rules → List ℕ → List (List ℕ)
 packet_texts r read = stream_texts r Plain program_limit read
 
+-- the verdict of the packets
 abbrev pub packet_verdict : Rules → List ℕ → Verdict
 packet_verdict r read = stream_verdict r Plain program_limit read
 

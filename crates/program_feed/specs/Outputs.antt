@@ -6,6 +6,7 @@ use Rattle.feed_replication.specs.declared.served.Served.{Served}
 use Rattle.feed_replication.specs.declared.served.Served.TheVariants.{Fault}
 use Rattle.program_feed.specs.declared.outputs.Flushed.{Flushed}
 
+-- the writer
 abbrev pub writer_of : {W : Type 0} → Flushed W → W
 writer_of f = f.writer
 
@@ -22,6 +23,7 @@ abbrev pub verdict_after : Bool → Verdict → Verdict
 verdict_after true v = Write
 verdict_after false v = v
 
+-- the same of the result of a request
 abbrev pub served_after : Bool → Served → Served
 served_after true s = Fault Write
 served_after false s = s

@@ -38,6 +38,7 @@ impl<W: Write> Flushed<W> {
     /// A writer to which nothing was written.
     pub fn unused(writer: W) -> Flushed<W>
         ensures writer { writer_of result ≡ writer }
+        ensures write { has_write_failed result ≡ false }
         ensures flush { has_flush_failed result ≡ false }
     {
         Flushed {

@@ -9,6 +9,7 @@ use Rattle.feed_resume.specs.declared.keeper.Keeper.{Keeper}
 use Rattle.program_kept.specs.declared.finding.Failure.{Failure}
 use Rattle.program_kept.specs.declared.finding.Failure.TheVariants as failures
 
+-- the word for a failure
 abbrev pub failure_name : Failure → List ℕ
 failure_name failures.Usage = codes "Usage"
 failure_name failures.Memory = codes "Memory"

@@ -1,11 +1,13 @@
-//! The text of a document, and running out of memory.
+//! The text of a document, and running out of memory; documents, updates and other texts in a buffer.
+
+ghost use Rattle.std.specs.Prelude.{replicate};
 
 use crate::texts::Outcome;
-use feed_text::put_json;
+use feed_text::{FeedForm, TextBuffer, Writing, put_json};
 use linked_list_allocator::LocalHeap;
 use rows_errors::RowsError;
 use rows_jsonb::{JsonDom, Value};
-use std::alloc::Global;
+use std::alloc::{AllocError, Global};
 use wire_buf::ParseBuf;
 
 /// The tree of a document.
@@ -52,8 +54,66 @@ fn out_of_memory_for_a_document(alloc: Global) -> bool {
     }
 }
 
+/// Whether a document is appended in the feed's form, with this text; or nothing, with an error.
+fn is_appended(alloc: Global, bytes: &[u8], text: Option<&[u8]>) -> bool {
+    let mut out = TextBuffer::new(alloc);
+    let put = out.put_document_in::<FeedForm>(alloc, bytes);
+    match text {
+        Some(text) => put == Ok(()) && out.as_slice() == text,
+        None => put.is_err() && out.len() == 0,
+    }
+}
+
+// A document that is written from its bytes, one by way of its tree (its keys are equal), and one that is truncated.
+fn documents_in_a_buffer(alloc: Global) -> bool {
+    is_appended(alloc, b"\x02\x01\x00\x07\x00\x05\x07\x00", Some(b"[7]"))
+        && is_appended(
+            alloc,
+            b"\x00\x02\x00\x14\x00\x12\x00\x01\x00\x13\x00\x01\x00\x05\x07\x00\x05\x08\x00aa",
+            Some(b"{'a':8}"),
+        )
+        && is_appended(alloc, b"\x02\x01\x00\x07\x00\x05\x07", None)
+}
+
+// A replacement of a part, and bytes that are no updates.
+fn updates_in_a_buffer(alloc: Global) -> bool {
+    let mut out = TextBuffer::new(alloc);
+    out.put_updates_in::<FeedForm>(alloc, b"\x00\x03$.a\x03\x05\x07\x00") == Ok(())
+        && out.put_updates_in::<FeedForm>(alloc, b"\x03").is_err()
+        && out.as_slice() == b"diff[replace '$.a' 7]".as_slice()
+}
+
+/// Some letters.
+struct Letters(usize);
+
+impl Writing for Letters {
+    ghost content = { λ letters. replicate letters.0 97 };
+
+    ghost most = { λ letters. letters.0 };
+
+    fn room(&self) -> Option<usize> {
+        Some(self.0)
+    }
+
+    fn put(&self, text: &mut [u8], at: usize) -> usize {
+        let end = at + self.0;
+        text[at..end].fill(b'a');
+        end
+    }
+}
+
+fn writings_in_a_buffer(alloc: Global) -> Result<bool, AllocError> {
+    let mut out = TextBuffer::new(alloc);
+    out.put(b'b')?;
+    out.put_writing(&Letters(3))?;
+    Ok(out.as_slice() == b"baaa".as_slice())
+}
+
 #[test]
 fn json_text(rt: HostRuntime) {
     let alloc = rt.alloc();
     assert!(rt; out_of_memory_for_a_document(alloc));
+    assert!(rt; documents_in_a_buffer(alloc));
+    assert!(rt; updates_in_a_buffer(alloc));
+    assert!(rt; writings_in_a_buffer(alloc) == Ok(true));
 }
