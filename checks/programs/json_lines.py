@@ -4,7 +4,7 @@ import json
 import struct
 import subprocess
 import sys
-from base64 import b64decode
+from base64 import b64decode, b64encode
 from pathlib import Path
 
 import programs
@@ -33,6 +33,24 @@ CREATE TABLE drawn.shapes (g POINT, l VARCHAR(9) CHARACTER SET latin1, b VARBINA
 INSERT INTO drawn.shapes VALUES (POINT(1, 2), 'é', 'ab', 'ü', 'é', 'ü,ä');
 """
 SHAPE = {"l": "é", "b": "YWI=", "u": "ü", "e": "é", "s": ["ü", "ä"]}
+
+# Primary keys whose columns aren't in the table's order, one of them with a prefix; values that a log has in a rare form.
+KEYS = """CREATE TABLE drawn.turned (a INT, b INT, c INT, PRIMARY KEY (c, a));
+CREATE TABLE drawn.prefixed (a INT, s VARCHAR(9) CHARACTER SET latin1, PRIMARY KEY (s(3), a));
+CREATE TABLE drawn.unkeyed (a INT, b INT);
+CREATE TABLE drawn.rare (t TIMESTAMP(3) NULL, z TIMESTAMP NULL, e ENUM('a', 'b'), d DATETIME(2), b BIT(64));
+SET sql_mode = '', time_zone = '+00:00';
+INSERT INTO drawn.turned VALUES (1, 2, 3);
+INSERT INTO drawn.prefixed VALUES (1, 'x');
+INSERT INTO drawn.unkeyed VALUES (1, 2);
+INSERT INTO drawn.rare VALUES ('1970-01-01 00:00:00.5', '0000-00-00', 'none', '2026-11-28 10:00:00.25', b'1');
+"""
+PRIMARY_KEYS = {"turned": ["c", "a"], "prefixed": ["s", "a"], "unkeyed": None, "rare": None}
+RARE = {"t": "1970-01-01 00:00:00.500", "z": "0000-00-00 00:00:00", "e": 0, "d": "2026-11-28 10:00:00.25", "b": 1}
+
+# Character sets whose text is printed in Base64, each with text that is in it.
+UNDECODED = {"gbk": "茅é", "gb2312": "中", "big5": "中", "sjis": "ア", "cp932": "ア", "ujis": "ア", "eucjpms": "ア", "euckr": "한"}
+UNICODE = ("utf8mb3", "utf8mb4", "ucs2", "utf16", "utf16le", "utf32")
 
 
 # For the types of columns, the server's expression for a cell, and how its text and the JSON value compare.
@@ -87,6 +105,59 @@ def replayed(lines):
     return {table: collections.Counter({row: n for row, n in rows.items() if n}) for table, rows in held.items()}
 
 
+def texts(server):
+    """Statements that insert text in each of the server's character sets, and what the lines must have of it, by table."""
+    found = server.ask("SELECT character_set_name FROM information_schema.character_sets WHERE maxlen = 1;")
+    statements, wanted = [], {}
+    for (name,) in found:
+        if name == "binary":
+            continue
+        one = "HEX(CONVERT(CONVERT(UNHEX('{:02X}') USING {}) USING utf8mb4))"
+        codes = server.ask("SELECT " + ", ".join(one.format(byte, name) for byte in range(1, 256)) + ";")[0]
+        characters = [bytes.fromhex(code).decode() for code in codes]
+        known, lost = [], []
+        for byte, character in enumerate(characters, 1):
+            is_own = characters.index(character) == byte - 1 and character != "\ufffd" and (character != "?" or byte == 63)
+            (known if is_own else lost).append(byte)
+        rows = [bytes(known), *([bytes(lost)] if lost else [])]
+        shown = ["".join(characters[byte - 1] for byte in known), {"base64": b64encode(bytes(lost)).decode()}]
+        wanted[f"in_{name}"] = [(text, "a") for text in shown[: len(rows)]]
+        statements += [text_table(name, "a"), *(f"INSERT INTO drawn.in_{name} VALUES (UNHEX('{it.hex()}'), 1);" for it in rows)]
+    for name in UNICODE:
+        text = 'aé"\\\n茅' + ("" if name in ("utf8mb3", "ucs2") else "😀")
+        wanted[f"in_{name}"] = [(text, "é")]
+        statements += [
+            text_table(name, "é"),
+            f"INSERT INTO drawn.in_{name} VALUES (CONVERT(UNHEX('{text.encode().hex()}') USING utf8mb4), 1);",
+        ]
+    for name, text in UNDECODED.items():
+        encoded = server.ask(f"SELECT HEX(CONVERT('{text}' USING {name}));")[0][0]
+        value = {"base64": b64encode(bytes.fromhex(encoded)).decode()}
+        wanted[f"in_{name}"] = [(value, value), ({"base64": "aGk="}, value)]
+        statements += [text_table(name, text), f"INSERT INTO drawn.in_{name} VALUES ('{text}', 1), ('hi', 1);"]
+    return "\n".join(statements), wanted
+
+
+def text_table(name, member):
+    """The statement that makes a table with text and an ENUM in a character set."""
+    return f"CREATE TABLE drawn.in_{name} (t VARCHAR(300) CHARACTER SET {name}, e ENUM('{member}') CHARACTER SET {name});"
+
+
+def compare_texts(lines, wanted):
+    """Compares the lines of the tables with text."""
+    for table, rows in wanted.items():
+        found = [(it["data"]["t"], it["data"]["e"]) for it in lines if it.get("table") == table]
+        expect(found == rows, f"{table}: {found} and not {rows}")
+
+
+def compare_keys(lines):
+    """Compares the lines of the tables with primary keys and rare values."""
+    keys = {it["table"]: it.get("primary_key") for it in lines if it.get("table") in PRIMARY_KEYS}
+    expect(keys == PRIMARY_KEYS, f"primary keys: {keys}")
+    rare = [it["data"] for it in lines if it.get("table") == "rare"]
+    expect(rare == [RARE], f"rare values: {rare}")
+
+
 def with_server(program, daemon, folder):
     """The lines of a server's logs give its tables; returns their number."""
     server = SERVER.Server(daemon, folder)
@@ -94,6 +165,9 @@ def with_server(program, daemon, folder):
         server.ask("SET GLOBAL binlog_row_metadata = FULL;")
         server.ask(SERVER.script("checked"))
         server.ask(SHAPES)
+        server.ask(KEYS)
+        statements, wanted_texts = texts(server)
+        server.ask("SET NAMES utf8mb4; SET sql_mode = '';" + statements)
         server.ask("SET GLOBAL binlog_checksum = NONE;")
         server.ask(SERVER.script("unchecked"))
         wanted = {**server_rows(server, "checked"), **server_rows(server, "unchecked")}
@@ -107,7 +181,9 @@ def with_server(program, daemon, folder):
     lines = lines_of(program, *paths)
     shapes = [it["data"] for it in lines if it.get("table") == "shapes"]
     expect([{name: it[name] for name in SHAPE} for it in shapes] == [SHAPE], f"shapes: {shapes}")
-    held = replayed([it for it in lines if it.get("table") != "shapes"])
+    compare_keys(lines)
+    compare_texts(lines, wanted_texts)
+    held = replayed([it for it in lines if it.get("database") != "drawn"])
     for table, rows in wanted.items():
         found = held.get(table, collections.Counter())
         for row in (rows - found) + (found - rows):

@@ -1,8 +1,8 @@
 //! The feed with a checksum function that returns 0 for all bytes.
 
-use crate::words::{Fault, bytes_of, done, number_of, put_bytes, put_text};
+use crate::words::{Fault, bytes_of, done, number_of, put_bytes};
 use feed_checks::Verdict;
-use feed_replication::{rehearse, request, serve};
+use feed_replication::{Served, rehearse, request, serve};
 use feed_transactions::report;
 use std::alloc::Global;
 use std::io::Write;
@@ -49,7 +49,8 @@ fn put_run(
     put_lines(&writer.into_inner(), verdict, out)
 }
 
-/// `unsummed_serve LOG POSITION`: how serving from this position ends, and the bytes that are sent.
+/// `unsummed_serve LOG POSITION`: how serving from this position ends, the reason of a rejected request once more, and the bytes
+/// that are sent.
 fn put_served(alloc: Global, log: &str, position: &str, out: &mut Vec<u8>) -> Result<(), Fault> {
     let log = bytes_of(alloc, log)?;
     let Ok(asked) = request(alloc, number_of(position)? as u32, 1, b"") else {
@@ -58,8 +59,10 @@ fn put_served(alloc: Global, log: &str, position: &str, out: &mut Vec<u8>) -> Re
     let mut writer = Watched::new(Vec::new(alloc));
     let mut reader = Watched::new(log.as_slice());
     let served = serve(alloc, &asked, b"", LIMIT, &mut reader, &zero, &mut writer);
-    put_text(served.name(), out)?;
-    out.push(b' ')?;
+    done(write!(out, "{served} "))?;
+    if let Served::Refused(error) = served {
+        done(write!(out, "for {error} "))?;
+    }
     put_bytes(&writer.into_inner(), out)
 }
 

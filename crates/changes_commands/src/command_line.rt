@@ -1,5 +1,6 @@
 //! The words of the command line.
 
+use changes_character_sets::CharacterSet;
 use clap::{Arg, ArgAction, ArgMatches, Command, Error};
 use jiff::civil::DateTime;
 use jiff::tz::Offset;
@@ -34,6 +35,8 @@ pub struct Options<'w> {
     /// Whether changes are printed by transaction.
     pub by_transaction: bool,
     pub is_json: bool,
+    /// The character set of columns whose character set isn't in the log.
+    pub character_set: Option<CharacterSet>,
     pub range: Range,
     pub databases: Vec<&'w [u8]>,
     /// Tables as `database.table`.
@@ -75,6 +78,13 @@ const AS_JSON: Known = Known {
     name: "json",
     value: "",
     help: "print a JSON object for each log",
+};
+
+const CHARACTER_SET: Known = Known {
+    takes: Takes::Value,
+    name: "character-set",
+    value: "NAME",
+    help: "the character set of text whose character set isn't in the log, such as utf8mb4",
 };
 
 const START: Known = Known {
@@ -161,6 +171,7 @@ const JSON: KnownCommand = KnownCommand {
     about: "Prints a JSON object a line for each changed row",
     options: &[
         TRANSACTIONS,
+        CHARACTER_SET,
         START,
         STOP,
         FROM_TIME,
@@ -280,10 +291,10 @@ impl From<AllocError> for Refused {
 impl Refused {
     /// A value that this option takes.
     pub fn example(option: &str) -> &'static str {
-        if option == "table" || option == "exclude-table" {
-            "shop.orders"
-        } else {
-            "'2026-11-27 10:00:00'"
+        match option {
+            "table" | "exclude-table" => "shop.orders",
+            "character-set" => "utf8mb4",
+            _ => "'2026-11-27 10:00:00'",
         }
     }
 }
@@ -322,6 +333,17 @@ fn time_of(matches: &ArgMatches<'_>, option: &'static str) -> Result<Option<u64>
     match seconds_of(text) {
         Some(seconds) => Ok(Some(seconds)),
         None => Err(Refused::Value(option)),
+    }
+}
+
+/// The character set that an option names, if it is given.
+fn character_set_of(matches: &ArgMatches<'_>) -> Result<Option<CharacterSet>, Refused> {
+    let Some(name) = matches.get_str(CHARACTER_SET.name) else {
+        return Ok(None);
+    };
+    match CharacterSet::named(name) {
+        Some(set) => Ok(Some(set)),
+        None => Err(Refused::Value(CHARACTER_SET.name)),
     }
 }
 
@@ -395,6 +417,7 @@ impl<'w> Options<'w> {
             task,
             by_transaction: matches!(task, Task::Json) && matches.get_flag("transactions"),
             is_json: matches!(task, Task::Check) && matches.get_flag("json"),
+            character_set: None,
             range,
             databases: Vec::new(alloc),
             tables: Vec::new(alloc),
@@ -418,6 +441,9 @@ impl<'w> Options<'w> {
     fn add(&mut self, matches: &ArgMatches<'w>) -> Result<(), Refused> {
         for option in ["database", "table", "exclude-table"] {
             check_single(matches, option)?;
+        }
+        if let Task::Json = self.task {
+            self.character_set = character_set_of(matches)?;
         }
         add_names(matches, "database", &mut self.databases)?;
         add_tables(matches, "table", &mut self.tables)?;

@@ -12,6 +12,7 @@ mod output;
 mod progress;
 mod rotation;
 mod shown;
+mod tagged_gtid;
 
 pub use command_line::{Options, Range, Refused, Task, parse};
 pub use event_walk::Listed;

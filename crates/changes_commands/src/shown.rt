@@ -1,5 +1,6 @@
 //! Event types and GTIDs as text.
 
+use crate::tagged_gtid::TaggedGtid;
 use changes_json::Text;
 use feed_checks::Gtid;
 use rows_constants::EventType;
@@ -25,7 +26,21 @@ fn put_uuid(uuid: &[u8; 16], out: &mut Text) {
     }
 }
 
-/// Appends a GTID: `uuid:number`, or null. That of a tagged one isn't parsed.
+/// Appends a tagged GTID: `uuid:tag:number`; an object with the Base64 of the event's body if that can't be read.
+fn put_tagged(body: &[u8], out: &mut Text) {
+    let Some(gtid) = TaggedGtid::read(body) else {
+        return out.base64_object(body);
+    };
+    out.push(b'"');
+    put_uuid(&gtid.uuid, out);
+    out.push(b':');
+    out.words(gtid.tag);
+    out.push(b':');
+    out.unsigned(gtid.number);
+    out.push(b'"');
+}
+
+/// Appends a GTID: `uuid:number`, `uuid:tag:number`, or null.
 pub fn put_gtid(gtid: Option<Gtid<'_>>, out: &mut Text) {
     match gtid {
         Some(Gtid::Numbered { uuid, number }) => {
@@ -35,7 +50,7 @@ pub fn put_gtid(gtid: Option<Gtid<'_>>, out: &mut Text) {
             out.unsigned(number);
             out.push(b'"');
         }
-        Some(Gtid::Tagged(_)) => out.string("tagged"),
+        Some(Gtid::Tagged(body)) => put_tagged(body, out),
         Some(Gtid::Anonymous) | None => out.null(),
     }
 }

@@ -25,30 +25,30 @@ fn little_endian(bytes: &[u8]) -> u64 {
     number
 }
 
-/// Appends the member of an ENUM: its name, or its number if the names aren't known. 0 is the empty string of an invalid value.
+/// Appends the member of an ENUM: its name, or its number if that has no name. The number 0 is that of an invalid value.
 fn put_member(column: &ShownColumn, number: u64, out: &mut Text) {
-    if number == 0 && !column.members.is_empty() {
-        return out.put(b"\"\"");
-    }
     match column.members.get(number.wrapping_sub(1) as usize) {
         Some(name) => out.append(name),
         None => out.unsigned(number),
     }
 }
 
-/// Appends the members of a SET as an array of names, or the number of its bits if the names aren't known.
+/// Appends the members of a SET as an array of names, or the number of its bits if the names aren't known. A bit without a name is
+/// its value.
 fn put_members(column: &ShownColumn, bits: u64, out: &mut Text) {
     if column.members.is_empty() {
         return out.unsigned(bits);
     }
     out.push(b'[');
-    let mut rest = bits;
-    for name in &column.members {
-        if rest % 2 == 1 {
+    for index in 0..64u32 {
+        let bit = 1u64 << index;
+        if bits & bit != 0 {
             out.comma();
-            out.append(name);
+            match column.members.get(index as usize) {
+                Some(name) => out.append(name),
+                None => out.unsigned(bit),
+            }
         }
-        rest /= 2;
     }
     out.push(b']');
 }
@@ -58,6 +58,11 @@ fn put_number(column: &ShownColumn, number: u64, out: &mut Text) {
     match column.shown {
         Shown::Enum => put_member(column, number, out),
         Shown::Set => put_members(column, number, out),
+        Shown::Timestamp => {
+            // Its cells have four bytes.
+            let seconds = u32::try_from(number).unwrap_or(0);
+            out.datetime(moment_of(seconds, 0), 0);
+        }
         _ => out.unsigned(number),
     }
 }
@@ -65,11 +70,21 @@ fn put_number(column: &ShownColumn, number: u64, out: &mut Text) {
 /// Appends bytes.
 fn put_bytes(column: &ShownColumn, bytes: &[u8], out: &mut Text) {
     match column.shown {
-        Shown::Binary => out.base64(bytes),
-        Shown::Latin1 => out.latin1(bytes),
         Shown::Bit => out.unsigned(big_endian(bytes)),
         Shown::Enum | Shown::Set => put_number(column, little_endian(bytes), out),
-        Shown::Text | Shown::Plain | Shown::Date => out.text(bytes),
+        shown => out.shown(shown, bytes),
+    }
+}
+
+impl Text {
+    /// Appends bytes in this way: text as a string if it is text of its character set; binary bytes as a string in Base64; others as an
+    /// object with their Base64.
+    pub(crate) fn shown(&mut self, shown: Shown, bytes: &[u8]) {
+        match shown {
+            Shown::Text(set) => self.text_in(set, bytes),
+            Shown::Binary => self.base64(bytes),
+            _ => self.base64_object(bytes),
+        }
     }
 }
 
@@ -78,13 +93,13 @@ fn put_value(column: &ShownColumn, value: &Value, out: &mut Text) {
     match value {
         Value::Date(year, month, day, hour, minute, second, micros) => {
             let moment = Moment {
-                year: *year,
-                month: *month,
-                day: *day,
-                hour: *hour,
-                minute: *minute,
-                second: *second,
-                micros: *micros,
+                year: u32::from(*year),
+                month: u32::from(*month),
+                day: u32::from(*day),
+                hour: u32::from(*hour),
+                minute: u32::from(*minute),
+                second: u32::from(*second),
+                micros: i64::from(*micros),
             };
             match column.shown {
                 Shown::Date => out.date(moment),
@@ -95,9 +110,9 @@ fn put_value(column: &ShownColumn, value: &Value, out: &mut Text) {
             let duration = Duration {
                 is_negative: *is_negative,
                 hours: days.saturating_mul(24).saturating_add(u32::from(*hours)),
-                minutes: *minutes,
-                seconds: *seconds,
-                micros: *micros,
+                minutes: u32::from(*minutes),
+                seconds: u32::from(*seconds),
+                micros: i64::from(*micros),
             };
             out.duration(duration, column.digits);
         }
@@ -120,7 +135,10 @@ fn put_converted(column: &ShownColumn, cell: CellRef<'_>, out: &mut Text) {
 pub(crate) fn put_cell(column: &ShownColumn, cell: CellRef<'_>, out: &mut Text) {
     match cell {
         CellRef::Null => out.null(),
-        CellRef::Int(number) if number < 0 || column.shown == Shown::Plain => out.integer(number),
+        CellRef::Int(number) => match column.shown {
+            Shown::Plain => out.integer(number),
+            _ => put_number(column, number.unsigned_abs(), out),
+        },
         other => put_other(column, other, out),
     }
 }
@@ -129,7 +147,6 @@ pub(crate) fn put_cell(column: &ShownColumn, cell: CellRef<'_>, out: &mut Text) 
 #[inline(never)]
 fn put_other(column: &ShownColumn, cell: CellRef<'_>, out: &mut Text) {
     match cell {
-        CellRef::Int(number) => put_number(column, number.unsigned_abs(), out),
         CellRef::UInt(number) => put_number(column, number, out),
         CellRef::Float(bits) => out.float(bits),
         CellRef::Double(bits) => out.double(bits),
@@ -137,7 +154,7 @@ fn put_other(column: &ShownColumn, cell: CellRef<'_>, out: &mut Text) {
         CellRef::Year(0) => out.unsigned(0),
         CellRef::Year(years) => out.unsigned(1900 + u64::from(years)),
         CellRef::Timestamp(seconds, micros) => {
-            let moment = moment_of(seconds, u32::try_from(micros).unwrap_or(0));
+            let moment = moment_of(seconds.cast_unsigned(), i64::from(micros));
             out.datetime(moment, column.digits);
         }
         CellRef::Json(bytes) => put_document(bytes, out),

@@ -1,12 +1,13 @@
 //! JSON documents and JSON diffs as JSON.
 
 use crate::text::Text;
+use crate::times::{Duration, Moment};
 use rows_jsonb::{
     JsonContainer, JsonDiff, JsonDiffOperation, JsonDom, JsonNumber, JsonScalar, Value as Document,
     json_diffs,
 };
+use rows_values::{Decimal, MysqlTime, MysqlTimestampType};
 use std::collections::BTreeMap;
-use std::fmt::Display;
 use wire_buf::ParseBuf;
 
 /// Appends a document.
@@ -46,31 +47,77 @@ fn put_items(items: &Vec<JsonDom>, out: &mut Text) {
     out.push(b']');
 }
 
+/// Appends a key and a colon. One that could be taken for a key of the objects that this module makes has one more `$` in front.
+fn put_key(key: &str, out: &mut Text) {
+    let is_like_ours = key.starts_with('$') || key == "base64" || key == "diffs";
+    out.push(b'"');
+    if is_like_ours {
+        out.push(b'$');
+    }
+    out.content(key.as_bytes());
+    out.put(b"\":");
+}
+
 /// Appends an object.
 #[cycle(dom)]
 fn put_members(members: &BTreeMap<String, JsonDom>, out: &mut Text) {
     out.push(b'{');
     for (key, member) in members.iter() {
         out.comma();
-        out.string(key.as_str());
-        out.push(b':');
+        put_key(key.as_str(), out);
         put_dom(member, out);
     }
     out.push(b'}');
 }
 
-/// Appends a value that isn't a container. Decimals, dates and times are strings; an opaque value is an object of its type and
-/// its bytes.
+/// Appends a date, a time, or both, as an object.
+fn put_time(time: &MysqlTime, out: &mut Text) {
+    let micros = i64::from(time.second_part);
+    let moment = Moment {
+        year: time.year,
+        month: time.month,
+        day: time.day,
+        hour: time.hour,
+        minute: time.minute,
+        second: time.second,
+        micros,
+    };
+    out.push(b'{');
+    match time.time_type {
+        MysqlTimestampType::MYSQL_TIMESTAMP_DATE => {
+            out.key("$date");
+            out.date(moment);
+        }
+        MysqlTimestampType::MYSQL_TIMESTAMP_TIME => {
+            out.key("$time");
+            let duration = Duration {
+                is_negative: time.neg,
+                hours: time.hour,
+                minutes: time.minute,
+                seconds: time.second,
+                micros,
+            };
+            out.duration(duration, 6);
+        }
+        _ => {
+            out.key("$datetime");
+            out.datetime(moment, 6);
+        }
+    }
+    out.push(b'}');
+}
+
+/// Appends a value that isn't a container. Decimals, dates, times and opaque values are objects.
 fn put_scalar(scalar: &JsonScalar, out: &mut Text) {
     match scalar {
         JsonScalar::Null => out.null(),
         JsonScalar::Boolean(value) => out.boolean(*value),
         JsonScalar::String(text) => out.string(text.as_str()),
         JsonScalar::Number(number) => put_number(number, out),
-        JsonScalar::DateTime(time) => put_quoted(time, out),
+        JsonScalar::DateTime(time) => put_time(time, out),
         JsonScalar::Opaque(opaque) => {
             out.push(b'{');
-            out.key("type");
+            out.key("$type");
             out.unsigned(u64::from(opaque.field_type() as u8));
             out.key("base64");
             out.base64(opaque.value());
@@ -85,15 +132,17 @@ fn put_number(number: &JsonNumber, out: &mut Text) {
         JsonNumber::Int(number) => out.integer(*number),
         JsonNumber::Uint(number) => out.unsigned(*number),
         JsonNumber::Double(bits) => out.double(*bits),
-        JsonNumber::Decimal(decimal) => put_quoted(decimal, out),
+        JsonNumber::Decimal(decimal) => put_decimal(decimal, out),
     }
 }
 
-/// Appends what a value is shown as, as a string.
-fn put_quoted<T: Display>(value: &T, out: &mut Text) {
+/// Appends a decimal as an object, which tells it from a double.
+fn put_decimal(decimal: &Decimal, out: &mut Text) {
+    out.push(b'{');
+    out.key("$decimal");
     out.push(b'"');
-    out.show(value);
-    out.push(b'"');
+    out.show(decimal);
+    out.put(b"\"}");
 }
 
 /// The name of a diff's operation.

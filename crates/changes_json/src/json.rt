@@ -1,25 +1,13 @@
 //! JSON text (RFC 8259).
 
 use crate::text::Text;
-use base64::engine::general_purpose::STANDARD;
+use crate::writings::{Base64Piece, PIECE_LEN, StringPiece};
+use changes_character_sets::CharacterSet;
 use std::num::{f32_from_bits_with_nan, f64_from_bits_with_nan};
 use std::str;
 
 /// Hexadecimal digits.
 const DIGITS: [u8; 16] = *b"0123456789abcdef";
-
-/// The characters of the bytes 0x80 to 0x9f in MySQL's character set latin1, which is cp1252.
-const LATIN1: [char; 32] = [
-    '\u{20ac}', '\u{81}', '\u{201a}', '\u{192}', '\u{201e}', '\u{2026}', '\u{2020}', '\u{2021}',
-    '\u{2c6}', '\u{2030}', '\u{160}', '\u{2039}', '\u{152}', '\u{8d}', '\u{17d}', '\u{8f}',
-    '\u{90}', '\u{2018}', '\u{2019}', '\u{201c}', '\u{201d}', '\u{2022}', '\u{2013}', '\u{2014}',
-    '\u{2dc}', '\u{2122}', '\u{161}', '\u{203a}', '\u{153}', '\u{9d}', '\u{17e}', '\u{178}',
-];
-
-/// Whether a byte of a string has to be escaped.
-fn is_escaped(byte: u8) -> bool {
-    byte < 32 || byte == b'"' || byte == b'\\'
-}
 
 impl Text {
     /// Appends a key that needs no escape, after a comma unless it is the first member: `,"key":`.
@@ -70,35 +58,23 @@ impl Text {
         }
     }
 
-    /// Appends a string.
-    pub fn string(&mut self, text: &str) {
-        let bytes = text.as_bytes();
-        let mut plain = 0usize;
-        self.push(b'"');
-        for (index, byte) in bytes.iter().enumerate() {
-            if is_escaped(*byte) {
-                self.put(bytes.get(plain..index).unwrap_or(&[]));
-                self.escape(*byte);
-                plain = index + 1;
-            }
+    /// Appends bytes as they are between the quotes of a string.
+    pub(crate) fn content(&mut self, bytes: &[u8]) {
+        for piece in bytes.chunks(PIECE_LEN) {
+            self.writing(&StringPiece(piece));
         }
-        self.put(bytes.get(plain..).unwrap_or(&[]));
+    }
+
+    /// Appends bytes as a string.
+    fn quoted(&mut self, bytes: &[u8]) {
+        self.push(b'"');
+        self.content(bytes);
         self.push(b'"');
     }
 
-    /// Appends the escape of a byte.
-    fn escape(&mut self, byte: u8) {
-        match byte {
-            b'"' => self.put(b"\\\""),
-            b'\\' => self.put(b"\\\\"),
-            b'\n' => self.put(b"\\n"),
-            b'\r' => self.put(b"\\r"),
-            b'\t' => self.put(b"\\t"),
-            byte => {
-                self.put(b"\\u00");
-                self.hexadecimal(byte);
-            }
-        }
+    /// Appends a string.
+    pub fn string(&mut self, text: &str) {
+        self.quoted(text.as_bytes());
     }
 
     /// Appends the two hexadecimal digits of a byte.
@@ -110,9 +86,8 @@ impl Text {
     /// Appends bytes as a string in Base64.
     pub(crate) fn base64(&mut self, bytes: &[u8]) {
         self.push(b'"');
-        match STANDARD.encode(self.alloc(), bytes) {
-            Ok(text) => self.put(text.as_str().as_bytes()),
-            Err(_) => self.fall_short(),
+        for piece in bytes.chunks(PIECE_LEN) {
+            self.writing(&Base64Piece(piece));
         }
         self.push(b'"');
     }
@@ -121,27 +96,28 @@ impl Text {
     pub fn text(&mut self, bytes: &[u8]) {
         match str::from_utf8(bytes) {
             Ok(text) => self.string(text),
-            Err(_) => {
-                self.put(b"{\"base64\":");
-                self.base64(bytes);
-                self.push(b'}');
-            }
+            Err(_) => self.base64_object(bytes),
         }
     }
 
-    /// Appends text in latin1 as a string.
-    pub(crate) fn latin1(&mut self, bytes: &[u8]) {
-        let mut text = String::new(self.alloc());
-        for byte in bytes {
-            let character = match LATIN1.get(usize::from(byte.wrapping_sub(0x80))) {
-                Some(character) => *character,
-                None => char::from(*byte),
-            };
-            if text.push(character).is_err() {
-                self.fall_short();
-            }
+    /// Appends bytes as `{"base64":..}`.
+    pub fn base64_object(&mut self, bytes: &[u8]) {
+        self.put(b"{\"base64\":");
+        self.base64(bytes);
+        self.push(b'}');
+    }
+
+    /// Appends text of a character set as a string; bytes that aren't such text as `{"base64":..}`.
+    pub(crate) fn text_in(&mut self, set: CharacterSet, bytes: &[u8]) {
+        if let Some(text) = set.as_utf8(bytes) {
+            return self.string(text);
         }
-        self.string(text.as_str());
+        let mut text = Vec::new(self.alloc());
+        match set.decode(bytes, &mut text) {
+            Ok(true) => self.text(&text),
+            Ok(false) => self.base64_object(bytes),
+            Err(_) => self.fall_short(),
+        }
     }
 
     /// Appends a name as a string, with replacement characters where it isn't UTF-8.

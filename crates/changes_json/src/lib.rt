@@ -8,11 +8,14 @@ mod character_sets;
 mod columns;
 mod documents;
 mod json;
+mod members;
+mod names;
 mod rows;
 mod tables;
 mod text;
 mod times;
+mod writings;
 
 pub use rows::{RowReader, RowText, change_name};
-pub use tables::{ShownTable, ShownTables};
+pub use tables::{Lacks, ShownTable, ShownTables};
 pub use text::Text;

@@ -3,7 +3,6 @@
 ghost use Rattle.std.specs.Prelude.{◌≡◌, None, Some, IfSome};
 
 use crate::cells::put_cell;
-use crate::columns::{ShownColumn, put_index_key};
 use crate::tables::ShownTable;
 use crate::text::Text;
 use rows_cells::{CellRef, RowPart, RowsCursor};
@@ -129,21 +128,19 @@ fn put_column(table: &ShownTable, index: usize, text: &[u8], out: &mut Text) {
 /// Appends the key of a column.
 #[inline(always)]
 fn put_column_key(table: &ShownTable, index: usize, out: &mut Text) {
-    match table.columns.get(index) {
-        Some(column) => match column.key.bytes() {
+    if let Some(column) = table.columns.get(index) {
+        match column.key.bytes() {
             [_, first @ ..] if out.ends_with(b'{') => out.put(first),
             key => out.put(key),
-        },
-        None => put_index_key(index, out),
+        }
     }
 }
 
 /// Appends a cell of a column.
 #[inline(always)]
 fn put_shown(table: &ShownTable, index: u32, cell: CellRef<'_>, out: &mut Text) {
-    match table.columns.get(index as usize) {
-        Some(column) => put_cell(column, cell, out),
-        None => put_cell(&ShownColumn::unknown(out.alloc()), cell, out),
+    if let Some(column) = table.columns.get(index as usize) {
+        put_cell(column, cell, out);
     }
 }
 

@@ -1,9 +1,12 @@
 //! The tables whose rows are shown.
 
-use crate::columns::{ShownColumn, columns_of, lacks_signs};
+use crate::columns::{Shown, ShownColumn, columns_of};
+use crate::names::key_of;
 use crate::text::Text;
+use changes_character_sets::CharacterSet;
 use rows_table_map::TableMapEvent;
 use std::alloc::{AllocError, Global};
+use wire_constants::ColumnType;
 
 /// The most tables that are kept.
 const MAX_TABLES: usize = 256;
@@ -17,20 +20,25 @@ pub struct ShownTable {
     pub names: Text,
     /// `,"primary_key":[..]`; empty if the table map has no key.
     pub key: Text,
-    lacks_signs: bool,
+    lacks: Lacks,
 }
 
 impl ShownTable {
-    /// The table with this table map, whose bytes these are.
-    fn new(alloc: Global, map: &TableMapEvent<'_>, bytes: &[u8]) -> Result<ShownTable, AllocError> {
+    /// The table with this table map, whose bytes these are. `unnamed` is how text is shown whose character set it doesn't name.
+    fn new(
+        alloc: Global,
+        unnamed: Shown,
+        map: &TableMapEvent<'_>,
+        bytes: &[u8],
+    ) -> Result<ShownTable, AllocError> {
         let bytes = Vec::from_slice(alloc, bytes)?;
-        let columns = columns_of(alloc, map)?;
+        let columns = columns_of(alloc, unnamed, map)?;
         Ok(ShownTable {
             map: bytes,
             names: names_of(alloc, map),
-            key: key_of(alloc, &columns),
+            key: key_of(alloc, map, &columns)?,
             columns,
-            lacks_signs: lacks_signs(map),
+            lacks: Lacks::of(map),
         })
     }
 }
@@ -39,55 +47,81 @@ impl ShownTable {
 fn names_of(alloc: Global, map: &TableMapEvent<'_>) -> Text {
     let mut names = Text::new(alloc);
     names.key("database");
-    names.name(map.database_name_raw());
+    names.text(map.database_name_raw());
     names.key("table");
-    names.name(map.table_name_raw());
+    names.text(map.table_name_raw());
     names
 }
 
-/// The primary key of a table, as a member of an object, if the table map has one.
-fn key_of(alloc: Global, columns: &[ShownColumn]) -> Text {
-    let mut key = Text::new(alloc);
-    for column in columns {
-        if column.is_key {
-            if key.len() == 0 {
-                key.key("primary_key");
-                key.push(b'[');
-            }
-            key.comma();
-            key.append(&column.name);
+/// What table maps don't say of columns that they have.
+#[derive(Clone, Copy)]
+pub struct Lacks {
+    /// Which integers are unsigned.
+    pub signs: bool,
+    /// The character sets of text.
+    pub character_sets: bool,
+}
+
+impl Lacks {
+    /// Nothing.
+    const NOTHING: Lacks = Lacks {
+        signs: false,
+        character_sets: false,
+    };
+
+    /// What a table map lacks: it says either both or, without optional metadata, nothing.
+    fn of(map: &TableMapEvent<'_>) -> Lacks {
+        let mut lacks = Lacks::NOTHING;
+        if !map.optional_metadata_raw().is_empty() {
+            return lacks;
         }
+        for number in map.column_types_raw() {
+            match ColumnType::try_from(*number) {
+                Ok(
+                    ColumnType::MYSQL_TYPE_TINY
+                    | ColumnType::MYSQL_TYPE_SHORT
+                    | ColumnType::MYSQL_TYPE_INT24
+                    | ColumnType::MYSQL_TYPE_LONG
+                    | ColumnType::MYSQL_TYPE_LONGLONG,
+                ) => lacks.signs = true,
+                Ok(column_type) if column_type.is_character_type() => lacks.character_sets = true,
+                _ => {}
+            }
+        }
+        lacks
     }
-    if key.len() > 0 {
-        key.push(b']');
-    }
-    key
 }
 
 /// The tables so far.
 #[derive(Drop)]
 pub struct ShownTables {
     alloc: Global,
+    /// How text is shown whose character set isn't in the log.
+    unnamed: Shown,
     tables: Vec<ShownTable>,
     newest: usize,
-    /// Whether a table so far has integers, and its map doesn't say which are unsigned.
-    lacks_signs: bool,
+    /// What the maps of the tables so far lack.
+    lacks: Lacks,
 }
 
 impl ShownTables {
-    /// No tables.
-    pub fn new(alloc: Global) -> ShownTables {
+    /// No tables. `character_set` is that of text whose character set isn't in the log, if it is known.
+    pub fn new(alloc: Global, character_set: Option<CharacterSet>) -> ShownTables {
         ShownTables {
             alloc,
+            unnamed: match character_set {
+                Some(set) => Shown::Text(set),
+                None => Shown::Unknown,
+            },
             tables: Vec::new(alloc),
             newest: 0,
-            lacks_signs: false,
+            lacks: Lacks::NOTHING,
         }
     }
 
-    /// Whether a table so far has integers, and its map doesn't say which are unsigned.
-    pub fn lacks_signs(&self) -> bool {
-        self.lacks_signs
+    /// What the maps of the tables so far lack.
+    pub fn lacks(&self) -> Lacks {
+        self.lacks
     }
 
     /// The index of a kept table with this map.
@@ -118,8 +152,9 @@ impl ShownTables {
         if self.tables.len() >= MAX_TABLES {
             self.tables.clear();
         }
-        let table = ShownTable::new(self.alloc, map, bytes)?;
-        self.lacks_signs |= table.lacks_signs;
+        let table = ShownTable::new(self.alloc, self.unnamed, map, bytes)?;
+        self.lacks.signs |= table.lacks.signs;
+        self.lacks.character_sets |= table.lacks.character_sets;
         self.newest = self.tables.len();
         Ok(self.tables.push(table)?)
     }

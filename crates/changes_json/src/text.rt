@@ -1,6 +1,6 @@
 //! Text that grows.
 
-use feed_text::TextBuffer;
+use feed_text::{TextBuffer, Writing};
 use std::alloc::{AllocError, Global};
 use std::fmt::{Debug, Display};
 use std::io::Write;
@@ -68,6 +68,13 @@ impl Text {
     /// Appends bytes.
     pub fn put(&mut self, bytes: &[u8]) {
         if self.bytes.put_text(bytes).is_err() {
+            self.is_short = true;
+        }
+    }
+
+    /// Appends what writes itself at an offset.
+    pub(crate) fn writing<W: Writing>(&mut self, writing: &W) {
+        if self.bytes.put_writing(writing).is_err() {
             self.is_short = true;
         }
     }

@@ -1,19 +1,18 @@
 //! Dates and times as MySQL shows them.
 
 use crate::text::Text;
-use jiff::Timestamp;
-use jiff::tz::Offset;
+use changes_writers::utc_of_seconds;
 
 /// The date and the time of a value, and its microseconds.
 #[derive(Clone, Copy)]
 pub(crate) struct Moment {
-    pub(crate) year: u16,
-    pub(crate) month: u8,
-    pub(crate) day: u8,
-    pub(crate) hour: u8,
-    pub(crate) minute: u8,
-    pub(crate) second: u8,
-    pub(crate) micros: u32,
+    pub(crate) year: u32,
+    pub(crate) month: u32,
+    pub(crate) day: u32,
+    pub(crate) hour: u32,
+    pub(crate) minute: u32,
+    pub(crate) second: u32,
+    pub(crate) micros: i64,
 }
 
 /// A duration, as in a TIME.
@@ -21,20 +20,33 @@ pub(crate) struct Moment {
 pub(crate) struct Duration {
     pub(crate) is_negative: bool,
     pub(crate) hours: u32,
-    pub(crate) minutes: u8,
-    pub(crate) seconds: u8,
-    pub(crate) micros: u32,
+    pub(crate) minutes: u32,
+    pub(crate) seconds: u32,
+    pub(crate) micros: i64,
 }
 
 impl Text {
-    /// Appends the first digits of microseconds after a point; nothing for no digits.
-    fn fraction(&mut self, micros: u32, digits: u8) {
-        if digits == 0 {
+    /// Appends microseconds after a point: so many digits, or all that aren't zero if these are more; nothing for no digits.
+    fn fraction(&mut self, micros: i64, digits: u8) {
+        let is_whole = match digits {
+            0 => micros == 0,
+            1 => micros % 100_000 == 0,
+            2 => micros % 10_000 == 0,
+            3 => micros % 1_000 == 0,
+            4 => micros % 100 == 0,
+            5 => micros % 10 == 0,
+            _ => true,
+        };
+        if digits == 0 && is_whole {
             return;
         }
         self.push(b'.');
-        let mut rest = micros;
-        for _ in 0..digits.min(6) {
+        if !(0..1_000_000).contains(&micros) {
+            return self.integer(micros);
+        }
+        let shown = if is_whole { digits.min(6) } else { 6 };
+        let mut rest = micros as u32;
+        for _ in 0..shown {
             self.push(b'0' + (rest / 100_000 % 10) as u8);
             rest = rest % 100_000 * 10;
         }
@@ -43,23 +55,23 @@ impl Text {
     /// Appends `YYYY-MM-DD`.
     fn days(&mut self, moment: Moment) {
         if moment.year < 10_000 {
-            self.two_digits(u32::from(moment.year / 100));
-            self.two_digits(u32::from(moment.year));
+            self.two_digits(moment.year / 100);
+            self.two_digits(moment.year);
         } else {
             self.unsigned(u64::from(moment.year));
         }
         self.push(b'-');
-        self.two_digits(u32::from(moment.month));
+        self.two_digits(moment.month);
         self.push(b'-');
-        self.two_digits(u32::from(moment.day));
+        self.two_digits(moment.day);
     }
 
     /// Appends `:mm:ss`.
-    fn minutes(&mut self, minutes: u8, seconds: u8) {
+    fn minutes(&mut self, minutes: u32, seconds: u32) {
         self.push(b':');
-        self.two_digits(u32::from(minutes));
+        self.two_digits(minutes);
         self.push(b':');
-        self.two_digits(u32::from(seconds));
+        self.two_digits(seconds);
     }
 
     /// Appends `YYYY-MM-DD` as a string.
@@ -74,7 +86,7 @@ impl Text {
         self.push(b'"');
         self.days(moment);
         self.push(b' ');
-        self.two_digits(u32::from(moment.hour));
+        self.two_digits(moment.hour);
         self.minutes(moment.minute, moment.second);
         self.fraction(moment.micros, digits);
         self.push(b'"');
@@ -97,8 +109,8 @@ impl Text {
     }
 }
 
-/// The date and the time, in UTC, of a TIMESTAMP: all zero for 0, as MySQL shows it.
-pub(crate) fn moment_of(seconds: i32, micros: u32) -> Moment {
+/// The date and the time, in UTC, of a TIMESTAMP: all zero for 0 without a fraction, as MySQL shows it.
+pub(crate) fn moment_of(seconds: u32, micros: i64) -> Moment {
     let zero = Moment {
         year: 0,
         month: 0,
@@ -108,20 +120,17 @@ pub(crate) fn moment_of(seconds: i32, micros: u32) -> Moment {
         second: 0,
         micros,
     };
-    if seconds == 0 {
+    if seconds == 0 && micros == 0 {
         return zero;
     }
-    let Ok(timestamp) = Timestamp::from_second(i64::from(seconds)) else {
-        return zero;
-    };
-    let time = Offset::UTC.to_datetime(timestamp);
+    let (day, clock) = utc_of_seconds(i64::from(seconds), 0);
     Moment {
-        year: u16::try_from(time.year()).unwrap_or(0),
-        month: u8::try_from(time.month()).unwrap_or(0),
-        day: u8::try_from(time.day()).unwrap_or(0),
-        hour: u8::try_from(time.hour()).unwrap_or(0),
-        minute: u8::try_from(time.minute()).unwrap_or(0),
-        second: u8::try_from(time.second()).unwrap_or(0),
+        year: day.year,
+        month: day.month,
+        day: day.day,
+        hour: clock.hour,
+        minute: clock.minute,
+        second: clock.second,
         micros,
     }
 }

@@ -3,3 +3,4 @@ pub mod Locations
 pub mod LogWalks
 pub mod Counting
 pub mod Findings
+pub mod WalkedStops

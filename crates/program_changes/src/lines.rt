@@ -1,7 +1,8 @@
 //! Transactions as lines of JSON.
 
+use changes_character_sets::CharacterSet;
 use changes_commands::put_gtid;
-use changes_json::{RowReader, RowText, ShownTables, Text, change_name};
+use changes_json::{Lacks, RowReader, RowText, ShownTables, Text, change_name};
 use events_frames::{BinlogEventHeader, QueryTexts};
 use feed_change_log::{Change, CommittedTransaction, TableRows, What};
 use rows_errors::RowsError;
@@ -36,11 +37,15 @@ fn put_header(header: BinlogEventHeader, out: &mut Text) {
 }
 
 impl Lines {
-    /// No lines.
-    pub(crate) fn new(alloc: Global, by_transaction: bool) -> Lines {
+    /// No lines. `character_set` is that of text whose character set isn't in the log, if it is known.
+    pub(crate) fn new(
+        alloc: Global,
+        by_transaction: bool,
+        character_set: Option<CharacterSet>,
+    ) -> Lines {
         Lines {
             by_transaction,
-            tables: ShownTables::new(alloc),
+            tables: ShownTables::new(alloc, character_set),
             row: RowText::new(alloc),
             origin: Text::new(alloc),
             head: Text::new(alloc),
@@ -51,9 +56,9 @@ impl Lines {
         }
     }
 
-    /// Whether a table so far has integers, and its map doesn't say which are unsigned.
-    pub(crate) fn lacks_signs(&self) -> bool {
-        self.tables.lacks_signs()
+    /// What the maps of the tables so far lack.
+    pub(crate) fn lacks(&self) -> Lacks {
+        self.tables.lacks()
     }
 
     /// The lines that can be written: all, or within a transaction all but the newest, which may get more.
