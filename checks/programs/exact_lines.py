@@ -127,13 +127,31 @@ def names(*all_names):
     return logs.field(4, b"".join(bytes([len(it)]) + it for it in all_names))
 
 
-def compare(program, folder, write, piece):
-    """The lines of a log have this piece."""
+def compare(program, folder, write, piece, *words):
+    """The lines of a log have this piece; returns what is said on standard error."""
     path = folder / "exact"
     path.write_bytes(log_of(write))
-    ran = subprocess.run([program, "json", path], capture_output=True, text=True, check=True)
+    ran = subprocess.run([program, "json", *words, path], capture_output=True, text=True, check=True)
     if piece not in ran.stdout:
         sys.exit(f"changes: {ran.stdout}has no {piece}")
+    return ran.stderr
+
+
+def unnamed_character_sets(program, folder):
+    """A log that names no character set: text is in Base64, which is said, unless an option says what it is."""
+    row = row_of([(15, b"\x28\0")] * 2, [b"\2h\xe9", b"\2hi"])
+    for name, piece in (
+        ("", '"@0":{"base64":"aOk="},"@1":{"base64":"aGk="}'),
+        ("utf8mb4", '"@0":{"base64":"aOk="},"@1":"hi"'),
+        ("latin1", '"@0":"h\u00e9","@1":"hi"'),
+    ):
+        words = ["--character-set", name] if name else []
+        said = compare(program, folder, row, piece, *words)
+        if ("character sets of text" in said) == bool(name):
+            sys.exit(f"changes: {words}: {said}")
+    ran = subprocess.run([program, "json", "--character-set", "klingon", folder / "exact"], capture_output=True, text=True)
+    if ran.returncode != 2 or "--character-set" not in ran.stderr:
+        sys.exit(f"changes: an unknown character set: {ran}")
 
 
 def exact(program, folder):
@@ -155,4 +173,5 @@ def exact(program, folder):
         (key[:1] + b"\2\2\0", by_index),
     ):
         compare(program, folder, row_of(*numbers, metadata), piece)
-    return 2 + len(CELLS) + 7
+    unnamed_character_sets(program, folder)
+    return 2 + len(CELLS) + 7 + 3
