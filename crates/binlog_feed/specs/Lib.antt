@@ -84,6 +84,7 @@ pub use Rattle.feed_text.specs.DocumentForms
 pub use Rattle.feed_text.specs.JsonText
 pub use Rattle.feed_text.specs.ShortTexts
 pub use Rattle.feed_text.specs.DiffText
+pub use Rattle.feed_text.specs.FeedDocuments
 pub use Rattle.feed_text.specs.CellText
 pub use Rattle.feed_text.specs.CellContent
 pub use Rattle.feed_text.specs.Buffers

@@ -1,0 +1,2 @@
+pub mod Collations
+pub mod Texts

@@ -1,8 +1,7 @@
 //! What the bodies of events say, in brief.
 
 use crate::events::Names;
-use crate::shown::put_gtid;
-use changes_json::Text;
+use crate::text::Text;
 use events_frames::{EventParts, EventStreamReader, QueryTexts, RotateEvent, read_body};
 use feed_checks::EventKind;
 use rows_constants::EventType;
@@ -53,7 +52,7 @@ fn put_rows(reader: &EventStreamReader, rows: &RowsEvent<'_>, out: &mut Text) {
 fn put_kind(reader: &EventStreamReader, kind: &EventKind<'_>, out: &mut Text) {
     match kind {
         EventKind::Format => out.name(reader.get_fde().server_version_raw()),
-        EventKind::NextGtid(gtid) => put_gtid(Some(*gtid), out),
+        EventKind::NextGtid(gtid) => out.gtid(Some(*gtid)),
         EventKind::Begin => out.words("BEGIN"),
         EventKind::Commit => out.words("COMMIT"),
         EventKind::Rollback => out.words("ROLLBACK"),

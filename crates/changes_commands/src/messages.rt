@@ -1,6 +1,6 @@
 //! What is said to people about verdicts, and about logs and positions that don't fit.
 
-use changes_json::Text;
+use crate::text::Text;
 use feed_checks::Verdict;
 use rows_constants::EventType;
 

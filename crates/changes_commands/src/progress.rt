@@ -1,6 +1,6 @@
 //! How far a long log was read, for people.
 
-use changes_json::Text;
+use crate::text::Text;
 use std::alloc::Global;
 use std::fs::File;
 use std::io::{IsTerminal, Write};

@@ -12,8 +12,8 @@ ghost use Rattle.changes_writers.specs.FloatTexts.{IsDoubleJson, IsFloatJson};
 ghost use Rattle.changes_writers.specs.JsonNumbers.{IsJsonNumber};
 ghost use Rattle.changes_writers.specs.JsonStrings.{json_string};
 
-/// A string shows its bytes and where it ends, whatever follows it: equal strings come from equal bytes, and no string is a proper
-/// prefix of another.
+/// A string shows its bytes and where it ends, whatever follows it: equal strings come from equal bytes, and no string is a
+/// proper prefix of another.
 pub fn strings_end()
     ensures { (a b s t : List ℕ) → json_string a ++ s ≡ json_string b ++ t → (a ≡ b) × (s ≡ t) }
 {}

@@ -1,6 +1,6 @@
 //! JSON strings, sixteen bytes at a time.
 
-ghost use Rattle.std.specs.Prelude.{◌≡◌, ◌≤◌, ◌<◌, ◌+◌, ◌-◌, ◌*◌, ◌++◌, IsUtf8, IsAscii, IfNone, IfSome, MatchOption, length, take, drop, take_while};
+ghost use Rattle.std.specs.Prelude.{◌≡◌, ◌≤◌, ◌<◌, ◌+◌, ◌-◌, ◌*◌, ◌++◌, IsUtf8, IsAscii, IfNone, IfSome, MatchOption, IsTrue, ◌↔◌, length, take, drop, take_while};
 ghost use Rattle.std.specs.List.{flat_map};
 ghost use Rattle.changes_writers.specs.JsonStrings.{json_byte, json_string};
 ghost use Rattle.changes_writers.specs.PlainText.{is_plain};
@@ -8,11 +8,12 @@ ghost use Rattle.changes_writers.specs.PlainText.{is_plain};
 use crate::escapes::{put_each, put_escape};
 use crate::plain::{plain_len, put_plain, unescaped_len};
 use feed_writers::put_byte;
+use simdutf8::is_utf8_baseline;
 use std::simd::prelude::*;
 use std::str;
 
-/// Writes some of the first sixteen bytes of a string: up to the first that needs an escape. Returns the end of the text and how many
-/// bytes were written.
+/// Writes some of the first sixteen bytes of a string: up to the first that needs an escape. Returns the end of the text and how
+/// many bytes were written.
 #[inline(always)]
 fn put_run(text: &mut [u8], at: usize, bytes: &[u8]) -> (usize, usize)
     requires sixteen { 16 ≤ length bytes.now }
@@ -75,8 +76,8 @@ pub fn put_string(text: &mut [u8], at: usize, bytes: &[u8]) -> usize
     put_byte(text, end, b'"')
 }
 
-/// Writes some of the first sixteen bytes of a string: up to the first that needs an escape, and before the first that isn't ASCII.
-/// Returns the end of the text and how many bytes were written.
+/// Writes some of the first sixteen bytes of a string: up to the first that needs an escape, and before the first that isn't
+/// ASCII. Returns the end of the text and how many bytes were written.
 #[inline(always)]
 fn put_ascii_run(text: &mut [u8], at: usize, bytes: &[u8]) -> (usize, usize)
     requires sixteen { 16 ≤ length bytes.now }
@@ -99,6 +100,17 @@ fn put_ascii_run(text: &mut [u8], at: usize, bytes: &[u8]) -> (usize, usize)
     (put_escape(text, at + len, byte), len + 1)
 }
 
+/// Whether bytes are UTF-8. Long ones are checked 64 at a time.
+#[inline(always)]
+fn is_utf8(bytes: &[u8]) -> bool
+    ensures { IsTrue result ↔ IsUtf8 bytes.now }
+{
+    if bytes.len() >= 64 {
+        return is_utf8_baseline(bytes);
+    }
+    str::from_utf8(bytes).is_ok()
+}
+
 /// Writes the content of a string if the bytes are UTF-8. `None`: they aren't.
 #[inline(never)]
 fn put_checked_content(text: &mut [u8], at: usize, bytes: &[u8]) -> Option<usize>
@@ -108,9 +120,9 @@ fn put_checked_content(text: &mut [u8], at: usize, bytes: &[u8]) -> Option<usize
     ensures text { IfSome result (λ end. take end text.new ≡ take at text.old ++ flat_map json_byte bytes.now) }
     ensures none { IfNone result (take at text.new ≡ take at text.old) }
 {
-    let Ok(_text) = str::from_utf8(bytes) else {
+    if !is_utf8(bytes) {
         return None;
-    };
+    }
     Some(put_string_content(text, at, bytes))
 }
 

@@ -141,7 +141,7 @@ fn check_images<'a>(
 ///
 /// - `Row`: a row can't be read, can't be printed, or takes no bytes.
 /// - `Memory`: out of memory.
-pub(crate) fn check_rows(
+pub fn check_rows(
     alloc: Global,
     plan: RowPlan<'_>,
     rows_data: &[u8],

@@ -20,6 +20,7 @@ mod stop;
 pub use change::{Change, Changes, TableRows, What};
 pub use change_log::ChangeLog;
 pub use change_recorder::ChangeRecorder;
+pub use checked_rows::check_rows;
 pub use committed_transaction::{CommittedTransaction, OwnedTransaction};
 pub use filter::{Filter, TakenChanges};
 pub use recorded_log::{NoLog, RecordedLog};

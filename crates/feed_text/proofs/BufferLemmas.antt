@@ -7,11 +7,13 @@ use Rattle.feed_writers.specs.Quoting.{quoted_byte, quoted}
 use Rattle.rows_errors.specs.Readings.{Reading, ◌>>=◌}
 use Rattle.rows_jsonb.specs.DocumentTrees.{document_tree}
 use Rattle.rows_cells.specs.CellValues.{CellValue, json}
-use Rattle.feed_text.specs.JsonText.{document_text, feed_form}
+use Rattle.feed_text.specs.JsonText.{document_text}
+use Rattle.feed_text.specs.FeedDocuments.{feed_form}
 use Rattle.feed_text.specs.DirectText.{WritesDocument}
 use Rattle.feed_text.specs.CellText.{label, cell_value_text, cell_text, Appends, AppendsLabeled}
 use Rattle.feed_text.specs.DecimalText.{AppendsSome}
 use Rattle.feed_text.proofs.CellLemmas.{appends, tree_written}
+use Rattle.feed_text.proofs.FeedDocumentLemmas.{document_appended}
 
 -- bytes at the start were quoted, and the others remain
 pub prefix_quoted : (all text new rest prefix after : List ℕ) (n : ℕ) → text ++ flat_map quoted_byte rest ≡ all → prefix ≡ take n rest → after ≡ drop n rest → new ≡ text ++ flat_map quoted_byte prefix
@@ -54,4 +56,4 @@ decimal_after column (Some text) old prefix new first h = h ∙ ap (λ (t : List
 
 -- the text of a JSON document was appended after a label
 pub document_after : (column : ℕ) (v : CellValue) (bytes old prefix new : List ℕ) → v ≡ json bytes → prefix ≡ old ++ label column → WritesDocument feed_form (document_tree bytes) prefix new → Appends (cell_text column v) old new
-document_after column v bytes old prefix new is first w = appended_after column (cell_value_text v) (document_text w.tree) old prefix new (tree_written v bytes w.tree is w.is) first w.text
+document_after column v bytes old prefix new is first w = appended_after column (cell_value_text v) (document_text w.tree) old prefix new (tree_written v bytes w.tree is w.is) first (document_appended w.tree prefix new w.text)

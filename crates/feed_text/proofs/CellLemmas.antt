@@ -34,10 +34,9 @@ use Rattle.rows_cells.specs.declared.cell.CellRef.{CellRef}
 use Rattle.rows_cells.specs.declared.cell.CellRef.TheVariants as ref
 use Rattle.feed_writers.specs.Quoting.{quoted}
 use Rattle.feed_text.specs.DecimalText.{quoted_decimal, IsDecimalError}
-use Rattle.feed_text.specs.DocumentForms.{Form, cell_updates_in}
-use Rattle.feed_text.specs.JsonText.{feed_form, document_text}
+use Rattle.feed_text.specs.JsonText.{document_text}
 use Rattle.feed_text.specs.ValueText.{value_text}
-use Rattle.feed_text.specs.CellText.{label, cell_value_text, tree_text, cell_text, kept_text, kept_cell_text, Appends, AppendsLabeled, AppendsLabeledReading, IsTextError, PacksNone, IsCellError}
+use Rattle.feed_text.specs.CellText.{label, cell_diffs_text, cell_value_text, tree_text, cell_text, kept_text, kept_cell_text, Appends, AppendsLabeled, AppendsLabeledReading, IsTextError, PacksNone, IsCellError}
 use Rattle.feed_text.specs.NamelessFaults.{IsNamelessDocument, HasNamelessDiff, HasNamelessContent, HasNamelessPart}
 
 -- the text was appended
@@ -194,9 +193,9 @@ pub diffs_unwritten : (column : ℕ) (cell : CellRef) (b : List ℕ) (ds : List 
 diffs_unwritten column cell b ds old new e h f p = (inr (rw (diffs_written (cell_value cell) b ds h f) (no_more (λ (t : List ℕ). t) e (diffs_text ds) (λ t. Ok (label column ++ t)) p.0)), p.1)
 
 -- bytes that aren't partial updates
-pub updates_failed : (f : Form) (b : List ℕ) (e : RowsError) → (e ≡ Memory) ⊎ ((items_at diff_at b).fault ≡ Some e) → (let failed : Reading (List ℕ) = Err e in Parses (λ (t : List ℕ). t) failed (cell_updates_in f b))
-updates_failed f b e (inl m) = rw m tt
-updates_failed f b e (inr h) = rw h (own e (diffs_fault b e h))
+pub updates_failed : (b : List ℕ) (e : RowsError) → (e ≡ Memory) ⊎ ((items_at diff_at b).fault ≡ Some e) → (let failed : Reading (List ℕ) = Err e in Parses (λ (t : List ℕ). t) failed (cell_diffs_text b))
+updates_failed b e (inl m) = rw m tt
+updates_failed b e (inr h) = rw h (own e (diffs_fault b e h))
   where
     own : (k : RowsError) → IsJsonbFault k → (let fault : Reading (List ℕ) = Err k in Parses (λ (t : List ℕ). t) fault fault)
     own (Jsonb None) j = tt
@@ -213,7 +212,7 @@ updates_failed f b e (inr h) = rw h (own e (diffs_fault b e h))
 
 pub diffs_failed : (column : ℕ) (v : CellValue) (b : List ℕ) (e : RowsError) → v ≡ json_diffs b → (e ≡ Memory) ⊎ ((items_at diff_at b).fault ≡ Some e) → (let failed : Reading (List ℕ) = Err e in Parses (λ (t : List ℕ). t) failed (cell_text column v))
 unfolding cell_value_text
-diffs_failed column v b e h why = rw h (no_more (λ (t : List ℕ). t) e (cell_updates_in feed_form b) (λ t. Ok (label column ++ t)) (updates_failed feed_form b e why))
+diffs_failed column v b e h why = rw h (no_more (λ (t : List ℕ). t) e (cell_diffs_text b) (λ t. Ok (label column ++ t)) (updates_failed b e why))
 
 -- ---- faults without a name
 

@@ -8,11 +8,11 @@ use Rattle.rows_jsonb.specs.JsonbValues.{JsonbValue, elem_in, object_key, count_
 use Rattle.rows_errors.specs.Readings.{Reading, ◌>>=◌}
 use Rattle.rows_jsonb.specs.DocumentTrees.{Counted, items, member_trees, tree_of, utf8, values_read}
 use Rattle.rows_jsonb.proofs.Building.{array_tree, object_tree, after_members, none_after_members, members_turn, members_end}
-use Rattle.feed_text.specs.DocumentForms.{Form, document_in, items_in}
+use Rattle.feed_text.specs.DocumentForms.{Form, IsDocumentIn, AreItemsIn, AreMembersIn, IsMemberIn, AppendsOne}
 use Rattle.feed_text.specs.KeyOrder.{AreInOrder, read_key}
 use Rattle.feed_text.specs.Containers.{typed}
 use Rattle.feed_text.specs.DirectText.{separator, WritesTyped, WritesTree, WritesItems, WritesMembers, WritesMember, IsMember}
-use Rattle.feed_text.proofs.OrderLemmas.{AllOf, all_push, all_numbers, along, count_all, count_push, count_insert, put_along, member_text, texts_along, texts_push, member_texts-along}
+use Rattle.feed_text.proofs.OrderLemmas.{AllOf, all_push, all_numbers, along, count_all, count_push, count_insert, put_along, AreAlong, along_push, members_along}
 
 -- ---- texts with commas between them
 
@@ -56,18 +56,46 @@ items_after ts used x = Ok (items_before ts x.0, used + x.1)
 abbrev pub after_items : List Tree → ℕ → Reading (Counted Items) → Reading (Counted Items)
 after_items ts used found = found >>= items_after ts used
 
-abbrev pub texts_of : Form → List Tree → List (List ℕ)
-texts_of f [] = []
-texts_of f (t ∷ ts) = document_in f t ∷ texts_of f ts
+-- one text for each element
+abbrev pub AreTexts : Form → List Tree → List (List ℕ) → Type 0
+AreTexts f [] xs = xs ≡ []
+AreTexts f (t ∷ ts) [] = ⊥
+AreTexts f (t ∷ ts) (x ∷ xs) = IsDocumentIn f t x × AreTexts f ts xs
 
-texts_of-push : (f : Form) (ts : List Tree) (t : Tree) → texts_of f (ts ++ t ∷ []) ≡ texts_of f ts ++ document_in f t ∷ []
-texts_of-push f [] t = refl
-texts_of-push f (s ∷ ts) t = ap (λ (l : List (List ℕ)). document_in f s ∷ l) (texts_of-push f ts t)
+texts_push : (f : Form) (ts : List Tree) (xs : List (List ℕ)) (t : Tree) (x : List ℕ) → AreTexts f ts xs → IsDocumentIn f t x → AreTexts f (ts ++ t ∷ []) (xs ++ x ∷ [])
+texts_push f [] xs t x all one = rw all (one, refl)
+texts_push f (s ∷ ts) [] t x all one = absurd all
+texts_push f (s ∷ ts) (y ∷ xs) t x all one = (all.0, texts_push f ts xs t x all.1 one)
 
-item_texts-before : (f : Form) (ts : List Tree) → items_in f (items_before ts no_items) ≡ texts_of f ts
-unfolding document_in items_in
-item_texts-before f [] = refl
-item_texts-before f (t ∷ ts) = ap (λ (l : List (List ℕ)). document_in f t ∷ l) (item_texts-before f ts)
+items_before_texts : (f : Form) (ts : List Tree) (xs : List (List ℕ)) → AreTexts f ts xs → AreItemsIn f (items_before ts no_items) xs
+unfolding IsDocumentIn AreItemsIn
+items_before_texts f [] xs all = all
+items_before_texts f (t ∷ ts) [] all = all
+items_before_texts f (t ∷ ts) (x ∷ xs) all = (all.0, items_before_texts f ts xs all.1)
+
+-- the text of an array was appended
+array_closed : (f : Form) (is : Items) (texts : List (List ℕ)) (old begun out new : List ℕ) → AreItemsIn f is texts → begun ≡ old ++ 91 ∷ [] → out ≡ begun ++ join_with_byte 44 texts → new ≡ out ++ 93 ∷ [] → AppendsOne (IsDocumentIn f (array is)) old new
+unfolding IsDocumentIn
+array_closed f is texts old begun out new are begins so ends = record {
+  text = 91 ∷ (join_with_byte 44 texts ++ 93 ∷ []);
+  such = (texts, are, refl);
+  appended =
+      ends ∙ ap (λ (t : List ℕ). t ++ 93 ∷ []) (so ∙ ap (λ (t : List ℕ). t ++ join_with_byte 44 texts) begins)
+      ∙ append_assoc (old ++ 91 ∷ []) (join_with_byte 44 texts) (93 ∷ [])
+      ∙ append_assoc old (91 ∷ []) (join_with_byte 44 texts ++ 93 ∷ []);
+}
+
+-- the text of an object was appended
+object_closed : (f : Form) (ms : Members) (texts : List (List ℕ)) (old begun out new : List ℕ) → AreMembersIn f ms texts → begun ≡ old ++ 123 ∷ [] → out ≡ begun ++ join_with_byte 44 texts → new ≡ out ++ 125 ∷ [] → AppendsOne (IsDocumentIn f (object ms)) old new
+unfolding IsDocumentIn
+object_closed f ms texts old begun out new are begins so ends = record {
+  text = 123 ∷ (join_with_byte 44 texts ++ 125 ∷ []);
+  such = (texts, are, refl);
+  appended =
+      ends ∙ ap (λ (t : List ℕ). t ++ 125 ∷ []) (so ∙ ap (λ (t : List ℕ). t ++ join_with_byte 44 texts) begins)
+      ∙ append_assoc (old ++ 123 ∷ []) (join_with_byte 44 texts) (125 ∷ [])
+      ∙ append_assoc old (123 ∷ []) (join_with_byte 44 texts ++ 125 ∷ []);
+}
 
 before_push : (ts : List Tree) (t : Tree) (rest : Items) → items_before ts (item t rest) ≡ items_before (ts ++ t ∷ []) rest
 before_push [] t rest = refl
@@ -90,8 +118,10 @@ pub record ItemsSoFar (f : Form) (depth : ℕ) (value : JsonbValue) (pos budget 
   pub used : ℕ
   pub is : items (tree_of depth) (elem_in value) 0 (count_in value) ≡ after_items done used (items (tree_of depth) (elem_in value) pos (count_in value - pos))
   pub taken : used + left ≡ budget
-  pub text : out ≡ base ++ join_with_byte 44 (texts_of f done)
-  pub none : TellsNone is_first (texts_of f done)
+  pub texts : List (List ℕ)
+  pub are : AreTexts f done texts
+  pub text : out ≡ base ++ join_with_byte 44 texts
+  pub none : TellsNone is_first texts
 
 pub no_items_yet : (f : Form) (depth : ℕ) (value : JsonbValue) (budget : ℕ) (base out : List ℕ) → out ≡ base → ItemsSoFar f depth value 0 budget budget base out true
 no_items_yet f depth value budget base out is =
@@ -99,6 +129,8 @@ no_items_yet f depth value budget base out is =
     let whole : count_in value ≡ count_in value - 0 = omega arith in record {
       done = [];
       used = 0;
+      texts = [];
+      are = refl;
       is = none_after all ∙ ap (λ (k : ℕ). after_items [] 0 (items (tree_of depth) (elem_in value) 0 k)) whole;
       taken = omega arith;
       text = is ∙ sym (append-nil base);
@@ -112,35 +144,32 @@ one_item_more f depth value seen pos budget mid left base out separated new is_f
     let at = elem_in value in
     let more : count_in value - pos ≡ suc (count_in value - (pos + 1)) = omega (arith, below) in
     let rest = items below_it at (pos + 1) (count_in value - (pos + 1)) in
-    let pushed = texts_of-push f so.done one.tree in
+    let written = one.text in
     let tree = one.is in
     let step : after_items so.done so.used (items below_it at pos (count_in value - pos)) ≡ after_items (so.done ++ one.tree ∷ []) (so.used + one.count) rest = rw (more, here, tree) (after_push so.done one.tree so.used one.count rest) in record {
       done = so.done ++ one.tree ∷ [];
       used = so.used + one.count;
       is = so.is ∙ step;
       taken = omega (arith, so.taken, one.taken);
-      text = text_more is_first (texts_of f so.done) (document_in f one.tree) base out separated new so.none so.text first one.text ∙ ap (λ (l : List (List ℕ)). base ++ join_with_byte 44 l) (sym pushed);
-      none = subst (TellsNone false) (sym pushed) (some_told (texts_of f so.done) (document_in f one.tree));
+      texts = so.texts ++ written.text ∷ [];
+      are = texts_push f so.done so.texts one.tree written.text so.are written.such;
+      text = text_more is_first so.texts written.text base out separated new so.none so.text first written.appended;
+      none = some_told so.texts written.text;
     }
 
 pub all_items : (f : Form) (depth : ℕ) (value : JsonbValue) (pos budget left : ℕ) (old begun out new : List ℕ) (is_first : Bool) → count_in value ≤ pos → begun ≡ old ++ 91 ∷ [] → ItemsSoFar f depth value pos budget left begun out is_first → new ≡ out ++ 93 ∷ []
     → WritesItems f depth value budget left old new
 all_items f depth value pos budget left old begun out new is_first end begins so ends =
     let none : count_in value - pos ≡ 0 = omega (arith, end) in
-    let texts = item_texts-before f so.done in record {
+    record {
       found = items_before so.done no_items;
       count = so.used;
       is = so.is ∙ ap (λ (k : ℕ). after_items so.done so.used (items (tree_of depth) (elem_in value) pos k)) none ∙ ap (λ (n : ℕ). Ok (items_before so.done no_items, n)) (omega arith);
       taken = so.taken;
-      text =
-          ends ∙ ap (λ (t : List ℕ). t ++ 93 ∷ []) (so.text ∙ ap (λ (t : List ℕ). t ++ join_with_byte 44 (texts_of f so.done)) begins)
-          ∙ append_assoc (old ++ 91 ∷ []) (join_with_byte 44 (texts_of f so.done)) (93 ∷ [])
-          ∙ append_assoc old (91 ∷ []) (join_with_byte 44 (texts_of f so.done) ++ 93 ∷ [])
-          ∙ ap (λ (l : List (List ℕ)). old ++ (91 ∷ (join_with_byte 44 l ++ 93 ∷ []))) (sym texts);
+      text = array_closed f (items_before so.done no_items) so.texts old begun out new (items_before_texts f so.done so.texts so.are) begins so.text ends;
     }
 
 pub array_written : (f : Form) (depth d : ℕ) (value : JsonbValue) (budget mid left : ℕ) (old new : List ℕ) → depth ≡ suc d → is_array_in value ≡ true → mid + 1 ≡ budget → WritesItems f d value mid left old new → WritesTree f depth value budget left old new
-unfolding document_in
 array_written f depth d value budget mid left old new deep is_array one w =
     let found = w.is in record {
       tree = array w.found;
@@ -231,11 +260,13 @@ module _ (depth : ℕ) (value : JsonbValue) where
 pub record MembersSoFar (f : Form) (depth : ℕ) (value : JsonbValue) (done : List ℕ) (budget left : ℕ) (base out : List ℕ) (is_first : Bool) : Type 0 where
   pub there : AllOf (IsThere depth value) done
   pub taken : count_all (keys_of value) (trees_of depth value) (counts_of depth value) done + left ≡ budget
-  pub text : out ≡ base ++ join_with_byte 44 (texts_along f (keys_of value) (trees_of depth value) (counts_of depth value) done)
-  pub none : TellsNone is_first (texts_along f (keys_of value) (trees_of depth value) (counts_of depth value) done)
+  pub texts : List (List ℕ)
+  pub are : AreAlong f (keys_of value) (trees_of depth value) (counts_of depth value) done texts
+  pub text : out ≡ base ++ join_with_byte 44 texts
+  pub none : TellsNone is_first texts
 
 pub no_members_yet : (f : Form) (depth : ℕ) (value : JsonbValue) (budget : ℕ) (base out : List ℕ) → out ≡ base → MembersSoFar f depth value [] budget budget base out true
-no_members_yet f depth value budget base out is = record { there = tt; taken = omega arith; text = is ∙ sym (append-nil base); none = refl }
+no_members_yet f depth value budget base out is = record { there = tt; taken = omega arith; texts = []; are = refl; text = is ∙ sym (append-nil base); none = refl }
 
 pub one_member_more : (f : Form) (depth : ℕ) (value : JsonbValue) (done more : List ℕ) (pos budget mid left : ℕ) (base out separated new : List ℕ) (is_first : Bool) → more ≡ done ++ pos ∷ []
     → MembersSoFar f depth value done budget mid base out is_first → separated ≡ out ++ separator is_first → WritesMember f depth value pos mid left separated new → MembersSoFar f depth value more budget left base new false
@@ -246,14 +277,15 @@ one_member_more f depth value done more pos budget mid left base out separated n
     let m = one.is in
     let key = same_key value pos one.key m.key_is in
     let same = same_tree depth value m.seen pos (one.tree, one.count) m.seen_is m.is in
-    let pushed = texts_push f keys trees counts done pos in
-    let text : f.key one.key ++ (58 ∷ document_in f one.tree) ≡ member_text f keys trees counts pos = ap₂ (λ (k : List ℕ) (t : Tree). f.key k ++ (58 ∷ document_in f t)) key same.0 in
-    let written : new ≡ separated ++ member_text f keys trees counts pos = one.text ∙ ap (λ (t : List ℕ). separated ++ t) text in
+    let written = one.text in
+    let such : IsMemberIn f (keys pos) (trees pos) written.text = subst (λ (t : Tree). IsMemberIn f (keys pos) t written.text) same.0 (subst (λ (k : List ℕ). IsMemberIn f k one.tree written.text) key written.such) in
     subst (λ (ps : List ℕ). MembersSoFar f depth value ps budget left base new false) (sym one_more) (record {
       there = all_push (IsThere depth value) done pos so.there (there depth value pos one.key one.tree one.count m);
       taken = omega (arith, so.taken, one.taken, count_push keys trees counts done pos, same.1);
-      text = text_more is_first (texts_along f keys trees counts done) (member_text f keys trees counts pos) base out separated new so.none so.text first written ∙ ap (λ (l : List (List ℕ)). base ++ join_with_byte 44 l) (sym pushed);
-      none = subst (TellsNone false) (sym pushed) (some_told (texts_along f keys trees counts done) (member_text f keys trees counts pos));
+      texts = so.texts ++ written.text ∷ [];
+      are = along_push f keys trees counts done so.texts pos written.text so.are such;
+      text = text_more is_first so.texts written.text base out separated new so.none so.text first written.appended;
+      none = some_told so.texts written.text;
     })
 
 pub all_members : (f : Form) (depth : ℕ) (value : JsonbValue) (order done : List ℕ) (budget left : ℕ) (old begun out new : List ℕ) (is_first : Bool) → done ≡ order → AreInOrder (keys_of value) (count_in value) order → begun ≡ old ++ 123 ∷ []
@@ -262,21 +294,16 @@ all_members f depth value order done budget left old begun out new is_first whol
     let keys = keys_of value in
     let trees = trees_of depth value in
     let counts = counts_of depth value in
-    let texts = member_texts-along f keys trees counts order in
-    let all = subst (AllOf (IsThere depth value)) whole so.there in record {
+    let all = subst (AllOf (IsThere depth value)) whole so.there in
+    let along_all = subst (λ (ps : List ℕ). AreAlong f keys trees counts ps so.texts) whole so.are in record {
       found = along keys trees counts order;
       count = count_all keys trees counts order;
       is = members_are depth value (count_in value) order are all;
       taken = ap (λ (ps : List ℕ). count_all keys trees counts ps + left) (sym whole) ∙ so.taken;
-      text =
-          ends ∙ ap (λ (t : List ℕ). t ++ 125 ∷ []) (so.text ∙ ap₂ (λ (t : List ℕ) (ps : List ℕ). t ++ join_with_byte 44 (texts_along f keys trees counts ps)) begins whole)
-          ∙ append_assoc (old ++ 123 ∷ []) (join_with_byte 44 (texts_along f keys trees counts order)) (125 ∷ [])
-          ∙ append_assoc old (123 ∷ []) (join_with_byte 44 (texts_along f keys trees counts order) ++ 125 ∷ [])
-          ∙ ap (λ (l : List (List ℕ)). old ++ (123 ∷ (join_with_byte 44 l ++ 125 ∷ []))) (sym texts);
+      text = object_closed f (along keys trees counts order) so.texts old begun out new (members_along f keys trees counts order so.texts along_all) begins so.text ends;
     }
 
 pub object_written : (f : Form) (depth d : ℕ) (value : JsonbValue) (budget mid left : ℕ) (old new : List ℕ) → depth ≡ suc d → is_object_in value ≡ true → mid + 1 ≡ budget → WritesMembers f d value mid left old new → WritesTree f depth value budget left old new
-unfolding document_in
 object_written f depth d value budget mid left old new deep is_object one w =
     let found = w.is in record {
       tree = object w.found;
@@ -290,16 +317,21 @@ object_written f depth d value budget mid left old new deep is_object one w =
 pub member_is : (f : Form) (depth : ℕ) (value : JsonbValue) (pos type_byte budget left : ℕ) (old keyed new key bytes : List ℕ) → object_key value pos ≡ Ok key → is_utf8 key ≡ true → keyed ≡ old ++ (f.key key ++ 58 ∷ [])
     → elem_in value pos ≡ typed type_byte bytes → WritesTyped f depth type_byte bytes budget left keyed new → WritesMember f depth value pos budget left old new
 member_is f depth value pos type_byte budget left old keyed new key bytes found valid first here w =
-    let t = w.tree in record {
+    let t = w.tree in
+    let value_text = t.text in record {
       key = key;
       tree = t.tree;
       count = t.count;
       is = record { seen = w.value; key_is = found; is_text = valid; seen_is = here ∙ w.is; is = t.is };
       taken = t.taken;
-      text =
-          t.text ∙ ap (λ (l : List ℕ). l ++ document_in f t.tree) first
-          ∙ append_assoc old (f.key key ++ 58 ∷ []) (document_in f t.tree)
-          ∙ ap (λ (l : List ℕ). old ++ l) (append_assoc (f.key key) (58 ∷ []) (document_in f t.tree));
+      text = record {
+        text = f.key key ++ (58 ∷ value_text.text);
+        such = (value_text.text, value_text.such, refl);
+        appended =
+            value_text.appended ∙ ap (λ (l : List ℕ). l ++ value_text.text) first
+            ∙ append_assoc old (f.key key ++ 58 ∷ []) value_text.text
+            ∙ ap (λ (l : List ℕ). old ++ l) (append_assoc (f.key key) (58 ∷ []) value_text.text);
+      };
     }
 
 -- the text of a container with this type byte was appended

@@ -16,7 +16,7 @@ use Rattle.rows_jsonb.specs.JsonbValues as seen
 use Rattle.rows_jsonb.specs.JsonbValues.{JsonbValue, container, is_array_in, is_object_in, sized, literal, counted_at, document}
 use Rattle.rows_jsonb.specs.DocumentTrees.{utf8, tree_of, bare_tree, container_len, within_budget, document_tree}
 use Rattle.rows_jsonb.proofs.Building.{flat_tree, other_tree}
-use Rattle.feed_text.specs.DocumentForms.{Form, document_in, scalar_in}
+use Rattle.feed_text.specs.DocumentForms.{Form, IsScalarIn, IsDocumentIn}
 use Rattle.feed_text.specs.Containers.{typed}
 use Rattle.feed_text.specs.DirectText.{WritesTyped, WritesTypedScalar, WritesDocument}
 use Rattle.feed_text.proofs.QuoteLemmas.{kept_more}
@@ -55,12 +55,12 @@ document_written f (b ∷ bytes) first rest s budget left old new some head tail
 -- ---- scalars
 
 -- the text of a scalar was appended
-pub typed_scalar : (f : Form) (type_byte : ℕ) (bytes old new text : List ℕ) (value : JsonbValue) (part : tree.Scalar) → typed type_byte bytes ≡ Ok value → bare_tree value ≡ Ok (tree.scalar part, 1) → scalar_in f part ≡ text → new ≡ old ++ text
+pub typed_scalar : (f : Form) (type_byte : ℕ) (bytes old new text : List ℕ) (value : JsonbValue) (part : tree.Scalar) → typed type_byte bytes ≡ Ok value → bare_tree value ≡ Ok (tree.scalar part, 1) → IsScalarIn f part text → new ≡ old ++ text
     → WritesTypedScalar f type_byte bytes old new
 typed_scalar f type_byte bytes old new text value part is found same written = record {
   value = value;
   is = is;
-  scalar = record { part = part; is = found; text = written ∙ ap (λ (t : List ℕ). old ++ t) (sym same) };
+  scalar = record { part = part; is = found; text = record { text = text; such = same; appended = written } };
 }
 
 sized_whole : {A : Type 0} (n : ℕ) (bytes : List ℕ) (v w : A) → n ≤ length bytes → v ≡ w → sized n bytes v ≡ Ok w
@@ -96,7 +96,7 @@ utf8_is s h = rw h refl
 
 -- the text of a string was appended, or nothing
 pub string_written : {E : Type 0} (f : Form) (bytes string old new : List ℕ) (r : Result (Unit {0}) E) → counted_at bytes ≡ Ok string → OnOk r (is_utf8 string ≡ true) → OnOk r (new ≡ old ++ f.string string) → OnOk r (WritesTypedScalar f 12 bytes old new)
-unfolding scalar_in
+unfolding IsScalarIn
 string_written f bytes string old new (Ok x) is valid written =
     let whole = utf8_is string valid in
     let found : typed 12 bytes ≡ Ok (seen.text string) = ap (λ (f : Reading (List ℕ)). f >>= (λ s. Ok (seen.text s))) is in
@@ -128,9 +128,10 @@ bare_as_tree depth s part h = scalar_tree depth s refl refl
 
 -- a scalar counts one
 scalar_as_tree : (f : Form) (depth type_byte : ℕ) (bytes : List ℕ) (budget left : ℕ) (old new : List ℕ) → left + 1 ≡ budget → WritesTypedScalar f type_byte bytes old new → WritesTyped f depth type_byte bytes budget left old new
-unfolding document_in
+unfolding IsDocumentIn
 scalar_as_tree f depth type_byte bytes budget left old new one w =
-    let s = w.scalar in record {
+    let s = w.scalar in
+    let x = s.text in record {
       value = w.value;
       is = w.is;
       tree = record {
@@ -138,7 +139,7 @@ scalar_as_tree f depth type_byte bytes budget left old new one w =
         count = 1;
         is = bare_as_tree depth w.value s.part s.is ∙ s.is;
         taken = omega (arith, one);
-        text = s.text;
+        text = record { text = x.text; such = x.such; appended = x.appended };
       };
     }
 
@@ -147,5 +148,5 @@ scalar_counted f (Ok x) depth type_byte bytes budget left old new one w = scalar
 scalar_counted f (Err e) depth type_byte bytes budget left old new one w = tt
 
 pub scalar_kept : {E : Type 0} (f : Form) (r : Result (Unit {0}) E) (type_byte : ℕ) (bytes old new : List ℕ) → OnOk r (WritesTypedScalar f type_byte bytes old new) → OnErr r (new ≡ old) → take (length old) new ≡ old
-scalar_kept f (Ok x) type_byte bytes old new w same = let s = w.scalar in kept_after old new (scalar_in f s.part) s.text
+scalar_kept f (Ok x) type_byte bytes old new w same = let s = w.scalar in let x = s.text in kept_after old new x.text x.appended
 scalar_kept f (Err e) type_byte bytes old new w same = kept_same old new same

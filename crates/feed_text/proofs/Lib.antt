@@ -8,6 +8,7 @@ pub mod PlainTextLemmas
 pub mod CellLemmas
 pub mod DocumentLemmas
 pub mod DiffTextLemmas
+pub mod FeedDocumentLemmas
 pub mod BufferLemmas
 pub mod FieldTextLemmas
 pub mod ImageTextLemmas

@@ -29,6 +29,10 @@ use Rattle.feed_text.specs.DiffText.{diffs_text}
 abbrev pub tree_text : Reading Tree → Reading (List ℕ)
 tree_text found = found >>= λ t. Ok (document_text t)
 
+-- the text of the updates that bytes have; an error if they aren't updates
+abbrev pub cell_diffs_text : List ℕ → Reading (List ℕ)
+cell_diffs_text b = unless (items_at diff_at b).fault (items_at diff_at b).items >>= diffs_text
+
 -- the text of a value; an error for a JSON document without a tree, or for JSON diffs with such a document
 unfoldable pub cell_value_text : CellValue → Reading (List ℕ)
 cell_value_text null = Ok (codes "NULL")
@@ -42,7 +46,7 @@ cell_value_text (date year month day hour minute second micros) =
 cell_value_text (time negative days hours minutes seconds micros) =
     Ok (span_text negative days (record { hour = hours; minute = minutes; second = seconds; micros = micros }))
 cell_value_text (json b) = tree_text (document_tree b)
-cell_value_text (json_diffs b) = unless (items_at diff_at b).fault (items_at diff_at b).items >>= diffs_text
+cell_value_text (json_diffs b) = cell_diffs_text b
 
 -- a space, the column's index in the table, and `=`
 abbrev pub label : ℕ → List ℕ

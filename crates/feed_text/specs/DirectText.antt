@@ -1,33 +1,34 @@
--- What the functions that write JSON directly from the bytes append: the text, in their form, of the tree that the bytes have.
-use Rattle.std.specs.Prelude.{◌≡◌, ◌+◌, ℕ, Bool, true, false, List, [], ◌∷◌, ◌++◌}
-use Rattle.std.specs.declared.result.Result.TheVariants.{Ok}
+-- What the functions that write JSON directly from the bytes append: a text, in their form, of the tree that the bytes have.
+use Rattle.std.specs.Prelude.{◌≡◌, ◌+◌, ℕ, Bool, true, false, List, [], ◌∷◌}
+use Rattle.std.specs.declared.result.Result.TheVariants.{Ok, Err}
 use Rattle.std.specs.Str.{is_utf8}
-use Rattle.std.specs.List.{join_with_byte}
-use Rattle.rows_jsonb.specs.JsonTrees.{Tree, Items, Members, no_members, Scalar, scalar}
+use Rattle.rows_jsonb.specs.JsonTrees.{Tree, Items, Members, no_members, Scalar, scalar, array, object}
 use Rattle.rows_jsonb.specs.JsonbValues.{JsonbValue, elem_in, object_key, count_in}
+use Rattle.rows_errors.specs.declared.fault.RowsError.{RowsError}
 use Rattle.rows_errors.specs.Readings.{Reading}
+use Rattle.rows_jsonb.specs.JsonParsing.{Parses}
 use Rattle.rows_jsonb.specs.DocumentTrees.{tree_of, bare_tree, items, member_trees}
 use Rattle.feed_text.specs.Containers.{typed}
-use Rattle.feed_text.specs.DocumentForms.{Form, document_in, scalar_in, items_in, members_in}
+use Rattle.feed_text.specs.DocumentForms.{Form, IsScalarIn, IsDocumentIn, IsMemberIn, AppendsOne}
 
 -- a comma, except before the first element
 abbrev pub separator : Bool → List ℕ
 separator true = []
 separator false = 44 ∷ []
 
--- the value is a scalar, and its text was appended
+-- the value is a scalar, of which a text was appended
 pub record WritesScalar (f : Form) (value : JsonbValue) (old new : List ℕ) : Type 0 where
   pub part : Scalar
   pub is : bare_tree value ≡ Ok (scalar part, 1)
-  pub text : new ≡ old ++ scalar_in f part
+  pub text : AppendsOne (IsScalarIn f part) old new
 
--- the value has a tree, whose text was appended, and the number of its values was subtracted from the budget
+-- the value has a tree, of which a text was appended, and the number of its values was subtracted from the budget
 pub record WritesTree (f : Form) (depth : ℕ) (value : JsonbValue) (budget left : ℕ) (old new : List ℕ) : Type 0 where
   pub tree : Tree
   pub count : ℕ
   pub is : tree_of depth value ≡ Ok (tree, count)
   pub taken : count + left ≡ budget
-  pub text : new ≡ old ++ document_in f tree
+  pub text : AppendsOne (IsDocumentIn f tree) old new
 
 -- the same for the value with this type byte that the bytes begin with
 pub record WritesTyped (f : Form) (depth type_byte : ℕ) (bytes : List ℕ) (budget left : ℕ) (old new : List ℕ) : Type 0 where
@@ -35,7 +36,7 @@ pub record WritesTyped (f : Form) (depth type_byte : ℕ) (bytes : List ℕ) (bu
   pub is : typed type_byte bytes ≡ Ok value
   pub tree : WritesTree f depth value budget left old new
 
--- the value with this type byte that the bytes begin with is a scalar, and its text was appended
+-- the value with this type byte that the bytes begin with is a scalar, of which a text was appended
 pub record WritesTypedScalar (f : Form) (type_byte : ℕ) (bytes : List ℕ) (old new : List ℕ) : Type 0 where
   pub value : JsonbValue
   pub is : typed type_byte bytes ≡ Ok value
@@ -47,7 +48,7 @@ pub record WritesItems (f : Form) (depth : ℕ) (value : JsonbValue) (budget lef
   pub count : ℕ
   pub is : items (tree_of depth) (elem_in value) 0 (count_in value) ≡ Ok (found, count)
   pub taken : count + left ≡ budget
-  pub text : new ≡ old ++ 91 ∷ (join_with_byte 44 (items_in f found) ++ 93 ∷ [])
+  pub text : AppendsOne (IsDocumentIn f (array found)) old new
 
 -- the same for the members of an object
 pub record WritesMembers (f : Form) (depth : ℕ) (value : JsonbValue) (budget left : ℕ) (old new : List ℕ) : Type 0 where
@@ -55,7 +56,7 @@ pub record WritesMembers (f : Form) (depth : ℕ) (value : JsonbValue) (budget l
   pub count : ℕ
   pub is : member_trees (tree_of depth) (object_key value) (elem_in value) 0 (count_in value) no_members ≡ Ok (found, count)
   pub taken : count + left ≡ budget
-  pub text : new ≡ old ++ 123 ∷ (join_with_byte 44 (members_in f found) ++ 125 ∷ [])
+  pub text : AppendsOne (IsDocumentIn f (object found)) old new
 
 -- the member of an object with index pos
 pub record IsMember (depth : ℕ) (value : JsonbValue) (pos : ℕ) (key : List ℕ) (tree : Tree) (count : ℕ) : Type 0 where
@@ -72,10 +73,14 @@ pub record WritesMember (f : Form) (depth : ℕ) (value : JsonbValue) (pos budge
   pub count : ℕ
   pub is : IsMember depth value pos key tree count
   pub taken : count + left ≡ budget
-  pub text : new ≡ old ++ (f.key key ++ (58 ∷ document_in f tree))
+  pub text : AppendsOne (IsMemberIn f key tree) old new
 
--- the JSON document has a tree, whose text was appended
+-- the JSON document has a tree, of which a text was appended
 pub record WritesDocument (f : Form) (found : Reading Tree) (old new : List ℕ) : Type 0 where
   pub tree : Tree
   pub is : found ≡ Ok tree
-  pub text : new ≡ old ++ document_in f tree
+  pub text : AppendsOne (IsDocumentIn f tree) old new
+
+-- nothing was appended: out of memory, or the JSON document can't be parsed, for this error
+abbrev pub IsDocumentError : RowsError → Reading Tree → List ℕ → List ℕ → Type 0
+IsDocumentError e found old new = Parses (λ t. t) (Err e) found × (new ≡ old)

@@ -1,24 +1,25 @@
--- The text of JSON documents in a form: the texts of values that differ between forms, and how arrays and objects are made of them, as RFC 8259 has it.
-use Rattle.std.specs.Prelude.{ℕ, List, [], ◌∷◌, ◌++◌, codes, if◌then◌else◌, Option, Some, None}
+-- The texts of JSON documents in a form: which texts its values have, and how arrays and objects are made of them, as RFC 8259 has it.
+use Rattle.std.specs.Prelude.{◌≡◌, ℕ, List, [], ◌∷◌, ◌++◌, codes, if◌then◌else◌, Option, Some, None}
+use Rattle.std.specs.declared.result.Result.TheVariants.{Ok}
+use Rattle.std.specs.Borrow.{Bor}
 use Rattle.std.specs.List.{join_with_byte}
 use Rattle.std.specs.Fmt.{signed_decimal}
-use Rattle.rows_errors.specs.Readings.{Reading, ◌>>=◌}
-use Rattle.std.specs.declared.result.Result.TheVariants.{Ok}
 use Rattle.rows_values.specs.Decimals.{DecimalParts}
 use Rattle.rows_values.specs.declared.times.mysql_time.MysqlTime.{MysqlTime}
 use Rattle.rows_jsonb.specs.JsonbValues.{JsonbValue}
 use Rattle.rows_jsonb.specs.DocumentTrees.{tree_in}
-use Rattle.rows_jsonb.specs.Items.{items_at}
+use Rattle.rows_jsonb.specs.Items.{items_at, all_found}
 use Rattle.rows_jsonb.specs.JsonDiffs.{Diff, diff_at}
-use Rattle.rows_cells.specs.CellValues.{unless}
 use Rattle.rows_jsonb.specs.declared.diff.JsonDiffOperation.{JsonDiffOperation}
+use Rattle.rows_jsonb.specs.declared.dom.JsonDom.{JsonDom}
+use Rattle.rows_jsonb.specs.JsonTreeViews.{view}
 use Rattle.rows_jsonb.specs.JsonTrees as tree
 use Rattle.rows_jsonb.specs.JsonTrees.{Tree, Items, no_items, item, Members, no_members, member}
 
--- A form: the texts of an unsigned integer, a double by its bits, a decimal, a string, a date or time, a value of another column type by its number, and a member's key; of a partial update by its operation, its path and the text of its new value; and what is before and after all updates.
-pub record Form : Type 0 where
+-- A form: the texts of an unsigned integer, a decimal, a string, a date or time, a value of another column type by its number, and a member's key; whether a text is that of a double, by its bits; the text of a partial update by its operation, its path and the text of its new value; and what is before and after all updates.
+pub record Form : Type 1 where
   pub uint : ℕ → List ℕ
-  pub double : ℕ → List ℕ
+  pub IsDouble : ℕ → List ℕ → Type 0
   pub decimal : DecimalParts → List ℕ
   pub string : List ℕ → List ℕ
   pub time : MysqlTime → List ℕ
@@ -28,61 +29,73 @@ pub record Form : Type 0 where
   pub before_updates : List ℕ
   pub after_updates : List ℕ
 
--- a value without elements: null, true, false and signed integers have the same text in each form
-unfoldable pub scalar_in : Form → tree.Scalar → List ℕ
-scalar_in f tree.null = codes "null"
-scalar_in f (tree.boolean b) = if b then codes "true" else codes "false"
-scalar_in f (tree.int z) = signed_decimal z
-scalar_in f (tree.uint n) = f.uint n
-scalar_in f (tree.double bits) = f.double bits
-scalar_in f (tree.decimal d) = f.decimal d
-scalar_in f (tree.string s) = f.string s
-scalar_in f (tree.time t) = f.time t
-scalar_in f (tree.opaque number bytes) = f.opaque number bytes
+-- the text is one of a value without elements: null, true, false and signed integers have the same text in each form
+unfoldable pub IsScalarIn : Form → tree.Scalar → List ℕ → Type 0
+IsScalarIn f tree.null x = x ≡ codes "null"
+IsScalarIn f (tree.boolean b) x = x ≡ (if b then codes "true" else codes "false")
+IsScalarIn f (tree.int z) x = x ≡ signed_decimal z
+IsScalarIn f (tree.uint n) x = x ≡ f.uint n
+IsScalarIn f (tree.double bits) x = f.IsDouble bits x
+IsScalarIn f (tree.decimal d) x = x ≡ f.decimal d
+IsScalarIn f (tree.string s) x = x ≡ f.string s
+IsScalarIn f (tree.time t) x = x ≡ f.time t
+IsScalarIn f (tree.opaque number bytes) x = x ≡ f.opaque number bytes
 
 unfoldable mutual
-  -- elements and members in brackets, with a comma between each two
-  pub document_in : Form → Tree → List ℕ
-  document_in f (tree.scalar s) = scalar_in f s
-  document_in f (tree.array is) = codes "[" ++ (join_with_byte 44 (items_in f is) ++ codes "]")
-  document_in f (tree.object ms) = codes "{" ++ (join_with_byte 44 (members_in f ms) ++ codes "}")
+  -- the text is one of a document: elements and members in brackets, with a comma between each two
+  pub IsDocumentIn : Form → Tree → List ℕ → Type 0
+  IsDocumentIn f (tree.scalar s) x = IsScalarIn f s x
+  IsDocumentIn f (tree.array is) x = (xs : List (List ℕ)) × AreItemsIn f is xs × (x ≡ codes "[" ++ (join_with_byte 44 xs ++ codes "]"))
+  IsDocumentIn f (tree.object ms) x = (xs : List (List ℕ)) × AreMembersIn f ms xs × (x ≡ codes "{" ++ (join_with_byte 44 xs ++ codes "}"))
 
-  -- the text of each element
-  pub items_in : Form → Items → List (List ℕ)
-  items_in f no_items = []
-  items_in f (item t ts) = document_in f t ∷ items_in f ts
+  -- one text for each element
+  pub AreItemsIn : Form → Items → List (List ℕ) → Type 0
+  AreItemsIn f no_items xs = xs ≡ []
+  AreItemsIn f (item t ts) [] = ⊥
+  AreItemsIn f (item t ts) (x ∷ xs) = IsDocumentIn f t x × AreItemsIn f ts xs
 
-  -- a key, a colon, and its value
-  pub members_in : Form → Members → List (List ℕ)
-  members_in f no_members = []
-  members_in f (member k t ms) = (f.key k ++ (codes ":" ++ document_in f t)) ∷ members_in f ms
+  -- one for each member: its key, a colon, and its value
+  pub AreMembersIn : Form → Members → List (List ℕ) → Type 0
+  AreMembersIn f no_members xs = xs ≡ []
+  AreMembersIn f (member k t ms) [] = ⊥
+  AreMembersIn f (member k t ms) (x ∷ xs) = ((v : List ℕ) × IsDocumentIn f t v × (x ≡ f.key k ++ (codes ":" ++ v))) × AreMembersIn f ms xs
 
--- the text of a parsed JSON document
-abbrev pub tree_text_in : Form → Reading Tree → Reading (List ℕ)
-tree_text_in f found = found >>= λ t. Ok (document_in f t)
+-- the text is one of a member
+abbrev pub IsMemberIn : Form → List ℕ → Tree → List ℕ → Type 0
+IsMemberIn f k t x = (v : List ℕ) × IsDocumentIn f t v × (x ≡ f.key k ++ (codes ":" ++ v))
 
--- the text of the new value, if there is one; an error if it has no tree
-abbrev pub new_value_in : Form → Option JsonbValue → Reading (Option (List ℕ))
-new_value_in f None = Ok None
-new_value_in f (Some v) = tree_in v >>= λ t. Ok (Some (document_in f t))
+-- such a text was appended
+pub record AppendsOne (IsText : List ℕ → Type 0) (old new : List ℕ) : Type 0 where
+  pub text : List ℕ
+  pub such : IsText text
+  pub appended : new ≡ old ++ text
 
--- the text of a partial update
-abbrev pub update_in : Form → Diff → Reading (List ℕ)
-update_in f d = new_value_in f d.1.1 >>= λ v. Ok (f.update d.0 d.1.0 v)
+-- the text is one of the new value's tree, if there is one
+abbrev pub IsValueIn : Form → Option (Bor JsonDom) → Option (List ℕ) → Type 0
+IsValueIn f None x = x ≡ None
+IsValueIn f (Some d) x = (v : List ℕ) × IsDocumentIn f (view d.now) v × (x ≡ Some v)
 
--- the text of each update, in order
-unfoldable pub update_texts_in : Form → List Diff → Reading (List (List ℕ))
-update_texts_in f [] = Ok []
-update_texts_in f (d ∷ ds) = update_in f d >>= λ t. update_texts_in f ds >>= λ ts. Ok (t ∷ ts)
+-- the same, of the new value itself
+abbrev pub IsNewValueIn : Form → Option JsonbValue → Option (List ℕ) → Type 0
+IsNewValueIn f None x = x ≡ None
+IsNewValueIn f (Some v) x = (t : Tree) × (tree_in v ≡ Ok t) × ((y : List ℕ) × IsDocumentIn f t y × (x ≡ Some y))
 
--- the texts with a comma between each two, and what is before and after them
-abbrev pub bracketed_in : Form → List (List ℕ) → List ℕ
-bracketed_in f texts = f.before_updates ++ (join_with_byte 44 texts ++ f.after_updates)
+-- the text is one of a partial update
+abbrev pub IsUpdateIn : Form → Diff → List ℕ → Type 0
+IsUpdateIn f d x = (v : Option (List ℕ)) × IsNewValueIn f d.1.1 v × (x ≡ f.update d.0 d.1.0 v)
 
--- the text of all updates of a cell; an error if one has none
-abbrev pub updates_in : Form → List Diff → Reading (List ℕ)
-updates_in f ds = update_texts_in f ds >>= λ ts. Ok (bracketed_in f ts)
+-- one text for each update
+unfoldable pub AreUpdatesIn : Form → List Diff → List (List ℕ) → Type 0
+AreUpdatesIn f [] xs = xs ≡ []
+AreUpdatesIn f (d ∷ ds) [] = ⊥
+AreUpdatesIn f (d ∷ ds) (x ∷ xs) = IsUpdateIn f d x × AreUpdatesIn f ds xs
 
--- the text of all updates that the bytes of a cell have; an error if they aren't updates
-abbrev pub cell_updates_in : Form → List ℕ → Reading (List ℕ)
-cell_updates_in f b = unless (items_at diff_at b).fault (items_at diff_at b).items >>= updates_in f
+-- the text is one of all updates: with a comma between each two, and what is before and after them
+abbrev pub IsUpdatesIn : Form → List Diff → List ℕ → Type 0
+IsUpdatesIn f ds x = (xs : List (List ℕ)) × AreUpdatesIn f ds xs × (x ≡ f.before_updates ++ (join_with_byte 44 xs ++ f.after_updates))
+
+-- the bytes of a cell are updates, one of whose texts was appended
+pub record AppendsUpdates (f : Form) (bytes old new : List ℕ) : Type 0 where
+  pub updates : List Diff
+  pub found : items_at diff_at bytes ≡ all_found updates
+  pub text : AppendsOne (IsUpdatesIn f updates) old new

@@ -1,20 +1,19 @@
 -- The text of the feed: JSON documents.
-use Rattle.std.specs.Prelude.{ℕ, List, ◌∷◌, ◌++◌, codes, Option, Some, None}
-use Rattle.std.specs.Fmt.{decimal}
+use Rattle.std.specs.Prelude.{ℕ, List, [], ◌∷◌, ◌++◌, codes, if◌then◌else◌}
+use Rattle.std.specs.List.{join_with_byte}
+use Rattle.std.specs.Fmt.{decimal, signed_decimal}
 use Rattle.std.specs.Int.{w64, to_be_bytes}
 use Rattle.hex.specs.Hex.{encode_lower}
 use Rattle.rows_values.specs.declared.times.mysql_time.MysqlTime.{MysqlTime}
 use Rattle.rows_values.specs.declared.times.mysql_time.MysqlTimestampType.{MysqlTimestampType}
 use Rattle.rows_values.specs.declared.times.mysql_time.MysqlTimestampType.TheVariants.{MYSQL_TIMESTAMP_DATE, MYSQL_TIMESTAMP_TIME}
 use Rattle.rows_values.specs.PrintedDecimals.{decimal_text, sign_text}
-use Rattle.rows_jsonb.specs.JsonTrees.{Tree}
-use Rattle.rows_jsonb.specs.declared.diff.JsonDiffOperation.{JsonDiffOperation}
-use Rattle.rows_jsonb.specs.declared.diff.JsonDiffOperation.TheVariants.{REPLACE, INSERT, REMOVE}
+use Rattle.rows_jsonb.specs.JsonTrees as tree
+use Rattle.rows_jsonb.specs.JsonTrees.{Tree, Items, no_items, item, Members, no_members, member}
 use Rattle.feed_writers.specs.Quoting.{quoted}
 use Rattle.feed_writers.specs.declared.times.Clock.{Clock}
 use Rattle.feed_writers.specs.declared.times.Day.{Day}
 use Rattle.feed_writers.specs.TimesOfDay.{clock_text, day_text}
-use Rattle.feed_text.specs.DocumentForms.{Form, document_in}
 
 -- the date of a value
 abbrev pub day_of : MysqlTime → Day
@@ -33,32 +32,31 @@ temporal_text t = text t.time_type
     text MYSQL_TIMESTAMP_TIME = sign_text t.neg ++ clock_text (clock_of t)
     text _ = day_text (day_of t) ++ 32 ∷ clock_text (clock_of t)
 
--- the word of an operation
-abbrev pub operation_text : JsonDiffOperation → List ℕ
-operation_text REPLACE = codes "replace "
-operation_text INSERT = codes "insert "
-operation_text REMOVE = codes "remove "
+-- numbers as in cells; a decimal; a string quoted
+unfoldable pub scalar_text : tree.Scalar → List ℕ
+scalar_text tree.null = codes "null"
+scalar_text (tree.boolean b) = if b then codes "true" else codes "false"
+scalar_text (tree.int z) = signed_decimal z
+scalar_text (tree.uint n) = codes "u" ++ decimal n
+scalar_text (tree.double bits) = codes "d" ++ encode_lower (to_be_bytes w64 bits)
+scalar_text (tree.decimal d) = decimal_text d
+scalar_text (tree.string s) = quoted s
+scalar_text (tree.time t) = codes "t'" ++ (temporal_text t ++ codes "'")
+scalar_text (tree.opaque number bytes) = codes "o" ++ (decimal number ++ (codes ":" ++ quoted bytes))
 
--- an operation, its quoted path, and the new value after a space, if it has one
-abbrev pub update_text : JsonDiffOperation → List ℕ → Option (List ℕ) → List ℕ
-update_text operation path None = operation_text operation ++ quoted path
-update_text operation path (Some value) = operation_text operation ++ (quoted path ++ 32 ∷ value)
+unfoldable mutual
+  -- elements and members in brackets, with a comma between each two
+  pub document_text : Tree → List ℕ
+  document_text (tree.scalar s) = scalar_text s
+  document_text (tree.array is) = codes "[" ++ (join_with_byte 44 (item_texts is) ++ codes "]")
+  document_text (tree.object ms) = codes "{" ++ (join_with_byte 44 (member_texts ms) ++ codes "}")
 
--- The form of the feed: an unsigned integer after `u`; a double as `d` and the hexadecimal digits of its bits; a decimal's digits; strings and keys quoted; a date or time quoted after `t`; another value quoted after `o`, the number of its column type and `:`; updates after `diff[`.
-abbrev pub feed_form : Form
-feed_form = record {
-  uint = λ n. codes "u" ++ decimal n;
-  double = λ bits. codes "d" ++ encode_lower (to_be_bytes w64 bits);
-  decimal = decimal_text;
-  string = quoted;
-  time = λ t. codes "t'" ++ (temporal_text t ++ codes "'");
-  opaque = λ number bytes. codes "o" ++ (decimal number ++ (codes ":" ++ quoted bytes));
-  key = quoted;
-  update = update_text;
-  before_updates = codes "diff[";
-  after_updates = codes "]";
-}
+  -- the text of each element
+  pub item_texts : Items → List (List ℕ)
+  item_texts no_items = []
+  item_texts (item t ts) = document_text t ∷ item_texts ts
 
--- the text of a document in the feed
-abbrev pub document_text : Tree → List ℕ
-document_text t = document_in feed_form t
+  -- a quoted key, a colon, and its value
+  pub member_texts : Members → List (List ℕ)
+  member_texts no_members = []
+  member_texts (member k t ms) = (quoted k ++ (codes ":" ++ document_text t)) ∷ member_texts ms

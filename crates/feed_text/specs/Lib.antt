@@ -4,10 +4,11 @@ pub mod TextPieces
 pub mod Times
 pub mod ValueText
 pub mod DecimalText
-pub mod DocumentForms
 pub mod JsonText
 pub mod ShortTexts
 pub mod DiffText
+pub mod DocumentForms
+pub mod FeedDocuments
 pub mod CellText
 pub mod CellContent
 pub mod Buffers

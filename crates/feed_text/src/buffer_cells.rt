@@ -9,7 +9,7 @@ ghost use Rattle.rows_cells.specs.CellViews.{cell_value};
 ghost use Rattle.feed_text.specs.CellText.{label, cell_text, Appends, IsCellError};
 ghost use Rattle.feed_text.specs.NamelessFaults.{HasNamelessContent};
 ghost use Rattle.feed_text.specs.DirectText.{WritesDocument};
-ghost use Rattle.feed_text.specs.JsonText.{feed_form};
+ghost use Rattle.feed_text.specs.FeedDocuments.{feed_form};
 ghost use Rattle.feed_text.specs.DecimalText.{quoted_decimal, AppendsSome, IsDecimalError};
 ghost use Rattle.feed_text.specs.TextPieces.{IsAppendError};
 ghost use Rattle.feed_text.specs.ShortTexts.{short_text};

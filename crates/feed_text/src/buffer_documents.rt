@@ -5,9 +5,10 @@ ghost use Rattle.rows_errors.specs.declared.fault.RowsError.TheVariants.{Jsonb};
 ghost use Rattle.rows_jsonb.specs.DocumentTrees.{document_tree};
 ghost use Rattle.rows_jsonb.specs.JsonDiffViews.{diff_view};
 ghost use Rattle.rows_cells.specs.CellValues.{json_diffs as diffs_value};
-ghost use Rattle.feed_text.specs.CellText.{Appends, IsTextError};
-ghost use Rattle.feed_text.specs.DirectText.{WritesDocument};
-ghost use Rattle.feed_text.specs.DocumentForms.{tree_text_in, updates_in, cell_updates_in};
+ghost use Rattle.feed_text.specs.CellText.{cell_diffs_text, IsTextError};
+ghost use Rattle.feed_text.specs.DiffText.{diffs_text};
+ghost use Rattle.feed_text.specs.DirectText.{WritesDocument, IsDocumentError};
+ghost use Rattle.feed_text.specs.DocumentForms.{IsUpdatesIn, AppendsOne, AppendsUpdates};
 ghost use Rattle.feed_text.specs.NamelessFaults.{IsNamelessDocument, HasNamelessDiff, HasNamelessContent};
 
 use crate::buffer::TextBuffer;
@@ -34,8 +35,8 @@ impl<A: Allocator> TextBuffer<A> {
         alloc: Global,
         bytes: &[u8],
     ) -> Result<(), RowsError>
-        ensures ok { OnOk result (Appends (tree_text_in F.form (document_tree bytes.now)) (text_in self.old) (text_in self.new)) }
-        ensures err { IfErr result (λ e. IsTextError e (tree_text_in F.form (document_tree bytes.now)) (text_in self.old) (text_in self.new)) }
+        ensures ok { OnOk result (WritesDocument F.form (document_tree bytes.now) (text_in self.old) (text_in self.new)) }
+        ensures err { IfErr result (λ e. IsDocumentError e (document_tree bytes.now) (text_in self.old) (text_in self.new)) }
         ensures nameless { IfErr result (λ e. e ≡ Jsonb None → IsNamelessDocument bytes.now) }
     {
         if self.put_direct::<F>(bytes) {
@@ -78,8 +79,8 @@ impl<A: Allocator> TextBuffer<A> {
         alloc: Global,
         bytes: &[u8],
     ) -> Result<(), RowsError>
-        ensures ok { OnOk result (Appends (cell_updates_in F.form bytes.now) (text_in self.old) (text_in self.new)) }
-        ensures err { IfErr result (λ e. IsTextError e (cell_updates_in F.form bytes.now) (text_in self.old) (text_in self.new)) }
+        ensures ok { OnOk result (AppendsUpdates F.form bytes.now (text_in self.old) (text_in self.new)) }
+        ensures err { IfErr result (λ e. IsTextError e (cell_diffs_text bytes.now) (text_in self.old) (text_in self.new)) }
         ensures nameless { IfErr result (λ e. e ≡ Jsonb None → HasNamelessContent (diffs_value bytes.now)) }
     {
         match json_diffs(alloc, bytes) {
@@ -94,8 +95,8 @@ impl<A: Allocator> TextBuffer<A> {
         alloc: Global,
         diffs: &[JsonDiff<'_>],
     ) -> Result<(), RowsError>
-        ensures ok { OnOk result (Appends (updates_in F.form (map diff_view diffs.now)) (text_in self.old) (text_in self.new)) }
-        ensures err { IfErr result (λ e. IsTextError e (updates_in F.form (map diff_view diffs.now)) (text_in self.old) (text_in self.new)) }
+        ensures ok { OnOk result (AppendsOne (IsUpdatesIn F.form (map diff_view diffs.now)) (text_in self.old) (text_in self.new)) }
+        ensures err { IfErr result (λ e. IsTextError e (diffs_text (map diff_view diffs.now)) (text_in self.old) (text_in self.new)) }
         ensures nameless { IfErr result (λ e. e ≡ Jsonb None → HasNamelessDiff (map diff_view diffs.now)) }
     {
         self.bytes.truncate(self.len);

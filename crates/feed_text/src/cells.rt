@@ -18,9 +18,8 @@ ghost use Rattle.feed_text.specs.CellText.{label, cell_text, kept_cell_text, App
 ghost use Rattle.feed_text.specs.NamelessFaults.{IsNamelessDocument, HasNamelessDiff, HasNamelessContent, HasNamelessPart};
 
 use crate::decimals::put_decimal;
-use crate::diffs::append_diffs;
+use crate::diffs::append_feed_diffs;
 use crate::documents::put_json;
-use crate::feed_form::FeedForm;
 use crate::parts::CellContent;
 use crate::quoting::quote;
 use crate::short::{SHORT_LEN_MAX, Short, put_short};
@@ -233,7 +232,7 @@ fn put_diffs_cell<A: Allocator>(
         Ok(()) => {}
         Err(fault) => return Err(fault),
     }
-    match append_diffs::<A, FeedForm>(alloc, diffs, out) {
+    match append_feed_diffs(alloc, diffs, out) {
         Ok(()) => Ok(()),
         Err(fault) => {
             out.truncate(start);

@@ -5,10 +5,12 @@ ghost use Rattle.rows_jsonb.specs.JsonDiffViews.{diff_view};
 ghost use Rattle.rows_jsonb.specs.JsonParsing.{Parses};
 ghost use Rattle.rows_errors.specs.declared.fault.RowsError.TheVariants.{Jsonb};
 ghost use Rattle.feed_text.specs.CellText.{Appends};
-ghost use Rattle.feed_text.specs.DocumentForms.{update_in, updates_in};
+ghost use Rattle.feed_text.specs.DiffText.{diff_text, diffs_text};
+ghost use Rattle.feed_text.specs.DocumentForms.{IsUpdateIn, IsUpdatesIn, AppendsOne};
 ghost use Rattle.feed_text.specs.NamelessFaults.{HasNamelessValue, HasNamelessDiff};
 
 use crate::document_form::UpdateForm;
+use crate::feed_form::FeedForm;
 use rows_errors::RowsError;
 use rows_jsonb::JsonDiff;
 use std::alloc::{Allocator, Global};
@@ -22,8 +24,8 @@ pub(crate) fn append_diffs<A: Allocator, F: UpdateForm>(
     diffs: &[JsonDiff<'_>],
     out: &mut Vec<u8, A>,
 ) -> Result<(), RowsError>
-    ensures ok { OnOk result (Appends (updates_in F.form (map diff_view diffs.now)) out.old.items out.new.items) }
-    ensures err { IfErr result (λ e. Parses (λ t. t) (Err e) (updates_in F.form (map diff_view diffs.now))) }
+    ensures ok { OnOk result (AppendsOne (IsUpdatesIn F.form (map diff_view diffs.now)) out.old.items out.new.items) }
+    ensures err { IfErr result (λ e. Parses (λ t. t) (Err e) (diffs_text (map diff_view diffs.now))) }
     ensures nameless { IfErr result (λ e. e ≡ Jsonb None → HasNamelessDiff (map diff_view diffs.now)) }
     ensures kept { take (length out.old.items) out.new.items ≡ out.old.items }
 {
@@ -42,14 +44,28 @@ pub(crate) fn append_diffs<A: Allocator, F: UpdateForm>(
     Ok(())
 }
 
+/// Appends the text of partial updates in the feed. An error may leave a part of it, as [`append_diffs`] has it.
+pub(crate) fn append_feed_diffs<A: Allocator>(
+    alloc: Global,
+    diffs: &[JsonDiff<'_>],
+    out: &mut Vec<u8, A>,
+) -> Result<(), RowsError>
+    ensures ok { OnOk result (Appends (diffs_text (map diff_view diffs.now)) out.old.items out.new.items) }
+    ensures err { IfErr result (λ e. Parses (λ t. t) (Err e) (diffs_text (map diff_view diffs.now))) }
+    ensures nameless { IfErr result (λ e. e ≡ Jsonb None → HasNamelessDiff (map diff_view diffs.now)) }
+    ensures kept { take (length out.old.items) out.new.items ≡ out.old.items }
+{
+    append_diffs::<A, FeedForm>(alloc, diffs, out)
+}
+
 /// Appends the text of an update. An error may leave a part of it.
 fn append_diff<A: Allocator, F: UpdateForm>(
     alloc: Global,
     diff: &JsonDiff<'_>,
     out: &mut Vec<u8, A>,
 ) -> Result<(), RowsError>
-    ensures ok { OnOk result (Appends (update_in F.form (diff_view diff.now)) out.old.items out.new.items) }
-    ensures err { IfErr result (λ e. Parses (λ t. t) (Err e) (update_in F.form (diff_view diff.now))) }
+    ensures ok { OnOk result (AppendsOne (IsUpdateIn F.form (diff_view diff.now)) out.old.items out.new.items) }
+    ensures err { IfErr result (λ e. Parses (λ t. t) (Err e) (diff_text (diff_view diff.now))) }
     ensures nameless { IfErr result (λ e. e ≡ Jsonb None → HasNamelessValue (diff_view diff.now).1.1) }
     ensures kept { take (length out.old.items) out.new.items ≡ out.old.items }
 {

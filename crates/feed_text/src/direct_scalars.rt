@@ -3,6 +3,7 @@
 ghost use Rattle.std.specs.Prelude.{◌≡◌, ◌++◌, OnOk, OnErr};
 ghost use Rattle.std.specs.Fmt.{signed_decimal};
 ghost use Rattle.feed_text.specs.Buffers.{text_in};
+ghost use Rattle.feed_text.specs.DocumentForms.{AppendsOne};
 ghost use Rattle.feed_text.specs.DirectText.{WritesTypedScalar};
 
 use crate::buffer::TextBuffer;
@@ -248,7 +249,7 @@ fn append_double<A: Allocator, F: DocumentForm>(
     out: &mut TextBuffer<A>,
     bits: u64,
 ) -> Result<(), NotDirect>
-    ensures ok { OnOk result (text_in out.new ≡ text_in out.old ++ F.form.double bits) }
+    ensures ok { OnOk result (AppendsOne (F.form.IsDouble bits) (text_in out.old) (text_in out.new)) }
     ensures err { OnErr result (text_in out.new ≡ text_in out.old) }
 {
     out.reserve(DOUBLE_ROOM)?;

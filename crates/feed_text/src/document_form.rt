@@ -1,11 +1,10 @@
 //! How the values of JSON documents are written.
 
-ghost use Rattle.std.specs.Prelude.{◌≡◌, ◌≤◌, ◌+◌, ◌*◌, ◌++◌, ℕ, IfNone, IfSome, OnOk, IfErr, option_map, true, false, length, take};
+ghost use Rattle.std.specs.Prelude.{List, Option, ◌≡◌, ◌≤◌, ◌+◌, ◌*◌, ◌++◌, ℕ, IfNone, IfSome, OnOk, IfErr, true, false, length, take};
 ghost use Rattle.std.specs.Str.{is_utf8};
 ghost use Rattle.rows_values.specs.Decimals.{decimal_parts};
-ghost use Rattle.rows_jsonb.specs.JsonTreeViews.{view};
 ghost use Rattle.rows_errors.specs.declared.fault.RowsError.TheVariants.{Memory};
-ghost use Rattle.feed_text.specs.DocumentForms.{Form, document_in};
+ghost use Rattle.feed_text.specs.DocumentForms.{Form, IsValueIn, AppendsOne};
 
 use rows_errors::RowsError;
 use rows_jsonb::{JsonDiffOperation, JsonDom};
@@ -34,7 +33,7 @@ pub trait DocumentForm {
     fn put_double(text: &mut [u8], at: usize, bits: u64) -> usize
         requires { at + 32 ≤ length text.old }
         ensures most { result ≤ at + 32 }
-        ensures text { take result text.new ≡ take at text.old ++ form.double bits };
+        ensures text { AppendsOne (form.IsDouble bits) (take at text.old) (take result text.new) };
 
     /// Writes the first `len` of sixteen bytes as a string, or returns `None`. It may give up on any bytes.
     fn put_short_string(text: &mut [u8], at: usize, bytes: &[u8], len: usize) -> Option<usize>
@@ -108,7 +107,7 @@ pub trait UpdateForm: DocumentForm {
         value: Option<&JsonDom>,
         out: &mut Vec<u8, A>,
     ) -> Result<(), RowsError>
-        ensures ok { OnOk result (out.new.items ≡ out.old.items ++ Self.form.update operation path.now (option_map (λ d. document_in Self.form (view d.now)) value.entry)) }
+        ensures ok { OnOk result (AppendsOne (λ x. (v : Option (List ℕ)) × IsValueIn Self.form value.entry v × (x ≡ Self.form.update operation path.now v)) out.old.items out.new.items) }
         ensures err { IfErr result (λ e. e ≡ Memory) }
         ensures kept { take (length out.old.items) out.new.items ≡ out.old.items };
 

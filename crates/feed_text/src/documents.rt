@@ -4,7 +4,7 @@ ghost use Rattle.std.specs.Prelude.{◌≡◌, ◌++◌, OnOk, IfErr, length, ta
 ghost use Rattle.rows_jsonb.specs.JsonTrees.{array, object};
 ghost use Rattle.rows_jsonb.specs.JsonTreeViews.{view, items_view, members_view};
 ghost use Rattle.feed_text.specs.TextPieces.{IsAppendError};
-ghost use Rattle.feed_text.specs.DocumentForms.{document_in};
+ghost use Rattle.feed_text.specs.DocumentForms.{IsDocumentIn, AppendsOne};
 ghost use Rattle.feed_text.specs.JsonText.{document_text};
 
 use crate::document_form::DocumentForm;
@@ -41,7 +41,7 @@ pub fn put_tree<A: Allocator, F: DocumentForm>(
     document: &JsonDom,
     out: &mut Vec<u8, A>,
 ) -> Result<(), RowsError>
-    ensures ok { OnOk result (out.new.items ≡ out.old.items ++ document_in F.form (view document.now)) }
+    ensures ok { OnOk result (AppendsOne (IsDocumentIn F.form (view document.now)) out.old.items out.new.items) }
     ensures err { IfErr result (λ e. IsAppendError e out.old.items out.new.items) }
 {
     let start = out.len();
@@ -58,7 +58,7 @@ fn append_document<A: Allocator, F: DocumentForm>(
     document: &JsonDom,
     out: &mut Vec<u8, A>,
 ) -> Result<(), RowsError>
-    ensures ok { OnOk result (out.new.items ≡ out.old.items ++ document_in F.form (view document.now)) }
+    ensures ok { OnOk result (AppendsOne (IsDocumentIn F.form (view document.now)) out.old.items out.new.items) }
     ensures kept { take (length out.old.items) out.new.items ≡ out.old.items }
 {
     match document {
@@ -74,7 +74,7 @@ fn append_items<A: Allocator, F: DocumentForm>(
     items: &Vec<JsonDom>,
     out: &mut Vec<u8, A>,
 ) -> Result<(), RowsError>
-    ensures ok { OnOk result (out.new.items ≡ out.old.items ++ document_in F.form (array (items_view items.now.items))) }
+    ensures ok { OnOk result (AppendsOne (IsDocumentIn F.form (array (items_view items.now.items))) out.old.items out.new.items) }
     ensures kept { take (length out.old.items) out.new.items ≡ out.old.items }
 {
     out.push(b'[')?;
@@ -94,7 +94,7 @@ fn append_members<A: Allocator, F: DocumentForm>(
     members: &BTreeMap<String, JsonDom>,
     out: &mut Vec<u8, A>,
 ) -> Result<(), RowsError>
-    ensures ok { OnOk result (out.new.items ≡ out.old.items ++ document_in F.form (object (members_view members.now.entries))) }
+    ensures ok { OnOk result (AppendsOne (IsDocumentIn F.form (object (members_view members.now.entries))) out.old.items out.new.items) }
     ensures kept { take (length out.old.items) out.new.items ≡ out.old.items }
 {
     out.push(b'{')?;

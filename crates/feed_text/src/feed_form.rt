@@ -1,13 +1,16 @@
 //! The values of JSON documents in the text of the feed.
 
-ghost use Rattle.std.specs.Prelude.{◌≡◌, ◌≤◌, ◌+◌, ◌∷◌, ◌++◌, OnOk, IfErr, length, take, take_while};
+ghost use Rattle.std.specs.Prelude.{◌≡◌, ◌≤◌, ◌+◌, ◌∷◌, ◌++◌, ℕ, List, OnOk, IfErr, length, take, take_while};
 ghost use Rattle.feed_writers.specs.Quoting.{is_plain_byte, quoted};
 ghost use Rattle.rows_jsonb.specs.JsonTreeViews.{view};
 ghost use Rattle.rows_errors.specs.declared.fault.RowsError.TheVariants.{Memory};
-ghost use Rattle.feed_text.specs.JsonText.{feed_form, temporal_text, operation_text, document_text};
+ghost use Rattle.feed_text.specs.JsonText.{temporal_text};
+ghost use Rattle.feed_text.specs.DocumentForms.{IsDocumentIn, AppendsOne};
+ghost use Rattle.feed_text.specs.DiffText.{operation_text};
+ghost use Rattle.feed_text.specs.FeedDocuments.{feed_form};
 
 use crate::document_form::{DocumentForm, UpdateForm};
-use crate::documents::put_json;
+use crate::documents::put_tree;
 use crate::pieces::append_all;
 use crate::quoting::quote;
 use feed_writers::{
@@ -182,10 +185,10 @@ fn operation_word(operation: JsonDiffOperation) -> &'static [u8]
 
 /// Appends a space and the text of a JSON document's tree. An error may leave a part of it.
 fn append_after_space<A: Allocator>(tree: &JsonDom, out: &mut Vec<u8, A>) -> Result<(), RowsError>
-    ensures ok { OnOk result (out.new.items ≡ out.old.items ++ (32 ∷ document_text (view tree.now))) }
+    ensures ok { OnOk result (AppendsOne (λ x. (v : List ℕ) × IsDocumentIn feed_form (view tree.now) v × (x ≡ 32 ∷ v)) out.old.items out.new.items) }
     ensures err { IfErr result (λ e. e ≡ Memory) }
     ensures kept { take (length out.old.items) out.new.items ≡ out.old.items }
 {
     out.push(b' ')?;
-    put_json(tree, out)
+    put_tree::<A, FeedForm>(tree, out)
 }

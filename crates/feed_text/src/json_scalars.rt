@@ -5,7 +5,7 @@ ghost use Rattle.std.specs.Str.{is_utf8};
 ghost use Rattle.rows_jsonb.specs.JsonTreeViews.{scalar_view, number_view};
 ghost use Rattle.std.specs.Fmt.{signed_decimal};
 ghost use Rattle.feed_text.specs.TextPieces.{IsAppendError};
-ghost use Rattle.feed_text.specs.DocumentForms.{scalar_in};
+ghost use Rattle.feed_text.specs.DocumentForms.{IsScalarIn, AppendsOne};
 
 use crate::document_form::DocumentForm;
 use crate::pieces::append_all;
@@ -17,12 +17,12 @@ use rows_values::MysqlTime;
 use std::alloc::Allocator;
 
 /// Appends the text of a scalar. An error may leave a part of it.
-#[tactic(auto, using(crate::proofs::QuoteLemmas::kept_either), unfolding(crate::specs::DocumentForms::scalar_in))]
+#[tactic(auto, using(crate::proofs::QuoteLemmas::kept_either), unfolding(crate::specs::DocumentForms::IsScalarIn))]
 pub(crate) fn append_scalar<A: Allocator, F: DocumentForm>(
     scalar: &JsonScalar,
     out: &mut Vec<u8, A>,
 ) -> Result<(), RowsError>
-    ensures ok { OnOk result (out.new.items ≡ out.old.items ++ scalar_in F.form (scalar_view scalar.now)) }
+    ensures ok { OnOk result (AppendsOne (IsScalarIn F.form (scalar_view scalar.now)) out.old.items out.new.items) }
     ensures kept { take (length out.old.items) out.new.items ≡ out.old.items }
 {
     match scalar {
@@ -39,12 +39,12 @@ pub(crate) fn append_scalar<A: Allocator, F: DocumentForm>(
 }
 
 /// Appends the text of a number. An error may leave a part of it.
-#[tactic(auto, using(crate::proofs::QuoteLemmas::kept_either), unfolding(crate::specs::DocumentForms::scalar_in))]
+#[tactic(auto, using(crate::proofs::QuoteLemmas::kept_either), unfolding(crate::specs::DocumentForms::IsScalarIn))]
 fn append_number<A: Allocator, F: DocumentForm>(
     number: &JsonNumber,
     out: &mut Vec<u8, A>,
 ) -> Result<(), RowsError>
-    ensures ok { OnOk result (out.new.items ≡ out.old.items ++ scalar_in F.form (number_view number.now)) }
+    ensures ok { OnOk result (AppendsOne (IsScalarIn F.form (number_view number.now)) out.old.items out.new.items) }
     ensures kept { take (length out.old.items) out.new.items ≡ out.old.items }
 {
     match number {
@@ -93,8 +93,8 @@ fn append_double<A: Allocator, F: DocumentForm>(
     bits: u64,
     out: &mut Vec<u8, A>,
 ) -> Result<(), RowsError>
-    ensures ok { OnOk result (out.new.items ≡ out.old.items ++ F.form.double bits) }
-    ensures err { IfErr result (λ e. IsAppendError e out.old.items out.new.items) }
+    ensures ok { OnOk result (AppendsOne (F.form.IsDouble bits) out.old.items out.new.items) }
+    ensures kept { take (length out.old.items) out.new.items ≡ out.old.items }
 {
     let start = out.len();
     out.resize(start + DOUBLE_ROOM, 0)?;

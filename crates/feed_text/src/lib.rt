@@ -42,4 +42,4 @@ pub use documents::{put_json, put_tree};
 pub use feed_form::{FeedForm, put_temporal};
 pub use quoting::quote;
 pub use values::put_value;
-pub use writing::Writing;
+pub use writing::{Writing, WritingInRoom};

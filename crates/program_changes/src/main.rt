@@ -6,7 +6,6 @@
 
 mod changes;
 mod check;
-mod lines;
 mod positions;
 mod run;
 mod selection;

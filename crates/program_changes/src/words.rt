@@ -1,8 +1,7 @@
 //! What is said to people about logs and errors.
 
 use crate::status::is_whole;
-use changes_commands::{Explanation, explain, put_type};
-use changes_json::Text;
+use changes_commands::{Explanation, Text, explain, put_type};
 use feed_change_log::Stop;
 use feed_checks::{Verdict, name_of};
 

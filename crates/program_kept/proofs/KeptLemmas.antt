@@ -40,6 +40,8 @@ none_written input failed o failures.Memory h = keeps_same o
 none_written input failed o failures.Read h = (keeps_same o, h)
 none_written input failed o failures.Write h = absurd h
 none_written input failed o failures.Usage h = absurd h
+none_written input failed o failures.Open h = absurd h
+none_written input failed o failures.Line h = absurd h
 
 -- the reader gave all of its bytes
 all_taken : (b : List ℕ) (new : Option (List ℕ)) (bytes : List ℕ) → Consumes (Some b) new bytes → IsAtEnd new → b ≡ bytes

@@ -12,9 +12,11 @@ use Rattle.program_kept.specs.declared.finding.Failure.TheVariants as failures
 -- the word for a failure
 abbrev pub failure_name : Failure → List ℕ
 failure_name failures.Usage = codes "Usage"
+failure_name failures.Open = codes "Open"
 failure_name failures.Memory = codes "Memory"
 failure_name failures.Read = codes "Read"
 failure_name failures.Write = codes "Write"
+failure_name failures.Line = codes "Line"
 
 -- the reader was read to its end, and the keeper took these bytes, if they are fewer than 2^64
 pub record HasKept (old new : Option (List ℕ)) (keeper : Keeper) : Type 0 where
@@ -40,3 +42,5 @@ WritesKept input failed before written (Err failures.Write) = IfSome input (λ t
 WritesKept input failed before written (Err failures.Memory) = Keeps before written
 WritesKept input failed before written (Err failures.Read) = Keeps before written × (failed ≡ true)
 WritesKept input failed before written (Err failures.Usage) = ⊥
+WritesKept input failed before written (Err failures.Open) = ⊥
+WritesKept input failed before written (Err failures.Line) = ⊥

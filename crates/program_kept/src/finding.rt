@@ -18,14 +18,18 @@ const PIECE_LEN: usize = 65_536;
 /// Why nothing was found.
 #[derive(Clone, Copy, Debug, PartialEq, Eq)]
 pub enum Failure {
-    /// There is an argument.
+    /// The arguments are none that the program takes.
     Usage,
+    /// The file can't be opened.
+    Open,
     /// Out of memory.
     Memory,
     /// The reader failed.
     Read,
     /// The writer failed.
     Write,
+    /// The last line of the complete transactions doesn't have `file` and `position`, or the name has a line feed.
+    Line,
 }
 
 impl Failure {
@@ -35,9 +39,11 @@ impl Failure {
     {
         match self {
             Failure::Usage => "Usage",
+            Failure::Open => "Open",
             Failure::Memory => "Memory",
             Failure::Read => "Read",
             Failure::Write => "Write",
+            Failure::Line => "Line",
         }
     }
 }

@@ -2,35 +2,51 @@
 //!
 //! Standard input is a text of the feed, which may be truncated anywhere; it is read in pieces. Standard output is the length in
 //! bytes of the complete transactions, a space, the position after the last of them, or the first event's if there is none, and a
-//! line feed. There are no arguments. On an error standard error has `Usage`, `Read`, `Memory` or `Write`, and the status is 1.
+//! line feed. With `--json` standard input, or the file that is named after it, has JSON lines of `binlog-changes json`, and a space
+//! and the name of its log follow the position. On an error standard error has `Usage`, `Open`, `Read`, `Memory`, `Write` or `Line`,
+//! and the status is 1.
 #![tactic(auto)]
 
 mod finding;
+mod finding_json;
 
 use finding::{Failure, write_kept};
+use finding_json::write_kept_json;
 use std::env;
+use std::fs::File;
 use std::io::{self, ErrorKind};
 use std::process::ExitCode;
-use std::rt::Env;
 use wire_buf::Watched;
 
-/// Checks that there are no arguments. `Usage`: there is one. `Memory`: out of memory.
-fn no_words(rt: &(impl Env + Alloc)) -> Result<(), Failure> {
-    match env::args(rt) {
-        Ok(words) if words.len() <= 1 => Ok(()),
-        Err(error) if error.kind() == ErrorKind::OutOfMemory => Err(Failure::Memory),
-        _ => Err(Failure::Usage),
-    }
+/// The words after the program's name. `Usage`: one isn't text. `Memory`: out of memory.
+fn words_of(rt: &HostRuntime) -> Result<Vec<String>, Failure> {
+    let words = match env::args(rt) {
+        Ok(words) => words,
+        Err(error) if error.kind() == ErrorKind::OutOfMemory => return Err(Failure::Memory),
+        Err(_) => return Err(Failure::Usage),
+    };
+    words
+        .skip(1)
+        .collect::<Vec<String>>(rt.alloc())
+        .map_err(|_| Failure::Memory)
 }
 
-/// Writes the line for standard input to standard output.
+/// Writes the line for standard input, or for a file, to standard output. `Usage`: the words are none that the program takes. `Open`:
+/// the file can't be opened.
 fn run(rt: &HostRuntime) -> Result<(), Failure> {
-    no_words(rt)?;
-    write_kept(
-        rt.alloc(),
-        &mut Watched::new(rt.reader()),
-        &mut io::writer(rt),
-    )
+    let words = words_of(rt)?;
+    let output = &mut io::writer(rt);
+    match words.as_slice() {
+        [] => write_kept(rt.alloc(), &mut Watched::new(rt.reader()), output),
+        [option] if option.as_str() == "--json" => {
+            write_kept_json(rt.alloc(), &mut Watched::new(rt.reader()), output)
+        }
+        [option, path] if option.as_str() == "--json" => match File::open(rt, path) {
+            Ok(file) => write_kept_json(rt.alloc(), &mut Watched::new(file), output),
+            Err(_) => Err(Failure::Open),
+        },
+        _ => Err(Failure::Usage),
+    }
 }
 
 fn main(rt: HostRuntime) -> ExitCode {

@@ -1,5 +1,5 @@
 -- The cells of an image, read one at a time.
-use Rattle.std.specs.Prelude.{◌≡◌, ◌<◌, ℕ, suc, ◌-◌, length, slice_index_or, List, [], ◌∷◌, drop, Option, Some, None}
+use Rattle.std.specs.Prelude.{◌≡◌, ◌<◌, false, ℕ, suc, ◌-◌, length, slice_index_or, List, [], ◌∷◌, drop, Option, Some, None}
 use Rattle.std.specs.declared.result.Result.{Result}
 use Rattle.std.specs.declared.result.Result.TheVariants.{Ok, Err}
 use Rattle.rows_errors.specs.declared.fault.RowsError.{RowsError}
@@ -22,6 +22,10 @@ image_shape p = record { columns = p.columns.now; json_columns = p.json_columns 
 -- the remaining cells, and the bytes after the last of them
 abbrev pub remaining_cells : ImageCells → Reading (List ColumnValue × List ℕ)
 remaining_cells c = cells_at c.bits.now c.nulls.now c.index (drop c.index c.columns.now) c.rest.now
+
+-- the columns of the remaining cells
+abbrev pub columns_left : ImageCells → List ImageColumn
+columns_left c = drop c.index c.columns.now
 
 -- the number of remaining cells
 abbrev pub cells_count : ImageCells → ℕ
@@ -50,6 +54,10 @@ pub record IsNextField (c : ImageCells) (f : ImageField) : Type 0 where
   pub some : c.index < length c.columns.now
   pub column : f.column ≡ (next_column c).column
   pub value : field_at f.is_null f.format f.bytes.now ≡ next_value c
+
+-- the format of the next cell, unless it is NULL
+abbrev pub HasNextFormat : ImageCells → ImageField → Type 0
+HasNextFormat c f = f.is_null ≡ false → f.format ≡ format_in c.bits.now (next_column c)
 
 -- if the next cell has a value and `rest` follows it, that cell counts as returned and the others remain
 abbrev pub SkipsField : ImageCells → List ℕ → ImageCells → Type 0

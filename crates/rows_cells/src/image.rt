@@ -1,10 +1,11 @@
 //! The image of a row: its null bits and its cells, read one at a time.
 
-ghost use Rattle.std.specs.Prelude.{◌≡◌, ◌≤◌, ◌<◌, ◌*◌, ◌⊎◌, ℕ, List, length, IfOk};
+ghost use Rattle.std.specs.Prelude.{◌≡◌, ◌≤◌, ◌<◌, ◌*◌, ◌⊎◌, ℕ, List, Bool, false, length, IfOk};
 ghost use Rattle.rows_errors.specs.Readings.{map_reading};
 ghost use Rattle.rows_cells.specs.CellViews.{cell_value, IsReadable};
 ghost use Rattle.std.specs.Bool.{OnTrue, OnFalse};
 ghost use Rattle.rows_cells.specs.declared.format.CellFormat.TheVariants.{Json};
+ghost use Rattle.rows_cells.specs.ColumnFormats.{format_by};
 ghost use Rattle.rows_cells.specs.Images.{bit, format_in, field_at, IsReadAlike, lenenc_error as fault_of_lenenc, lenenc_at, shared_at};
 
 use crate::cell::CellRef;
@@ -61,9 +62,9 @@ pub struct ImageCells<'p, 'a> {
 }
 
 impl<'p, 'a> ImageCells<'p, 'a> {
-    ghost use Rattle.std.specs.Prelude.{IfOk, IfErr, IfSome, IfNone, Ok, Err, []};
+    ghost use Rattle.std.specs.Prelude.{IfOk, IfErr, IfSome, IfNone, Ok, Err, [], ◌∷◌};
     ghost use Rattle.rows_cells.specs.Images.{image_at};
-    ghost use Rattle.rows_cells.specs.ImageViews.{image_shape, remaining_cells, cells_count, next_column, ReturnsCell, IsNextField, SkipsField};
+    ghost use Rattle.rows_cells.specs.ImageViews.{image_shape, remaining_cells, columns_left, cells_count, next_column, ReturnsCell, IsNextField, HasNextFormat, SkipsField};
 
     /// Returns the cells of the image that the bytes begin with, in order.
     ///
@@ -73,6 +74,7 @@ impl<'p, 'a> ImageCells<'p, 'a> {
     pub fn of(plan: ImagePlan<'p>, bytes: &'a [u8]) -> Result<ImageCells<'p, 'a>, RowsError>
         ensures ok { IfOk result (λ cells. remaining_cells cells ≡ image_at (image_shape plan.entry) bytes.entry.now) }
         ensures count { IfOk result (λ cells. cells_count cells ≡ length plan.entry.columns.now) }
+        ensures columns { IfOk result (λ cells. columns_left cells ≡ plan.entry.columns.now) }
         ensures err { IfErr result (λ e. image_at (image_shape plan.entry) bytes.entry.now ≡ Err e) }
     {
         let columns = plan.columns;
@@ -126,6 +128,7 @@ impl<'p, 'a> ImageCells<'p, 'a> {
     pub fn next_field(&self) -> Option<ImageField<'a>>
         ensures none { IfNone result (length self.now.columns.now ≤ self.now.index) }
         ensures some { IfSome result (IsNextField self.now) }
+        ensures format { IfSome result (HasNextFormat self.now) }
     {
         if self.index >= self.columns.len() {
             return None;
@@ -145,6 +148,7 @@ impl<'p, 'a> ImageCells<'p, 'a> {
     pub fn next_plain_field(&self) -> Option<ImageField<'a>>
         ensures none { IfNone result (length self.now.columns.now ≤ self.now.index ⊎ (next_column self.now).format ≡ Json) }
         ensures some { IfSome result (IsNextField self.now) }
+        ensures format { IfSome result (HasNextFormat self.now) }
     {
         if self.index >= self.columns.len() {
             return None;
@@ -166,7 +170,8 @@ impl<'p, 'a> ImageCells<'p, 'a> {
     #[inline(always)]
     pub fn skip_field(&mut self, rest: &'a [u8])
         requires { self.now.index < length self.now.columns.now }
-        ensures { SkipsField self.old rest.entry.now self.new }
+        ensures cell { SkipsField self.old rest.entry.now self.new }
+        ensures columns { columns_left self.old ≡ next_column self.old ∷ columns_left self.new }
     {
         self.index += 1;
         self.rest = rest;
@@ -247,6 +252,7 @@ fn format_of(bits: &[u8], image_column: ImageColumn) -> CellFormat
 #[inline(always)]
 fn has_one_format(is_null: bool, format: CellFormat) -> bool
     ensures alike { OnTrue result (IsReadAlike is_null format) }
+    ensures one { OnTrue result (is_null ≡ false → (b : Bool) → format_by b format ≡ format) }
     ensures other { OnFalse result (format ≡ Json) }
 {
     match format {

@@ -16,6 +16,7 @@ pub record TablePlan : Type 0 where
   pub first : ℕ → Reading (List PlannedColumn)
   pub json_columns : ℕ
 
+-- what images are read by, of a plan that the code has
 abbrev pub table_plan : ColumnPlan → TablePlan
 table_plan p = record { first = planned p.run; json_columns = p.json_columns }
 

@@ -1,4 +1,4 @@
--- The specification's values for the crate's plans.
+-- The columns that a plan of the code represents, and the plan of a table map.
 use Rattle.std.specs.Prelude.{◌≡◌, ◌==◌, count_by, ℕ, Bool, false, List, [], ◌∷◌, ◌+◌, length, take, Option, Some, None, nat_le, if◌then◌else◌}
 use Rattle.std.specs.Borrow.{Bor}
 use Rattle.std.specs.declared.result.Result.TheVariants.{Ok, Err}
@@ -16,6 +16,7 @@ use Rattle.rows_event_body.specs.declared.plan.ColumnPlan.{ColumnPlan}
 use Rattle.rows_event_body.specs.declared.run.ColumnRun.{ColumnRun}
 use Rattle.rows_event_body.specs.Plans.{PlannedColumn, table_columns_of, name_at, first_columns}
 
+-- the name that was read; empty if there is none
 abbrev pub name_or_empty : Reading (List ℕ) → List ℕ
 name_or_empty (Ok name) = name
 name_or_empty (Err e) = []

@@ -1,4 +1,4 @@
--- The specification's values for the crate's types.
+-- The JSON values that the code's types represent.
 use Rattle.std.specs.Prelude.{◌≡◌, ◌≤◌, ℕ, List, length, drop, true, false}
 use Rattle.std.specs.Cow.{cow_slice_items}
 use Rattle.wire_constants.specs.ColumnTypes.{column_type_number}
@@ -14,6 +14,7 @@ pub record IsConsumed (n : ℕ) (before after : List ℕ) : Type 0 where
   pub room : n ≤ length before
   pub rest : after ≡ drop n before
 
+-- the JSON value that a value of the code represents
 abbrev pub jsonb_value : Value → JsonbValue
 jsonb_value Null = seen.null
 jsonb_value (Bool b) = seen.boolean b

@@ -1,9 +1,9 @@
 //! The text of a document, and running out of memory; documents, updates and other texts in a buffer.
 
-ghost use Rattle.std.specs.Prelude.{replicate};
+ghost use Rattle.std.specs.Prelude.{◌≡◌, [], replicate};
 
 use crate::texts::Outcome;
-use feed_text::{FeedForm, TextBuffer, Writing, put_json};
+use feed_text::{FeedForm, TextBuffer, Writing, WritingInRoom, put_json};
 use linked_list_allocator::LocalHeap;
 use rows_errors::RowsError;
 use rows_jsonb::{JsonDom, Value};
@@ -109,6 +109,27 @@ fn writings_in_a_buffer(alloc: Global) -> Result<bool, AllocError> {
     Ok(out.as_slice() == b"baaa".as_slice())
 }
 
+/// Writes nothing, and returns whether there is room for so many bytes.
+#[derive(Clone, Copy)]
+struct Room(usize);
+
+impl WritingInRoom for Room {
+    type Left = bool;
+
+    ghost Wrote = { λ w x left. x ≡ [] };
+
+    fn put(self, text: &mut [u8], at: usize) -> (usize, bool) {
+        (at, text.len() - at >= self.0)
+    }
+}
+
+fn room_in_a_buffer(alloc: Global) -> Result<bool, AllocError> {
+    let mut out = TextBuffer::new(alloc);
+    out.put(b'b')?;
+    let has_room = out.put_in_room(10_000, Room(10_000));
+    Ok(has_room && out.as_slice() == b"b".as_slice())
+}
+
 #[test]
 fn json_text(rt: HostRuntime) {
     let alloc = rt.alloc();
@@ -116,4 +137,5 @@ fn json_text(rt: HostRuntime) {
     assert!(rt; documents_in_a_buffer(alloc));
     assert!(rt; updates_in_a_buffer(alloc));
     assert!(rt; writings_in_a_buffer(alloc) == Ok(true));
+    assert!(rt; room_in_a_buffer(alloc) == Ok(true));
 }

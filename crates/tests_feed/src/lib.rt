@@ -15,6 +15,10 @@ mod failed_cells;
 #[cfg(test)]
 mod failing;
 #[cfg(test)]
+mod json_cells;
+#[cfg(test)]
+mod json_documents;
+#[cfg(test)]
 mod json_text;
 #[cfg(test)]
 mod keeping;
@@ -33,6 +37,8 @@ pub mod samples;
 mod semi;
 #[cfg(test)]
 mod serving;
+#[cfg(test)]
+mod tables_shown;
 #[cfg(test)]
 mod texts;
 #[cfg(test)]

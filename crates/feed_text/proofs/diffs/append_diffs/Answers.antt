@@ -1,12 +1,11 @@
-use Rattle.std.proofs.Common.{◌≡◌, [], ◌∷◌, ◌+◌, length, take, drop, map, Ok, ap, sym, ◌∙◌, arith, rules, refl}
+use Rattle.std.proofs.Common.{◌≡◌, [], ◌∷◌, ◌+◌, length, take, drop, map, ap, sym, ◌∙◌, arith, rules, refl}
 use Rattle.std.proofs.Math.Seq.{take-length}
 use Rattle.std.proofs.lemmas.List.{drop_more, drop_all}
 use Rattle.std.proofs.lemmas.Result.{IfOk-from_err}
 use Rattle.rows_jsonb.specs.JsonDiffViews.{diff_view}
-use Rattle.feed_text.specs.DocumentForms.{update_in, update_texts_in}
 use Rattle.feed_text.proofs.QuoteLemmas.{kept_more, kept_twice}
-use Rattle.feed_text.proofs.DocumentLemmas.{one_more}
-use Rattle.feed_text.proofs.DiffTextLemmas.{begun, text_appended, first_text, no_first_text, no_later_text, no_diffs_text, ended, no_texts, first_nameless, later_nameless}
+use Rattle.feed_text.proofs.DocumentLemmas.{begun, one_more}
+use Rattle.feed_text.proofs.DiffTextLemmas.{first_update, no_updates, no_first_text, no_later_text, no_diffs_text, ended, in_feed, first_nameless, later_nameless}
 use Rattle.feed_text.proofs.diffs.append_diffs.Goals as goal
 
 pub loop-diff-init : goal.loop-diff-init
@@ -26,7 +25,7 @@ returns-in-Err-clause-err g c =
     let i = c.loop-diff.diff-index in
     let x = c.diff-item.result in
     let here : drop i xs ≡ x ∷ drop (i + 1) xs = drop_more xs i x (omega arith) ∙ ap (λ y. y ∷ drop (i + 1) xs) (sym c.diff-item.is) in
-    no_diffs_text g.F.DocumentForm.form (map diff_view xs) c.in-Err.fault (c.loop-diff.invariant.failed c.in-Err.fault (rw here (no_first_text g.F.DocumentForm.form (diff_view x) (map diff_view (drop (i + 1) xs)) c.in-Err.fault c.in-Err.ensures.err)))
+    no_diffs_text (map diff_view xs) c.in-Err.fault (c.loop-diff.invariant.failed c.in-Err.fault (rw here (no_first_text (diff_view x) (map diff_view (drop (i + 1) xs)) c.in-Err.fault c.in-Err.ensures.err)))
 
 pub returns-in-Err-clause-nameless : goal.returns-in-Err-clause-nameless
 returns-in-Err-clause-nameless g c = λ same.
@@ -47,12 +46,13 @@ loop-diff-preserved g c =
     let rest = map diff_view (drop (i + 1) xs) in
     let here : drop i xs ≡ x ∷ drop (i + 1) xs = drop_more xs i x (omega arith) ∙ ap (λ y. y ∷ drop (i + 1) xs) (sym c.diff-item.is) in
     let there : map diff_view (drop i xs) ≡ diff_view x ∷ rest = ap (map diff_view) here in
-    let text = text_appended (update_in g.F.DocumentForm.form (diff_view x)) _ _ c.in-Ok.ensures.ok in record {
+    let one = c.in-Ok.ensures.ok in
+    let text = in_feed g.F.DocumentForm.form (diff_view x) one.text one.such in record {
       written = λ ts h.
-          let all = c.loop-diff.invariant.written (text.0 ∷ ts) (ap (update_texts_in g.F.DocumentForm.form) there ∙ first_text g.F.DocumentForm.form (diff_view x) rest text.0 ts text.1 h) in
-          (all.0, all.1, one_more _ _ _ _ c.as_slice-separator-in-loop-diff.result.now _ _ _ _ c.in_ok-extend_from_slice-2.ensures.items text.2 (search rules) refl all.2);
-      failed = λ e p. c.loop-diff.invariant.failed e (rw there (no_later_text g.F.DocumentForm.form (diff_view x) rest text.0 e text.1 p));
-      nameless = λ p. c.loop-diff.invariant.nameless (rw there (later_nameless g.F.DocumentForm.form (diff_view x) rest text.0 text.1 p));
+          let all = c.loop-diff.invariant.written (one.text ∷ ts) (rw there (first_update g.F.DocumentForm.form (diff_view x) rest one.text ts one.such h)) in
+          (all.0, all.1, one_more _ _ _ _ c.as_slice-separator-in-loop-diff.result.now _ _ _ _ c.in_ok-extend_from_slice-2.ensures.items one.appended (search rules) refl all.2);
+      failed = λ e p. c.loop-diff.invariant.failed e (rw there (no_later_text (diff_view x) rest text.0 e text.1 p));
+      nameless = λ p. c.loop-diff.invariant.nameless (rw there (later_nameless (diff_view x) rest text.0 text.1 p));
       kept = kept_twice c.args.out.now.items _ _ (kept_more _ _ _ _ c.loop-diff.invariant.kept c.in_ok-extend_from_slice-2.ensures.items) c.append_diff.ensures.kept;
     }
 
@@ -64,7 +64,7 @@ returns-clause-ok g c =
     let xs = c.args.diffs.now in
     let i = c.loop-diff.diff-index in
     let none : drop i xs ≡ [] = drop_all i xs (omega arith) in
-    let nothing : update_texts_in g.F.DocumentForm.form (map diff_view (drop i xs)) ≡ Ok [] = no_texts g.F.DocumentForm.form _ none in
+    let nothing = no_updates g.F.DocumentForm.form (drop i xs) none in
     let all = c.loop-diff.invariant.written [] nothing in
     ended g.F.DocumentForm.form (map diff_view xs) all.0 c.args.out.now.items _ c.loop-diff.separator.now _ _ all.1 all.2 (search rules) c.in_ok-extend_from_slice-3.ensures.items
 

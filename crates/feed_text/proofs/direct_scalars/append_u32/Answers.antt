@@ -1,13 +1,12 @@
-use Rattle.std.proofs.Common.{◌++◌, ◌∷◌, ℕ, refl, ap, ◌∙◌}
+use Rattle.std.proofs.Common.{◌++◌, ℕ, refl, ap, ◌∙◌}
 use Rattle.std.proofs.lemmas.Result.{on_ok_weaker}
-use Rattle.std.specs.Fmt.{decimal}
 use Rattle.rows_jsonb.specs.JsonTrees.{uint}
 use Rattle.rows_jsonb.specs.JsonbValues.{u32}
 use Rattle.feed_text.specs.Buffers.{text_in}
-use Rattle.feed_text.specs.DocumentForms.{scalar_in}
+use Rattle.feed_text.specs.DocumentForms.{IsScalarIn}
 use Rattle.feed_text.proofs.DirectLemmas.{typed_scalar, u32_typed}
 use Rattle.feed_text.proofs.direct_scalars.append_u32.Goals as goal
 
 pub returns-clause-ok : goal.returns-clause-ok
-unfolding scalar_in
+unfolding IsScalarIn
 returns-clause-ok g c = on_ok_weaker c.append_uint.result (λ e. typed_scalar _ _ c.args.bytes.now _ _ _ (u32 c.in-Some.number) (uint c.in-Some.number) (u32_typed _ _ _ c.in-Some.ensures.some) refl refl (e ∙ ap (λ (n : ℕ). text_in c.args.out.now ++ g.F.DocumentForm.form.uint n) c.from.ensures)) c.append_uint.ensures.ok

@@ -25,7 +25,7 @@ put_field-requires c =
     omega (arith, room, some, c.put_label-start.ensures.most)
 
 pub loop-field-smaller : goal.loop-field-smaller
-loop-field-smaller c = let one = c.skip_field.ensures.1 in omega (arith, one)
+loop-field-smaller c = let one = c.skip_field.ensures.cell.1 in omega (arith, one)
 
 pub loop-field-preserved : goal.loop-field-preserved
 loop-field-preserved c =
@@ -33,9 +33,9 @@ loop-field-preserved c =
     let most = w.most in
     let room = c.loop-field.invariant.room in
     let some = c.in-Some.ensures.some.some in
-    let one = c.skip_field.ensures.1 in
+    let one = c.skip_field.ensures.cell.1 in
     record {
-      writes = field_written c.args.cells c.loop-field.left c.skip_field.new.self c.in-Some.field c.args.at c.loop-field.end c.put_label-start.result c.in-Some-put_field.after c.args.text.now c.loop-field.text c.put_label-start.new.text c.put_field.new.text c.in-Some-put_field.rest.now c.loop-field.invariant.writes c.in-Some.ensures.some c.put_label-start.ensures.text w c.skip_field.ensures (omega (arith, room, some, most, c.put_label-start.ensures.most));
+      writes = field_written c.args.cells c.loop-field.left c.skip_field.new.self c.in-Some.field c.args.at c.loop-field.end c.put_label-start.result c.in-Some-put_field.after c.args.text.now c.loop-field.text c.put_label-start.new.text c.put_field.new.text c.in-Some-put_field.rest.now c.loop-field.invariant.writes c.in-Some.ensures.some c.put_label-start.ensures.text w c.skip_field.ensures.cell (omega (arith, room, some, most, c.put_label-start.ensures.most));
       room = omega (arith, room, one, most, c.put_label-start.ensures.most);
     }
 

@@ -1,4 +1,3 @@
-use Rattle.std.proofs.Common.{rules}
 use Rattle.std.proofs.lemmas.Result.{IfOk-from_err}
 use Rattle.feed_text.proofs.short_strings.append_string.Goals as goal
 

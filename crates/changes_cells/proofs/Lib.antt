@@ -1,0 +1,5 @@
+pub mod MemberLemmas
+pub mod FixedLemmas
+pub mod LongTextLemmas
+pub mod TextJsonLemmas
+pub mod FieldLemmas

@@ -1,0 +1,4 @@
+pub mod DecodedTexts
+pub mod ShownTimes
+pub mod CellJson
+pub mod FieldJson

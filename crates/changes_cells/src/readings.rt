@@ -1,0 +1,95 @@
+//! Reading the cell that bytes begin with, by its format.
+//!
+//! Each function returns what the cell has and the bytes after it, or `EndOfBody` if there are fewer bytes.
+
+ghost use Rattle.std.specs.Prelude.{◌≡◌, ◌+◌};
+ghost use Rattle.std.specs.Fmt.{decimal};
+ghost use Rattle.rows_errors.specs.Readings.{map_reading};
+ghost use Rattle.rows_cells.specs.declared.format.CellFormat.TheVariants.{Float, Double, Year, NewDate, OldTime, OldDatetime, Timestamp2, Plain};
+ghost use Rattle.rows_cells.specs.CellValues.{bytes as bytes_value, float, double, new_date, old_time, old_datetime, timestamp_text};
+ghost use Rattle.rows_cells.specs.Cells.{cell_at};
+
+use byteorder::{ByteOrder, LittleEndian};
+use rows_cells::split_prefix;
+use rows_errors::RowsError;
+use rows_values::{fraction_size, timestamp_of};
+
+/// Reads the bits of a FLOAT.
+#[inline(always)]
+#[tactic(auto, unfolding(rows_cells::specs::Cells::cell_at))]
+pub(crate) fn read_float(bytes: &[u8]) -> Result<(u32, &[u8]), RowsError>
+    ensures { map_reading (λ x. (float x.0, x.1.now)) result ≡ cell_at Float bytes.now }
+{
+    let (content, rest) = split_prefix(bytes, 4)?;
+    Ok((LittleEndian::read_u32(content), rest))
+}
+
+/// Reads the bits of a DOUBLE.
+#[inline(always)]
+#[tactic(auto, unfolding(rows_cells::specs::Cells::cell_at))]
+pub(crate) fn read_double(bytes: &[u8]) -> Result<(u64, &[u8]), RowsError>
+    ensures { map_reading (λ x. (double x.0, x.1.now)) result ≡ cell_at Double bytes.now }
+{
+    let (content, rest) = split_prefix(bytes, 8)?;
+    Ok((LittleEndian::read_u64(content), rest))
+}
+
+/// Reads the byte of a YEAR, which counts from 1900.
+#[inline(always)]
+#[tactic(auto, unfolding(rows_cells::specs::Cells::cell_at))]
+pub(crate) fn read_year(bytes: &[u8]) -> Result<(u8, &[u8]), RowsError>
+    ensures { map_reading (λ x. (bytes_value (decimal (1900 + x.0)), x.1.now)) result ≡ cell_at Year bytes.now }
+{
+    let (content, rest) = split_prefix(bytes, 1)?;
+    Ok((content[0], rest))
+}
+
+/// Reads the bits of a DATE of three bytes.
+#[inline(always)]
+#[tactic(auto, unfolding(rows_cells::specs::Cells::cell_at))]
+pub(crate) fn read_date(bytes: &[u8]) -> Result<(u32, &[u8]), RowsError>
+    ensures { map_reading (λ x. (new_date x.0, x.1.now)) result ≡ cell_at NewDate bytes.now }
+{
+    let (content, rest) = split_prefix(bytes, 3)?;
+    Ok((LittleEndian::read_u24(content), rest))
+}
+
+/// Reads the digits `hhmmss` of a TIME of three bytes.
+#[inline(always)]
+#[tactic(auto, unfolding(rows_cells::specs::Cells::cell_at))]
+pub(crate) fn read_old_time(bytes: &[u8]) -> Result<(i32, &[u8]), RowsError>
+    ensures { map_reading (λ x. (old_time x.0, x.1.now)) result ≡ cell_at OldTime bytes.now }
+{
+    let (content, rest) = split_prefix(bytes, 3)?;
+    Ok((LittleEndian::read_i24(content), rest))
+}
+
+/// Reads the digits `YYYYMMDDhhmmss` of a DATETIME of eight bytes.
+#[inline(always)]
+#[tactic(auto, unfolding(rows_cells::specs::Cells::cell_at))]
+pub(crate) fn read_old_datetime(bytes: &[u8]) -> Result<(u64, &[u8]), RowsError>
+    ensures { map_reading (λ x. (old_datetime x.0, x.1.now)) result ≡ cell_at OldDatetime bytes.now }
+{
+    let (content, rest) = split_prefix(bytes, 8)?;
+    Ok((LittleEndian::read_u64(content), rest))
+}
+
+/// Reads the seconds and the microseconds of a TIMESTAMP with this many fractional digits.
+#[inline(always)]
+#[tactic(auto, unfolding(rows_cells::specs::Cells::cell_at))]
+pub(crate) fn read_timestamp(bytes: &[u8], decimals: u8) -> Result<((i32, i32), &[u8]), RowsError>
+    ensures { map_reading (λ x. (bytes_value (timestamp_text x.0), x.1.now)) result ≡ cell_at (Timestamp2 decimals) bytes.now }
+{
+    let decimals = u32::from(decimals);
+    let (content, rest) = split_prefix(bytes, 4 + fraction_size(decimals))?;
+    Ok((timestamp_of(content, decimals), rest))
+}
+
+/// Reads this many bytes.
+#[inline(always)]
+#[tactic(auto, unfolding(rows_cells::specs::Cells::cell_at))]
+pub(crate) fn read_sized(bytes: &[u8], len: u16) -> Result<(&[u8], &[u8]), RowsError>
+    ensures { map_reading (λ x. (bytes_value x.0.now, x.1.now)) result ≡ cell_at (Plain len) bytes.now }
+{
+    split_prefix(bytes, usize::from(len))
+}

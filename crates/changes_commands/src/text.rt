@@ -1,0 +1,158 @@
+//! Text that grows, for messages and JSON.
+
+use changes_lines::{put_gtid, put_utf8};
+use feed_checks::Gtid;
+use feed_text::TextBuffer;
+use std::alloc::{AllocError, Global};
+use std::fmt::Debug;
+use std::io::Write;
+use std::str;
+
+/// Text that remembers whether memory ran out: then bytes are missing, and `ended` is an error.
+#[derive(Drop)]
+pub struct Text {
+    alloc: Global,
+    bytes: TextBuffer<Global>,
+    is_short: bool,
+}
+
+impl Text {
+    /// No text.
+    pub fn new(alloc: Global) -> Text {
+        Text {
+            alloc,
+            bytes: TextBuffer::new(alloc),
+            is_short: false,
+        }
+    }
+
+    /// Where memory for what is written comes from.
+    pub fn alloc(&self) -> Global {
+        self.alloc
+    }
+
+    /// The bytes.
+    pub fn bytes(&self) -> &[u8] {
+        self.bytes.as_slice()
+    }
+
+    /// How many bytes there are.
+    pub fn len(&self) -> usize {
+        self.bytes.len()
+    }
+
+    /// Drops all bytes. Whether memory ran out stays.
+    pub fn clear(&mut self) {
+        self.bytes.clear();
+    }
+
+    /// Drops the bytes from this index on.
+    pub fn truncate(&mut self, len: usize) {
+        self.bytes.truncate(len);
+    }
+
+    /// Remembers that memory ran out, if it did.
+    fn note(&mut self, appended: Result<(), AllocError>) {
+        self.is_short |= appended.is_err();
+    }
+
+    /// Appends a byte.
+    pub fn push(&mut self, byte: u8) {
+        let appended = self.bytes.put(byte);
+        self.note(appended);
+    }
+
+    /// Appends bytes.
+    pub fn put(&mut self, bytes: &[u8]) {
+        let appended = self.bytes.put_text(bytes);
+        self.note(appended);
+    }
+
+    /// Appends a text, which may be short itself.
+    pub fn append(&mut self, other: &Text) {
+        self.put(other.bytes());
+        self.is_short |= other.is_short;
+    }
+
+    /// Appends words.
+    pub fn words(&mut self, words: &str) {
+        self.put(words.as_bytes());
+    }
+
+    /// Appends what a value is shown as to programmers.
+    pub fn debug<T: Debug>(&mut self, value: &T) {
+        let mut shown = Vec::new(self.alloc);
+        if write!(shown, "{value:?}").is_err() {
+            self.is_short = true;
+        }
+        self.put(&shown);
+    }
+
+    /// Appends an integer.
+    pub fn unsigned(&mut self, number: u64) {
+        let appended = self.bytes.put_number(number);
+        self.note(appended);
+    }
+
+    /// Appends a key of JSON that needs no escape, after a comma unless it is the first member: `,"key":`.
+    pub fn key(&mut self, key: &str) {
+        self.comma();
+        self.push(b'"');
+        self.put(key.as_bytes());
+        self.put(b"\":");
+    }
+
+    /// Appends a comma, unless an object or an array begins here.
+    pub fn comma(&mut self) {
+        if !matches!(self.bytes().last(), Some(b'{' | b'[')) {
+            self.push(b',');
+        }
+    }
+
+    /// Appends `null`.
+    pub fn null(&mut self) {
+        self.put(b"null");
+    }
+
+    /// Appends a Boolean.
+    pub fn boolean(&mut self, value: bool) {
+        self.put(if value { b"true" } else { b"false" });
+    }
+
+    /// Appends a string of JSON.
+    pub fn string(&mut self, text: &str) {
+        self.text(text.as_bytes());
+    }
+
+    /// Appends bytes as a string of JSON if they are UTF-8, and else as `{"base64":..}`.
+    pub fn text(&mut self, bytes: &[u8]) {
+        let appended = put_utf8(bytes, &mut self.bytes);
+        self.note(appended);
+    }
+
+    /// Appends a name as a string of JSON, with replacement characters where it isn't UTF-8.
+    pub fn name(&mut self, bytes: &[u8]) {
+        match str::from_utf8(bytes) {
+            Ok(text) => self.string(text),
+            Err(_) => match String::from_utf8_lossy(self.alloc, bytes) {
+                Ok(text) => self.string(&text),
+                Err(_) => self.is_short = true,
+            },
+        }
+    }
+
+    /// Appends a GTID as JSON: `"uuid:number"`, `"uuid:tag:number"`, or null.
+    pub fn gtid(&mut self, gtid: Option<Gtid<'_>>) {
+        let appended = put_gtid(gtid, &mut self.bytes);
+        self.note(appended);
+    }
+
+    /// Whether all of the text is there.
+    pub fn ended(&self) -> Result<(), AllocError> {
+        if self.is_short {
+            Err(AllocError)
+        } else {
+            Ok(())
+        }
+    }
+}

@@ -1,0 +1,150 @@
+-- Rows of one image whose cells are all short.
+use Rattle.std.proofs.Common.{◌≡◌, ◌≤◌, ◌<◌, ◌+◌, ◌*◌, ℕ, suc, List, [], ◌∷◌, ◌++◌, length, take, drop, Option, Some, None, Result, Ok, Err, refl, sym, ap, ◌∙◌, append_assoc, arith}
+use Rattle.std.specs.Borrow.{Bor}
+use Rattle.std.proofs.Math.Seq.{take-append-add}
+use Rattle.std.proofs.lemmas.List.{append-nil, length-append, length-take, length-take-le, take-append-le, take-take, take-append-drop}
+use Rattle.rows_cells.specs.Images.{ImageShape, image_at, field_at}
+use Rattle.rows_cells.specs.ImageViews.{remaining_cells, columns_left, cells_count, next_column, image_shape, IsNextField, HasNextFormat, SkipsField}
+use Rattle.rows_cells.specs.declared.image.ImageCells.{ImageCells}
+use Rattle.rows_cells.specs.declared.image.ImageField.{ImageField}
+use Rattle.feed_change_log.specs.CheckedRows.{HasImageTexts}
+use Rattle.feed_change_log.proofs.CheckedRowLemmas.{first_passes}
+use Rattle.feed_text.specs.DocumentForms.{AppendsOne}
+use Rattle.changes_tables.specs.ShownColumns.{ColumnView}
+use Rattle.changes_cells.specs.FieldJson.{WritesCell}
+use Rattle.changes_lines.specs.RowJson.{CellJson, column_at, member_json, members_json}
+use Rattle.changes_lines.specs.declared.members.Separator.TheVariants as brace
+use Rattle.changes_lines.specs.ReadCells.{GivesJson, separator_after, separator_byte}
+use Rattle.changes_lines.proofs.CellJsonLemmas.{members_both, members_one, separator_both}
+use Rattle.changes_lines.specs.ShortMembers.{WritesMembers}
+use Rattle.changes_lines.proofs.ReadCellLemmas.{gives_none, gives_both, gives_field, image_read}
+use Rattle.changes_lines.proofs.RowReadLemmas.{reads_text}
+
+-- the members of some cells were written, and there is room for the others
+pub record WritesSoFar (t : List ColumnView) (old left : ImageCells) (s : ℕ) (at : ℕ) (before after : List ℕ) (end : ℕ) : Type 0 where
+  pub json : List CellJson
+  pub gives : GivesJson t old left json
+  pub from : at ≤ end
+  pub room : end + 433 * cells_count left ≤ length after
+  pub most : end + 433 * cells_count left ≤ at + 433 * cells_count old
+  pub separator : s ≡ separator_byte (separator_after brace.Brace json)
+  pub written : take end after ≡ take at before ++ members_json t json
+
+pub none_so_far : (t : List ColumnView) (c : ImageCells) (at : ℕ) (before : List ℕ) → at + 433 * cells_count c ≤ length before → WritesSoFar t c c 123 at before before at
+none_so_far t c at before room = record { json = []; gives = gives_none t c; from = omega arith; room = room; most = omega arith; separator = refl; written = sym (append-nil (take at before)) }
+
+-- what is before the members is unchanged
+pub before_members : (t : List ColumnView) (old left : ImageCells) (s : ℕ) (at : ℕ) (before after : List ℕ) (end : ℕ) → at ≤ length before → WritesSoFar t old left s at before after end → take at after ≡ take at before
+before_members t old left s at before after end within w =
+    sym (take-take at end after w.from)
+    ∙ ap (take at) w.written
+    ∙ take-append-le at (take at before) (members_json t w.json) (let n = length-take-le at before within in omega (arith, n))
+    ∙ take-take at at before (omega arith)
+
+-- the same after a separator, a label, and what was tried after it
+pub before_label : (t : List ColumnView) (old left : ImageCells) (s : ℕ) (at : ℕ) (before one two three more : List ℕ) (end start : ℕ) → at ≤ length before → WritesSoFar t old left s at before one end → end ≤ start → take start two ≡ take end one ++ more → take start three ≡ take start two
+    → take at three ≡ take at before
+before_label t old left s at before one two three more end start within w le label kept =
+    let from = w.from in
+    let room = w.room in
+    sym (take-take at start three (omega (arith, from, le)))
+    ∙ ap (take at) (kept ∙ label)
+    ∙ take-append-le at (take end one) more (let n = length-take-le end one (omega (arith, room)) in omega (arith, n, from))
+    ∙ take-take at end one from
+    ∙ before_members t old left s at before one end within w
+
+-- an offset after a text isn't before that at its start
+further : (start end : ℕ) (two three text : List ℕ) → take end three ≡ take start two ++ text → start ≤ length two → start ≤ end
+further start end two three text is within =
+    let long = length-take-le start two within in
+    let sum = length-append (take start two) text in
+    let same = ap length is in
+    let most = length-take end three in
+    omega (arith, long, sum, same, most)
+
+-- one more member
+pub member_so_far : (t : List ColumnView) (first old new : ImageCells) (s : ℕ) (at : ℕ) (before one two three : List ℕ) (end start after : ℕ) (f : ImageField) (rest : List ℕ) → WritesSoFar t first old s at before one end → IsNextField old f → HasNextFormat old f → start ≤ end + 33
+    → take start two ≡ take end one ++ (s ∷ (column_at t f.column).key) → WritesCell (column_at t f.column) f.is_null f.format f.bytes.now start two three after rest → SkipsField old rest new → columns_left old ≡ next_column old ∷ columns_left new
+    → end ≤ start → length two ≡ length one → length three ≡ length one → WritesSoFar t first new 44 at before three after
+member_so_far t first old new s at before one two three end start after f rest w n format most label cell skips columns le alike same =
+    let x : CellJson = record { column = f.column; json = cell.text.text } in
+    let from = w.from in
+    let room = w.room in
+    let all = w.most in
+    let one_less = skips.1 in
+    let end_most = cell.text.most in
+    let on : start ≤ after = further start after two three cell.text.text cell.text.written (omega (arith, room, most, one_less, alike)) in
+    record {
+      json = w.json ++ x ∷ [];
+      gives = gives_both t first old new w.json (x ∷ []) w.gives (gives_field t old new f cell.value cell.text.text rest n format cell.read cell.text.such skips columns);
+      from = omega (arith, from, le, on);
+      room = omega (arith, room, one_less, most, end_most, same);
+      most = omega (arith, all, one_less, most, end_most);
+      separator = rw (separator_both brace.Brace w.json (x ∷ [])) refl;
+      written =
+          cell.text.written
+          ∙ ap (λ (l : List ℕ). l ++ cell.text.text) (label ∙ ap (λ (l : List ℕ). l ++ (s ∷ (column_at t f.column).key)) w.written)
+          ∙ append_assoc (take at before ++ members_json t w.json) (s ∷ (column_at t f.column).key) cell.text.text
+          ∙ append_assoc (take at before) (members_json t w.json) (s ∷ member_json t x)
+          ∙ ap (λ (k : ℕ). take at before ++ (members_json t w.json ++ (k ∷ member_json t x))) w.separator
+          ∙ ap (λ (l : List ℕ). take at before ++ (members_json t w.json ++ l)) (sym (members_one t (separator_after brace.Brace w.json) x))
+          ∙ ap (λ (l : List ℕ). take at before ++ l) (sym (members_both t brace.Brace w.json (x ∷ [])));
+    }
+
+-- all members
+pub all_so_far : (t : List ColumnView) (old left : ImageCells) (s : ℕ) (at : ℕ) (before after rest : List ℕ) (end : ℕ) → WritesSoFar t old left s at before after end → cells_count left ≡ 0 → rest ≡ left.rest.now → WritesMembers t old at before after end rest
+all_so_far t old left s at before after rest end w none is = record { json = w.json; left = left; gives = w.gives; none_left = none; rest_is = is; most = let most = w.most in omega (arith, most, none); written = w.written }
+
+-- a row of these members has a text in the feed
+pub members_pass : (t : List ColumnView) (s : ImageShape) (bytes rest : List ℕ) (cells : ImageCells) (at : ℕ) (before after : List ℕ) (end : ℕ) → remaining_cells cells ≡ image_at s bytes → columns_left cells ≡ s.columns → WritesMembers t cells at before after end rest
+    → HasImageTexts (s ∷ []) bytes rest
+members_pass t s bytes rest cells at before after end is columns w =
+    let none = w.none_left in
+    let read = image_read t s bytes cells w.left w.json is columns w.gives (omega (arith, none)) in
+    rw w.rest_is (first_passes s bytes w.left.rest.now (reads_text t s bytes w.left.rest.now (record { values = read.0; json = w.json; read = read.1; are = read.2 })))
+
+-- something was written after these bytes, or nothing
+pub appended_after : (Such : List ℕ → Type 0) (at end : ℕ) (old new : List ℕ) → at ≤ end → take at new ≡ take at old → Such (drop at (take end new)) → AppendsOne Such (take at old) (take end new)
+appended_after Such at end old new le same such = record {
+  text = drop at (take end new);
+  such = such;
+  appended = sym (take-append-drop at (take end new)) ∙ ap (λ (l : List ℕ). l ++ drop at (take end new)) (take-take at end new le ∙ same);
+}
+
+pub appended_none : (Such : List ℕ → Type 0) (at : ℕ) (old new : List ℕ) → take at new ≡ take at old → Such [] → AppendsOne Such (take at old) (take at new)
+appended_none Such at old new same such = record { text = []; such = such; appended = same ∙ sym (append-nil (take at old)) }
+
+-- what is before an object that was written but for its end is unchanged
+pub before_object : (t : List ColumnView) (cells : ImageCells) (at : ℕ) (before after rest : List ℕ) (end : ℕ) → at ≤ length before → WritesMembers t cells at before after end rest → (at ≤ end) × (take at after ≡ take at before)
+before_object t cells at before after rest end within w =
+    let on : at ≤ end = further at end before after (members_json t w.json) w.written within in (
+      on,
+      sym (take-take at end after on)
+          ∙ ap (take at) w.written
+          ∙ take-append-le at (take at before) (members_json t w.json) (let n = length-take-le at before within in omega (arith, n))
+          ∙ take-take at at before (omega arith),
+    )
+
+-- and so it is after the ends of the object and of its line
+pub before_end : (at end r1 r2 r3 : ℕ) (before one two three four : List ℕ) → at ≤ end → end ≤ length one → take at one ≡ take at before → r1 ≡ end + 1 → r2 ≡ r1 + 1 → r3 ≡ r2 + 1 → take r1 two ≡ take end one ++ 125 ∷ [] → take r2 three ≡ take r1 two ++ 125 ∷ [] → take r3 four ≡ take r2 three ++ 10 ∷ []
+    → (at ≤ r3) × (take at four ≡ take at before)
+before_end at end r1 r2 r3 before one two three four le within same e1 e2 e3 a b c =
+    let all : take r3 four ≡ take end one ++ (125 ∷ 125 ∷ 10 ∷ []) = c ∙ ap (λ (l : List ℕ). l ++ 10 ∷ []) (b ∙ ap (λ (l : List ℕ). l ++ 125 ∷ []) a) ∙ append_assoc (take end one ++ 125 ∷ []) (125 ∷ []) (10 ∷ []) ∙ append_assoc (take end one) (125 ∷ []) (125 ∷ 10 ∷ []) in
+    let on : at ≤ r3 = omega (arith, le, e1, e2, e3) in (
+      on,
+      sym (take-take at r3 four on)
+          ∙ ap (take at) all
+          ∙ take-append-le at (take end one) (125 ∷ 125 ∷ 10 ∷ []) (let n = length-take-le end one within in omega (arith, n, le))
+          ∙ take-take at end one le
+          ∙ same,
+    )
+
+-- a label's first bytes were written with the others
+pub label_written : (at n end : ℕ) (old new label key : List ℕ) → at ≤ length old → n ≤ 32 → end ≡ at + 32 → take end new ≡ take at old ++ label → take n label ≡ key → take (at + n) new ≡ take at old ++ key
+label_written at n end old new label key within few is written first =
+    let long = length-take-le at old within in
+    sym (take-take (at + n) end new (omega (arith, few, is)))
+    ∙ ap (take (at + n)) written
+    ∙ ap (λ (k : ℕ). take (k + n) (take at old ++ label)) (sym long)
+    ∙ take-append-add (take at old) label n
+    ∙ ap (λ (l : List ℕ). take at old ++ l) first

@@ -1,0 +1,11 @@
+use Rattle.std.proofs.Common.{◌≡◌, ◌≤◌, ◌+◌, length, take, arith, rules}
+use Rattle.changes_lines.proofs.ShortRowLemmas.{label_written}
+use Rattle.changes_lines.proofs.short_rows.put_label.Goals as goal
+
+pub returns-clause-text : goal.returns-clause-text
+returns-clause-text c =
+    let within : c.args.at ≤ length c.args.text.now = (let r = c.requires in omega (arith, r)) in
+    let few : length c.args.column.now.key.items ≤ 32 = search (arith, rules) in
+    let len : c.len-len.result ≡ length c.args.column.now.key.items = search rules in
+    let is : c.put_bytes-end.result ≡ c.args.at + 32 = search (arith, rules) in
+    rw len (label_written c.args.at (length c.args.column.now.key.items) c.put_bytes-end.result c.args.text.now c.put_bytes-end.new.text c.args.column.now.label c.args.column.now.key.items within few is c.put_bytes-end.ensures.text (c.args.column.now.label_is few))

@@ -1,0 +1,20 @@
+use Rattle.rows_cells.specs.ImageViews.{image_shape}
+use Rattle.changes_lines.specs.TableColumns.{columns_in}
+use Rattle.changes_lines.proofs.ReadCellLemmas.{none_read, member_read, image_is_read, image_stops}
+use Rattle.changes_lines.proofs.updates.Before.put_after.Goals as goal
+
+pub loop-field-init : goal.loop-field-init
+loop-field-init c = none_read (columns_in c.args.columns) c.in-Ok.cells
+
+pub loop-field-preserved : goal.loop-field-preserved
+loop-field-preserved c =
+    let k = c.in-Ok-put_next.ensures in
+    member_read (columns_in c.args.columns) c.in-Ok.cells c.loop-field.cells c.skip_field.new.self c.in-Some.field k.0 k.1 c.in-Ok-put_next.rest.now c.loop-field.invariant c.in-Some.ensures.some c.in-Some.ensures.format k.2 k.3 c.skip_field.ensures.cell c.skip_field.ensures.columns
+
+pub returns-in-Err-put_next-clause-err : goal.returns-in-Err-put_next-clause-err
+returns-in-Err-put_next-clause-err c =
+    image_stops (columns_in c.args.columns) (image_shape c.args.plan) c.args.bytes.now c.in-Ok.cells c.loop-field.cells c.in-Some.field c.loop-field.invariant.json c.in-Err-put_next.fault c.in-Ok.ensures.ok c.loop-field.invariant.gives c.in-Some.ensures.some c.in-Err-put_next.ensures
+
+pub returns-clause-ok : goal.returns-clause-ok
+returns-clause-ok c =
+    rw c.rest.ensures (image_is_read (columns_in c.args.columns) (image_shape c.args.plan) c.args.bytes.now c.in-Ok.cells c.loop-field.cells c.in-Ok.ensures.ok c.in-Ok.ensures.columns c.loop-field.invariant c.in_default.ensures.none)

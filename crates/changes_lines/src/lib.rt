@@ -1,0 +1,20 @@
+//! The JSON lines of committed transactions: a recorder that keeps the rows of the open transaction as JSON, and their lines.
+#![tactic(auto)]
+
+mod columns;
+mod images;
+mod lines;
+mod members;
+mod origin;
+mod recorder;
+mod rows;
+mod short_rows;
+mod tagged_gtid;
+mod text_list;
+mod updates;
+mod utf8;
+
+pub use lines::Lines;
+pub use origin::put_gtid;
+pub use recorder::JsonRecorder;
+pub use utf8::put_utf8;

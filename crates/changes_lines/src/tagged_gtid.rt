@@ -1,0 +1,89 @@
+//! The GTID in the body of a GTID_TAGGED_LOG_EVENT, which is in the format of MySQL's library `mysql::serialization`: three integers (the
+//! version of the format, the size of the message, the number of the last field that a reader must know), and then the fields, each after
+//! its number: the flags, the UUID, the number of the transaction, the tag, and others.
+
+use std::str;
+
+/// The version of the format.
+const VERSION: u64 = 1;
+
+/// A tagged GTID.
+#[derive(Clone, Copy)]
+pub(crate) struct TaggedGtid<'a> {
+    pub(crate) uuid: [u8; 16],
+    pub(crate) tag: &'a str,
+    /// The number of the transaction.
+    pub(crate) number: u64,
+}
+
+/// The number in little-endian order of up to eight bytes.
+fn little_endian(bytes: &[u8]) -> u64 {
+    let mut number = 0u64;
+    for byte in bytes.iter().rev() {
+        number = number % 0x100_0000_0000_0000 * 256 + u64::from(*byte);
+    }
+    number
+}
+
+/// The integer that the bytes begin with, and the remaining bytes. The ones at the end of its first byte count the bytes that follow; the
+/// bits after these and one zero are the integer. After eight ones there is no zero.
+fn split_integer(bytes: &[u8]) -> Option<(u64, &[u8])> {
+    let more = bytes.first()?.trailing_ones() as usize;
+    let (own, rest) = bytes.split_at_checked(more + 1)?;
+    if more == 8 {
+        return Some((little_endian(own.get(1..)?), rest));
+    }
+    Some((little_endian(own) >> (more + 1), rest))
+}
+
+/// The bytes after an integer, if it is this one.
+fn after_integer(bytes: &[u8], expected: u64) -> Option<&[u8]> {
+    let (number, rest) = split_integer(bytes)?;
+    (number == expected).then_some(rest)
+}
+
+/// The UUID that the bytes begin with, each byte of it an integer, and the remaining bytes.
+fn split_uuid(bytes: &[u8]) -> Option<([u8; 16], &[u8])> {
+    let mut uuid = [0u8; 16];
+    let mut rest = bytes;
+    for byte in uuid.iter_mut() {
+        let (number, after) = split_integer(rest)?;
+        *byte = u8::try_from(number).ok()?;
+        rest = after;
+    }
+    Some((uuid, rest))
+}
+
+/// Whether a tag may have this byte.
+fn is_of_tag(byte: u8) -> bool {
+    byte.is_ascii_alphanumeric() || byte == b'_'
+}
+
+/// The tag that the bytes begin with, after its length: letters, digits and underscores.
+fn split_tag(bytes: &[u8]) -> Option<&str> {
+    let (len, rest) = split_integer(bytes)?;
+    let tag = rest.get(..usize::try_from(len).ok()?)?;
+    if !tag.iter().all(|byte| is_of_tag(*byte)) {
+        return None;
+    }
+    str::from_utf8(tag).ok()
+}
+
+impl<'a> TaggedGtid<'a> {
+    /// The GTID in the body of an event; None if the body can't be read.
+    pub(crate) fn read(body: &'a [u8]) -> Option<TaggedGtid<'a>> {
+        let rest = after_integer(body, VERSION)?;
+        let (_size, rest) = split_integer(rest)?;
+        let (_last_known, rest) = split_integer(rest)?;
+        let (_flags, rest) = split_integer(after_integer(rest, 0)?)?;
+        let (uuid, rest) = split_uuid(after_integer(rest, 1)?)?;
+        let (number, rest) = split_integer(after_integer(rest, 2)?)?;
+        let tag = split_tag(after_integer(rest, 3)?)?;
+        // A signed integer has its sign in its lowest bit.
+        (number % 2 == 0).then_some(TaggedGtid {
+            uuid,
+            tag,
+            number: number / 2,
+        })
+    }
+}

@@ -1,0 +1,12 @@
+pub mod ShownColumns
+pub mod UsedMetadata
+pub mod NamesOfColumns
+pub mod PrimaryKeys
+pub mod ColumnParts
+pub mod FieldViews
+pub mod HowShown
+pub mod MemberTexts
+pub mod RemainingLists
+pub mod ColumnsShown
+pub mod ShownTables
+pub mod TablesSoFar
