@@ -174,4 +174,7 @@ def exact(program, folder):
     ):
         compare(program, folder, row_of(*numbers, metadata), piece)
     unnamed_character_sets(program, folder)
-    return 2 + len(CELLS) + 7 + 3
+    quoted = [(8, b""), (3, b"")], [struct.pack("<q", 2**53 + 1), struct.pack("<i", -1)]
+    compare(program, folder, row_of(*quoted), '"data":{"@0":"9007199254740993","@1":-1}', "--numbers-as-strings")
+    compare(program, folder, row_of(*quoted), '"data":{"@0":9007199254740993,"@1":-1}')
+    return 2 + len(CELLS) + 7 + 3 + 2

@@ -1,12 +1,12 @@
 -- The JSON of the cell that bytes begin with.
-use Rattle.std.proofs.Common.{◌≡◌, ℕ, List, [], ◌++◌, take, length, false, Ok, Err, inl, inr, refl, sym, ap, ◌∙◌}
+use Rattle.std.proofs.Common.{◌≡◌, ℕ, ℤ, Bool, subst, List, [], ◌++◌, take, length, false, Ok, Err, inl, inr, refl, sym, ap, ◌∙◌}
 use Rattle.std.proofs.Math.Seq.{take-length}
 use Rattle.rows_errors.specs.declared.fault.RowsError.{RowsError}
 use Rattle.rows_errors.specs.Readings.{Reading, ◌>>=◌}
 use Rattle.rows_jsonb.specs.DocumentTrees.{document_tree}
 use Rattle.rows_jsonb.specs.JsonTrees.{Tree}
 use Rattle.rows_cells.specs.declared.format.CellFormat.{CellFormat}
-use Rattle.rows_cells.specs.CellValues.{CellValue, json, json_diffs}
+use Rattle.rows_cells.specs.CellValues.{CellValue, null, bytes, int, uint, float, double, date, time, json, json_diffs}
 use Rattle.rows_cells.specs.Cells.{cell_at}
 use Rattle.feed_text.specs.CellText.{label, cell_text, cell_value_text, tree_text, cell_diffs_text, IsTextError}
 use Rattle.feed_text.specs.DirectText.{WritesDocument, IsDocumentError}
@@ -17,8 +17,8 @@ use Rattle.feed_text.proofs.QuoteLemmas.{kept_more}
 use Rattle.changes_documents.specs.JsonDocuments.{json_form}
 use Rattle.changes_tables.specs.ShownColumns.{ColumnView}
 use Rattle.changes_tables.specs.declared.columns.Shown.TheVariants.{Plain}
-use Rattle.changes_cells.specs.CellJson.{IsCellJson}
-use Rattle.changes_cells.specs.FieldJson.{WritesCell, AppendsCell, IsFieldError}
+use Rattle.changes_cells.specs.CellJson.{IsCellJson, IsIntegerJson}
+use Rattle.changes_cells.specs.FieldJson.{IsInteger, IsIntegerAt, WritesSuch, WritesCell, AppendsCell, IsFieldError}
 
 -- any column
 pub any_column : ColumnView
@@ -30,6 +30,27 @@ appended_from c f b short room old new rest end w is = record {
   value = w.value;
   read = w.read;
   text = record { text = w.text.text; such = w.text.such; appended = is ∙ ap (λ (t : List ℕ). old ++ t) w.text.written };
+}
+
+-- ---- integers
+integer_cell : (c : ColumnView) (f : CellFormat) (z : ℤ) (v : CellValue) (x : List ℕ) → IsInteger z v → IsIntegerJson c z x → IsCellJson c f v x
+unfolding IsCellJson IsIntegerJson
+integer_cell c f z (int y) x e h = subst (λ k. IsIntegerJson c k x) (sym e) h
+integer_cell c f z (uint n) x e h = subst (λ k. IsIntegerJson c k x) (sym e) h
+integer_cell c f z null x e h = absurd e
+integer_cell c f z (bytes b) x e h = absurd e
+integer_cell c f z (float n) x e h = absurd e
+integer_cell c f z (double n) x e h = absurd e
+integer_cell c f z (date year month day hour minute second micros) x e h = absurd e
+integer_cell c f z (time negative days hours minutes seconds micros) x e h = absurd e
+integer_cell c f z (json b) x e h = absurd e
+integer_cell c f z (json_diffs b) x e h = absurd e
+
+pub integer_written : (c : ColumnView) (is_null : Bool) (f : CellFormat) (b old new rest : List ℕ) (z : ℤ) (at end : ℕ) → is_null ≡ false → IsIntegerAt f b z rest → WritesSuch (IsIntegerJson c z) at old new end → WritesCell c is_null f b at old new end rest
+integer_written c is_null f b old new rest z at end full h w = record {
+  value = h.value;
+  read = rw full h.read;
+  text = record { text = w.text; such = integer_cell c f z h.value w.text h.is w.such; most = w.most; written = w.written };
 }
 
 -- ---- JSON documents

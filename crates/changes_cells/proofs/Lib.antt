@@ -1,3 +1,4 @@
+pub mod WordLemmas
 pub mod MemberLemmas
 pub mod FixedLemmas
 pub mod LongTextLemmas

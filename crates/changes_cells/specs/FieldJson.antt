@@ -1,5 +1,5 @@
 -- What the functions that write the JSON of a cell do: the cell is the one that the bytes begin with.
-use Rattle.std.specs.Prelude.{◌≡◌, ⊤, ◌≤◌, ◌+◌, ◌⊎◌, ℕ, Bool, false, List, ◌++◌, take, Option, Some, None}
+use Rattle.std.specs.Prelude.{◌≡◌, ⊤, ◌≤◌, ◌+◌, ◌⊎◌, ℕ, ℤ, pos, Bool, false, List, ◌++◌, take, Option, Some, None}
 use Rattle.std.specs.Borrow.{Bor}
 use Rattle.std.specs.declared.result.Result.{Result}
 use Rattle.std.specs.declared.result.Result.TheVariants.{Ok, Err}
@@ -9,7 +9,7 @@ use Rattle.feed_text.specs.CellText.{cell_text}
 use Rattle.rows_cells.specs.declared.format.CellFormat.{CellFormat}
 use Rattle.rows_cells.specs.declared.format.CellFormat.TheVariants as format
 use Rattle.rows_cells.specs.Cells.{cell_at}
-use Rattle.rows_cells.specs.CellValues.{CellValue}
+use Rattle.rows_cells.specs.CellValues.{CellValue, int, uint}
 use Rattle.rows_cells.specs.Images.{field_at}
 use Rattle.rows_errors.specs.declared.fault.RowsError.{RowsError}
 use Rattle.rows_errors.specs.declared.fault.RowsError.TheVariants.{Memory}
@@ -38,6 +38,18 @@ pub record WritesCell (c : ColumnView) (is_null : Bool) (f : CellFormat) (bytes 
 abbrev pub MayWriteCell : ColumnView → Bool → CellFormat → List ℕ → ℕ → List ℕ → List ℕ → Option (ℕ × Bor (List ℕ)) → Type 0
 MayWriteCell c is_null f bytes at old new (Some r) = WritesCell c is_null f bytes at old new r.0 r.1.now
 MayWriteCell c is_null f bytes at old new None = take at new ≡ take at old
+
+-- the value is this integer, signed or not
+abbrev pub IsInteger : ℤ → CellValue → Type 0
+IsInteger z (int y) = y ≡ z
+IsInteger z (uint n) = pos n ≡ z
+IsInteger z _ = ⊥
+
+-- the bytes begin with a cell of this integer, and `rest` are the bytes after it
+pub record IsIntegerAt (f : CellFormat) (bytes : List ℕ) (z : ℤ) (rest : List ℕ) : Type 0 where
+  pub value : CellValue
+  pub read : cell_at f bytes ≡ Ok (value, rest)
+  pub is : IsInteger z value
 
 -- the JSON of the cell was written, whatever the column; or the cell can't be read, for this error
 abbrev pub WritesOrFails : CellFormat → List ℕ → ℕ → List ℕ → List ℕ → Result (ℕ × Bor (List ℕ)) RowsError → Type 0

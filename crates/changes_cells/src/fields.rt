@@ -12,7 +12,7 @@ ghost use Rattle.changes_cells.specs.FieldJson.{IsFixed, MayWriteCell, MayWriteN
 use crate::bytes::{FEW_BYTES_MAX, put_few_bytes};
 use crate::fixed::put_fixed_field;
 use crate::numbers::{put_integer, put_shown_number};
-use crate::readings::read_sized;
+use crate::readings::{read_integer, read_sized};
 use changes_character_sets::CharacterSet;
 use changes_tables::{Shown, ShownColumn};
 use changes_writers::put_plain_string;
@@ -262,8 +262,13 @@ pub fn put_short_field<'a>(
     if field.is_null {
         return Some((put_bytes(text, at, b"null"), field.bytes));
     }
+    if let Some((number, rest)) = read_integer(field.bytes, field.format) {
+        return match put_integer(text, at, column, number) {
+            Some(end) => Some((end, rest)),
+            None => None,
+        };
+    }
     match field.format {
-        CellFormat::Signed(width) => put_signed_field(text, at, column, field.bytes, width),
         CellFormat::Counted(Width::One) => {
             match put_plain_field(text, at, column, field.bytes) {
                 Some(written) => Some(written),

@@ -10,6 +10,7 @@ ghost use Rattle.changes_cells.specs.FieldJson.{WritesSuch, MayWriteSuch};
 use crate::members::put_member;
 use crate::times::put_instant;
 use changes_tables::{Shown, ShownColumn};
+use changes_writers::put_signed_integer;
 use feed_writers::{put_byte, put_number, put_signed};
 
 /// Writes a number in quotes.
@@ -116,7 +117,7 @@ pub(crate) fn put_integer(
     ensures { MayWriteSuch (IsIntegerJson (column_view column.now) number) at text.old text.new result }
 {
     match column.shown {
-        Shown::Plain => Some(put_signed(text, at, number)),
+        Shown::Plain => Some(put_signed_integer(text, at, number)),
         _ => put_shown_integer(text, at, column, number),
     }
 }

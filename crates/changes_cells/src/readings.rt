@@ -2,15 +2,19 @@
 //!
 //! Each function returns what the cell has and the bytes after it, or `EndOfBody` if there are fewer bytes.
 
-ghost use Rattle.std.specs.Prelude.{◌≡◌, ◌+◌};
+ghost use Rattle.std.specs.Prelude.{◌≡◌, ◌≤◌, ◌+◌, ◌-◌, ◌*◌, ◌^◌, IfSome, length};
 ghost use Rattle.std.specs.Fmt.{decimal};
 ghost use Rattle.rows_errors.specs.Readings.{map_reading};
 ghost use Rattle.rows_cells.specs.declared.format.CellFormat.TheVariants.{Float, Double, Year, NewDate, OldTime, OldDatetime, Timestamp2, Plain};
 ghost use Rattle.rows_cells.specs.CellValues.{bytes as bytes_value, float, double, new_date, old_time, old_datetime, timestamp_text};
 ghost use Rattle.rows_cells.specs.Cells.{cell_at};
+ghost use Rattle.rows_cells.specs.CellSizes.{width_bytes};
+ghost use Rattle.byteorder.specs.Endian.{little_number};
+ghost use Rattle.wire_buf.specs.Numbers.{little_signed};
+ghost use Rattle.changes_cells.specs.FieldJson.{IsIntegerAt};
 
 use byteorder::{ByteOrder, LittleEndian};
-use rows_cells::split_prefix;
+use rows_cells::{CellFormat, Width, split_prefix};
 use rows_errors::RowsError;
 use rows_values::{fraction_size, timestamp_of};
 
@@ -92,4 +96,63 @@ pub(crate) fn read_sized(bytes: &[u8], len: u16) -> Result<(&[u8], &[u8]), RowsE
     ensures { map_reading (λ x. (bytes_value x.0.now, x.1.now)) result ≡ cell_at (Plain len) bytes.now }
 {
     split_prefix(bytes, usize::from(len))
+}
+
+/// The number of bits of eight bytes that a number of each width leaves unused.
+static UNUSED_BITS: [u8; 5] = [56, 48, 40, 32, 0];
+
+/// Returns the number that eight bytes begin with, in the highest bits, and the number of bits below it. It comes from a table, so
+/// that there is no branch on the width.
+#[inline(always)]
+fn highest_bits(bytes: &[u8], width: Width) -> (u64, u32)
+    requires { 8 ≤ length bytes.now }
+    ensures unused { result.1 ≡ 64 - 8 * width_bytes width }
+    ensures value { result.0 ≡ little_number (width_bytes width) bytes.now * 2 ^ result.1 }
+{
+    let unused = u32::from(UNUSED_BITS[width as usize]);
+    (LittleEndian::read_u64(bytes) << unused, unused)
+}
+
+/// Returns the signed number that eight bytes begin with.
+#[inline(always)]
+fn signed_of_eight(bytes: &[u8], width: Width) -> i64
+    requires { 8 ≤ length bytes.now }
+    ensures { result ≡ little_signed (width_bytes width) bytes.now }
+{
+    let (bits, unused) = highest_bits(bytes, width);
+    bits.cast_signed() >> unused
+}
+
+/// Returns the unsigned number that eight bytes begin with.
+#[inline(always)]
+fn unsigned_of_eight(bytes: &[u8], width: Width) -> u64
+    requires { 8 ≤ length bytes.now }
+    ensures { result ≡ little_number (width_bytes width) bytes.now }
+{
+    let (bits, unused) = highest_bits(bytes, width);
+    bits >> unused
+}
+
+/// Reads an integer of any width. `None`: fewer than eight bytes are left, the cell is no integer, or it is 2^63 or more.
+#[inline(always)]
+pub(crate) fn read_integer(bytes: &[u8], format: CellFormat) -> Option<(i64, &[u8])>
+    ensures { IfSome result (λ x. IsIntegerAt format bytes.now x.0 x.1.now) }
+{
+    if bytes.len() < 8 {
+        return None;
+    }
+    match format {
+        CellFormat::Signed(width) => {
+            let (_, rest) = bytes.split_at(width.bytes());
+            Some((signed_of_eight(bytes, width), rest))
+        }
+        CellFormat::Unsigned(width) => {
+            let (_, rest) = bytes.split_at(width.bytes());
+            match i64::try_from(unsigned_of_eight(bytes, width)) {
+                Ok(number) => Some((number, rest)),
+                Err(_) => None,
+            }
+        }
+        _ => None,
+    }
 }

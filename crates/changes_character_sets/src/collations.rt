@@ -1,7 +1,7 @@
 //! The character sets of collations, by their numbers: those of MySQL 8.4 and of MariaDB 11, by their tables COLLATIONS.
 
 ghost use Rattle.std.specs.Prelude.{◌≡◌, option_map};
-ghost use Rattle.changes_character_sets.specs.Collations.{collation_set, has, name_in, set_named, set_view};
+ghost use Rattle.changes_character_sets.specs.Collations.{collation_set, has, name_in, named_set, set_name_of, set_named, set_view};
 
 use crate::character_set::CharacterSet;
 use crate::tables;
@@ -41,781 +41,165 @@ pub enum SetName {
     Tis620,
 }
 
-/// The collations with the numbers from `first` to `last`, which have this character set.
+/// The collations with the numbers from the first to the second, which have this character set.
 #[derive(Clone, Copy)]
-pub struct Collations {
-    first: u16,
-    last: u16,
-    set: SetName,
-}
+pub struct Collations(u16, u16, SetName);
 
 /// The collations whose character set is known, in the order of their numbers.
 static COLLATIONS: [Collations; 153] = [
-    Collations {
-        first: 2,
-        last: 2,
-        set: SetName::Latin2,
-    },
-    Collations {
-        first: 3,
-        last: 3,
-        set: SetName::Dec8,
-    },
-    Collations {
-        first: 4,
-        last: 4,
-        set: SetName::Cp850,
-    },
-    Collations {
-        first: 5,
-        last: 5,
-        set: SetName::Latin1,
-    },
-    Collations {
-        first: 6,
-        last: 6,
-        set: SetName::Hp8,
-    },
-    Collations {
-        first: 7,
-        last: 7,
-        set: SetName::Koi8r,
-    },
-    Collations {
-        first: 8,
-        last: 8,
-        set: SetName::Latin1,
-    },
-    Collations {
-        first: 9,
-        last: 9,
-        set: SetName::Latin2,
-    },
-    Collations {
-        first: 10,
-        last: 10,
-        set: SetName::Swe7,
-    },
-    Collations {
-        first: 11,
-        last: 11,
-        set: SetName::Ascii,
-    },
-    Collations {
-        first: 14,
-        last: 14,
-        set: SetName::Cp1251,
-    },
-    Collations {
-        first: 15,
-        last: 15,
-        set: SetName::Latin1,
-    },
-    Collations {
-        first: 16,
-        last: 16,
-        set: SetName::Hebrew,
-    },
-    Collations {
-        first: 18,
-        last: 18,
-        set: SetName::Tis620,
-    },
-    Collations {
-        first: 20,
-        last: 20,
-        set: SetName::Latin7,
-    },
-    Collations {
-        first: 21,
-        last: 21,
-        set: SetName::Latin2,
-    },
-    Collations {
-        first: 22,
-        last: 22,
-        set: SetName::Koi8u,
-    },
-    Collations {
-        first: 23,
-        last: 23,
-        set: SetName::Cp1251,
-    },
-    Collations {
-        first: 25,
-        last: 25,
-        set: SetName::Greek,
-    },
-    Collations {
-        first: 26,
-        last: 26,
-        set: SetName::Cp1250,
-    },
-    Collations {
-        first: 27,
-        last: 27,
-        set: SetName::Latin2,
-    },
-    Collations {
-        first: 29,
-        last: 29,
-        set: SetName::Cp1257,
-    },
-    Collations {
-        first: 30,
-        last: 30,
-        set: SetName::Latin5,
-    },
-    Collations {
-        first: 31,
-        last: 31,
-        set: SetName::Latin1,
-    },
-    Collations {
-        first: 32,
-        last: 32,
-        set: SetName::Armscii8,
-    },
-    Collations {
-        first: 33,
-        last: 33,
-        set: SetName::Utf8,
-    },
-    Collations {
-        first: 34,
-        last: 34,
-        set: SetName::Cp1250,
-    },
-    Collations {
-        first: 35,
-        last: 35,
-        set: SetName::Ucs2,
-    },
-    Collations {
-        first: 36,
-        last: 36,
-        set: SetName::Cp866,
-    },
-    Collations {
-        first: 37,
-        last: 37,
-        set: SetName::Keybcs2,
-    },
-    Collations {
-        first: 38,
-        last: 38,
-        set: SetName::Macce,
-    },
-    Collations {
-        first: 39,
-        last: 39,
-        set: SetName::Macroman,
-    },
-    Collations {
-        first: 40,
-        last: 40,
-        set: SetName::Cp852,
-    },
-    Collations {
-        first: 41,
-        last: 42,
-        set: SetName::Latin7,
-    },
-    Collations {
-        first: 43,
-        last: 43,
-        set: SetName::Macce,
-    },
-    Collations {
-        first: 44,
-        last: 44,
-        set: SetName::Cp1250,
-    },
-    Collations {
-        first: 45,
-        last: 46,
-        set: SetName::Utf8,
-    },
-    Collations {
-        first: 47,
-        last: 49,
-        set: SetName::Latin1,
-    },
-    Collations {
-        first: 50,
-        last: 52,
-        set: SetName::Cp1251,
-    },
-    Collations {
-        first: 53,
-        last: 53,
-        set: SetName::Macroman,
-    },
-    Collations {
-        first: 54,
-        last: 55,
-        set: SetName::Utf16,
-    },
-    Collations {
-        first: 56,
-        last: 56,
-        set: SetName::Utf16Le,
-    },
-    Collations {
-        first: 57,
-        last: 57,
-        set: SetName::Cp1256,
-    },
-    Collations {
-        first: 58,
-        last: 59,
-        set: SetName::Cp1257,
-    },
-    Collations {
-        first: 60,
-        last: 61,
-        set: SetName::Utf32,
-    },
-    Collations {
-        first: 62,
-        last: 62,
-        set: SetName::Utf16Le,
-    },
-    Collations {
-        first: 64,
-        last: 64,
-        set: SetName::Armscii8,
-    },
-    Collations {
-        first: 65,
-        last: 65,
-        set: SetName::Ascii,
-    },
-    Collations {
-        first: 66,
-        last: 66,
-        set: SetName::Cp1250,
-    },
-    Collations {
-        first: 67,
-        last: 67,
-        set: SetName::Cp1256,
-    },
-    Collations {
-        first: 68,
-        last: 68,
-        set: SetName::Cp866,
-    },
-    Collations {
-        first: 69,
-        last: 69,
-        set: SetName::Dec8,
-    },
-    Collations {
-        first: 70,
-        last: 70,
-        set: SetName::Greek,
-    },
-    Collations {
-        first: 71,
-        last: 71,
-        set: SetName::Hebrew,
-    },
-    Collations {
-        first: 72,
-        last: 72,
-        set: SetName::Hp8,
-    },
-    Collations {
-        first: 73,
-        last: 73,
-        set: SetName::Keybcs2,
-    },
-    Collations {
-        first: 74,
-        last: 74,
-        set: SetName::Koi8r,
-    },
-    Collations {
-        first: 75,
-        last: 75,
-        set: SetName::Koi8u,
-    },
-    Collations {
-        first: 76,
-        last: 76,
-        set: SetName::Utf8,
-    },
-    Collations {
-        first: 77,
-        last: 77,
-        set: SetName::Latin2,
-    },
-    Collations {
-        first: 78,
-        last: 78,
-        set: SetName::Latin5,
-    },
-    Collations {
-        first: 79,
-        last: 79,
-        set: SetName::Latin7,
-    },
-    Collations {
-        first: 80,
-        last: 80,
-        set: SetName::Cp850,
-    },
-    Collations {
-        first: 81,
-        last: 81,
-        set: SetName::Cp852,
-    },
-    Collations {
-        first: 82,
-        last: 82,
-        set: SetName::Swe7,
-    },
-    Collations {
-        first: 83,
-        last: 83,
-        set: SetName::Utf8,
-    },
-    Collations {
-        first: 89,
-        last: 89,
-        set: SetName::Tis620,
-    },
-    Collations {
-        first: 90,
-        last: 90,
-        set: SetName::Ucs2,
-    },
-    Collations {
-        first: 92,
-        last: 93,
-        set: SetName::Geostd8,
-    },
-    Collations {
-        first: 94,
-        last: 94,
-        set: SetName::Latin1,
-    },
-    Collations {
-        first: 99,
-        last: 99,
-        set: SetName::Cp1250,
-    },
-    Collations {
-        first: 101,
-        last: 124,
-        set: SetName::Utf16,
-    },
-    Collations {
-        first: 128,
-        last: 151,
-        set: SetName::Ucs2,
-    },
-    Collations {
-        first: 159,
-        last: 159,
-        set: SetName::Ucs2,
-    },
-    Collations {
-        first: 160,
-        last: 183,
-        set: SetName::Utf32,
-    },
-    Collations {
-        first: 192,
-        last: 215,
-        set: SetName::Utf8,
-    },
-    Collations {
-        first: 223,
-        last: 247,
-        set: SetName::Utf8,
-    },
-    Collations {
-        first: 255,
-        last: 323,
-        set: SetName::Utf8,
-    },
-    Collations {
-        first: 576,
-        last: 578,
-        set: SetName::Utf8,
-    },
-    Collations {
-        first: 608,
-        last: 610,
-        set: SetName::Utf8,
-    },
-    Collations {
-        first: 640,
-        last: 642,
-        set: SetName::Ucs2,
-    },
-    Collations {
-        first: 672,
-        last: 674,
-        set: SetName::Utf16,
-    },
-    Collations {
-        first: 736,
-        last: 738,
-        set: SetName::Utf32,
-    },
-    Collations {
-        first: 1027,
-        last: 1027,
-        set: SetName::Dec8,
-    },
-    Collations {
-        first: 1028,
-        last: 1028,
-        set: SetName::Cp850,
-    },
-    Collations {
-        first: 1030,
-        last: 1030,
-        set: SetName::Hp8,
-    },
-    Collations {
-        first: 1031,
-        last: 1031,
-        set: SetName::Koi8r,
-    },
-    Collations {
-        first: 1032,
-        last: 1032,
-        set: SetName::Latin1,
-    },
-    Collations {
-        first: 1033,
-        last: 1033,
-        set: SetName::Latin2,
-    },
-    Collations {
-        first: 1034,
-        last: 1034,
-        set: SetName::Swe7,
-    },
-    Collations {
-        first: 1035,
-        last: 1035,
-        set: SetName::Ascii,
-    },
-    Collations {
-        first: 1040,
-        last: 1040,
-        set: SetName::Hebrew,
-    },
-    Collations {
-        first: 1042,
-        last: 1042,
-        set: SetName::Tis620,
-    },
-    Collations {
-        first: 1046,
-        last: 1046,
-        set: SetName::Koi8u,
-    },
-    Collations {
-        first: 1049,
-        last: 1049,
-        set: SetName::Greek,
-    },
-    Collations {
-        first: 1050,
-        last: 1050,
-        set: SetName::Cp1250,
-    },
-    Collations {
-        first: 1054,
-        last: 1054,
-        set: SetName::Latin5,
-    },
-    Collations {
-        first: 1056,
-        last: 1056,
-        set: SetName::Armscii8,
-    },
-    Collations {
-        first: 1057,
-        last: 1057,
-        set: SetName::Utf8,
-    },
-    Collations {
-        first: 1059,
-        last: 1059,
-        set: SetName::Ucs2,
-    },
-    Collations {
-        first: 1060,
-        last: 1060,
-        set: SetName::Cp866,
-    },
-    Collations {
-        first: 1061,
-        last: 1061,
-        set: SetName::Keybcs2,
-    },
-    Collations {
-        first: 1062,
-        last: 1062,
-        set: SetName::Macce,
-    },
-    Collations {
-        first: 1063,
-        last: 1063,
-        set: SetName::Macroman,
-    },
-    Collations {
-        first: 1064,
-        last: 1064,
-        set: SetName::Cp852,
-    },
-    Collations {
-        first: 1065,
-        last: 1065,
-        set: SetName::Latin7,
-    },
-    Collations {
-        first: 1067,
-        last: 1067,
-        set: SetName::Macce,
-    },
-    Collations {
-        first: 1069,
-        last: 1070,
-        set: SetName::Utf8,
-    },
-    Collations {
-        first: 1071,
-        last: 1071,
-        set: SetName::Latin1,
-    },
-    Collations {
-        first: 1074,
-        last: 1075,
-        set: SetName::Cp1251,
-    },
-    Collations {
-        first: 1077,
-        last: 1077,
-        set: SetName::Macroman,
-    },
-    Collations {
-        first: 1078,
-        last: 1079,
-        set: SetName::Utf16,
-    },
-    Collations {
-        first: 1080,
-        last: 1080,
-        set: SetName::Utf16Le,
-    },
-    Collations {
-        first: 1081,
-        last: 1081,
-        set: SetName::Cp1256,
-    },
-    Collations {
-        first: 1082,
-        last: 1083,
-        set: SetName::Cp1257,
-    },
-    Collations {
-        first: 1084,
-        last: 1085,
-        set: SetName::Utf32,
-    },
-    Collations {
-        first: 1086,
-        last: 1086,
-        set: SetName::Utf16Le,
-    },
-    Collations {
-        first: 1088,
-        last: 1088,
-        set: SetName::Armscii8,
-    },
-    Collations {
-        first: 1089,
-        last: 1089,
-        set: SetName::Ascii,
-    },
-    Collations {
-        first: 1090,
-        last: 1090,
-        set: SetName::Cp1250,
-    },
-    Collations {
-        first: 1091,
-        last: 1091,
-        set: SetName::Cp1256,
-    },
-    Collations {
-        first: 1092,
-        last: 1092,
-        set: SetName::Cp866,
-    },
-    Collations {
-        first: 1093,
-        last: 1093,
-        set: SetName::Dec8,
-    },
-    Collations {
-        first: 1094,
-        last: 1094,
-        set: SetName::Greek,
-    },
-    Collations {
-        first: 1095,
-        last: 1095,
-        set: SetName::Hebrew,
-    },
-    Collations {
-        first: 1096,
-        last: 1096,
-        set: SetName::Hp8,
-    },
-    Collations {
-        first: 1097,
-        last: 1097,
-        set: SetName::Keybcs2,
-    },
-    Collations {
-        first: 1098,
-        last: 1098,
-        set: SetName::Koi8r,
-    },
-    Collations {
-        first: 1099,
-        last: 1099,
-        set: SetName::Koi8u,
-    },
-    Collations {
-        first: 1101,
-        last: 1101,
-        set: SetName::Latin2,
-    },
-    Collations {
-        first: 1102,
-        last: 1102,
-        set: SetName::Latin5,
-    },
-    Collations {
-        first: 1103,
-        last: 1103,
-        set: SetName::Latin7,
-    },
-    Collations {
-        first: 1104,
-        last: 1104,
-        set: SetName::Cp850,
-    },
-    Collations {
-        first: 1105,
-        last: 1105,
-        set: SetName::Cp852,
-    },
-    Collations {
-        first: 1106,
-        last: 1106,
-        set: SetName::Swe7,
-    },
-    Collations {
-        first: 1107,
-        last: 1107,
-        set: SetName::Utf8,
-    },
-    Collations {
-        first: 1113,
-        last: 1113,
-        set: SetName::Tis620,
-    },
-    Collations {
-        first: 1114,
-        last: 1114,
-        set: SetName::Ucs2,
-    },
-    Collations {
-        first: 1116,
-        last: 1117,
-        set: SetName::Geostd8,
-    },
-    Collations {
-        first: 1125,
-        last: 1125,
-        set: SetName::Utf16,
-    },
-    Collations {
-        first: 1147,
-        last: 1147,
-        set: SetName::Utf16,
-    },
-    Collations {
-        first: 1152,
-        last: 1152,
-        set: SetName::Ucs2,
-    },
-    Collations {
-        first: 1174,
-        last: 1174,
-        set: SetName::Ucs2,
-    },
-    Collations {
-        first: 1184,
-        last: 1184,
-        set: SetName::Utf32,
-    },
-    Collations {
-        first: 1206,
-        last: 1206,
-        set: SetName::Utf32,
-    },
-    Collations {
-        first: 1216,
-        last: 1216,
-        set: SetName::Utf8,
-    },
-    Collations {
-        first: 1238,
-        last: 1238,
-        set: SetName::Utf8,
-    },
-    Collations {
-        first: 1248,
-        last: 1248,
-        set: SetName::Utf8,
-    },
-    Collations {
-        first: 1270,
-        last: 1270,
-        set: SetName::Utf8,
-    },
-    Collations {
-        first: 2048,
-        last: 2559,
-        set: SetName::Utf8,
-    },
-    Collations {
-        first: 2560,
-        last: 2815,
-        set: SetName::Ucs2,
-    },
-    Collations {
-        first: 2816,
-        last: 3071,
-        set: SetName::Utf16,
-    },
-    Collations {
-        first: 3072,
-        last: 3327,
-        set: SetName::Utf32,
-    },
+    Collations(2, 2, SetName::Latin2),
+    Collations(3, 3, SetName::Dec8),
+    Collations(4, 4, SetName::Cp850),
+    Collations(5, 5, SetName::Latin1),
+    Collations(6, 6, SetName::Hp8),
+    Collations(7, 7, SetName::Koi8r),
+    Collations(8, 8, SetName::Latin1),
+    Collations(9, 9, SetName::Latin2),
+    Collations(10, 10, SetName::Swe7),
+    Collations(11, 11, SetName::Ascii),
+    Collations(14, 14, SetName::Cp1251),
+    Collations(15, 15, SetName::Latin1),
+    Collations(16, 16, SetName::Hebrew),
+    Collations(18, 18, SetName::Tis620),
+    Collations(20, 20, SetName::Latin7),
+    Collations(21, 21, SetName::Latin2),
+    Collations(22, 22, SetName::Koi8u),
+    Collations(23, 23, SetName::Cp1251),
+    Collations(25, 25, SetName::Greek),
+    Collations(26, 26, SetName::Cp1250),
+    Collations(27, 27, SetName::Latin2),
+    Collations(29, 29, SetName::Cp1257),
+    Collations(30, 30, SetName::Latin5),
+    Collations(31, 31, SetName::Latin1),
+    Collations(32, 32, SetName::Armscii8),
+    Collations(33, 33, SetName::Utf8),
+    Collations(34, 34, SetName::Cp1250),
+    Collations(35, 35, SetName::Ucs2),
+    Collations(36, 36, SetName::Cp866),
+    Collations(37, 37, SetName::Keybcs2),
+    Collations(38, 38, SetName::Macce),
+    Collations(39, 39, SetName::Macroman),
+    Collations(40, 40, SetName::Cp852),
+    Collations(41, 42, SetName::Latin7),
+    Collations(43, 43, SetName::Macce),
+    Collations(44, 44, SetName::Cp1250),
+    Collations(45, 46, SetName::Utf8),
+    Collations(47, 49, SetName::Latin1),
+    Collations(50, 52, SetName::Cp1251),
+    Collations(53, 53, SetName::Macroman),
+    Collations(54, 55, SetName::Utf16),
+    Collations(56, 56, SetName::Utf16Le),
+    Collations(57, 57, SetName::Cp1256),
+    Collations(58, 59, SetName::Cp1257),
+    Collations(60, 61, SetName::Utf32),
+    Collations(62, 62, SetName::Utf16Le),
+    Collations(64, 64, SetName::Armscii8),
+    Collations(65, 65, SetName::Ascii),
+    Collations(66, 66, SetName::Cp1250),
+    Collations(67, 67, SetName::Cp1256),
+    Collations(68, 68, SetName::Cp866),
+    Collations(69, 69, SetName::Dec8),
+    Collations(70, 70, SetName::Greek),
+    Collations(71, 71, SetName::Hebrew),
+    Collations(72, 72, SetName::Hp8),
+    Collations(73, 73, SetName::Keybcs2),
+    Collations(74, 74, SetName::Koi8r),
+    Collations(75, 75, SetName::Koi8u),
+    Collations(76, 76, SetName::Utf8),
+    Collations(77, 77, SetName::Latin2),
+    Collations(78, 78, SetName::Latin5),
+    Collations(79, 79, SetName::Latin7),
+    Collations(80, 80, SetName::Cp850),
+    Collations(81, 81, SetName::Cp852),
+    Collations(82, 82, SetName::Swe7),
+    Collations(83, 83, SetName::Utf8),
+    Collations(89, 89, SetName::Tis620),
+    Collations(90, 90, SetName::Ucs2),
+    Collations(92, 93, SetName::Geostd8),
+    Collations(94, 94, SetName::Latin1),
+    Collations(99, 99, SetName::Cp1250),
+    Collations(101, 124, SetName::Utf16),
+    Collations(128, 151, SetName::Ucs2),
+    Collations(159, 159, SetName::Ucs2),
+    Collations(160, 183, SetName::Utf32),
+    Collations(192, 215, SetName::Utf8),
+    Collations(223, 247, SetName::Utf8),
+    Collations(255, 323, SetName::Utf8),
+    Collations(576, 578, SetName::Utf8),
+    Collations(608, 610, SetName::Utf8),
+    Collations(640, 642, SetName::Ucs2),
+    Collations(672, 674, SetName::Utf16),
+    Collations(736, 738, SetName::Utf32),
+    Collations(1027, 1027, SetName::Dec8),
+    Collations(1028, 1028, SetName::Cp850),
+    Collations(1030, 1030, SetName::Hp8),
+    Collations(1031, 1031, SetName::Koi8r),
+    Collations(1032, 1032, SetName::Latin1),
+    Collations(1033, 1033, SetName::Latin2),
+    Collations(1034, 1034, SetName::Swe7),
+    Collations(1035, 1035, SetName::Ascii),
+    Collations(1040, 1040, SetName::Hebrew),
+    Collations(1042, 1042, SetName::Tis620),
+    Collations(1046, 1046, SetName::Koi8u),
+    Collations(1049, 1049, SetName::Greek),
+    Collations(1050, 1050, SetName::Cp1250),
+    Collations(1054, 1054, SetName::Latin5),
+    Collations(1056, 1056, SetName::Armscii8),
+    Collations(1057, 1057, SetName::Utf8),
+    Collations(1059, 1059, SetName::Ucs2),
+    Collations(1060, 1060, SetName::Cp866),
+    Collations(1061, 1061, SetName::Keybcs2),
+    Collations(1062, 1062, SetName::Macce),
+    Collations(1063, 1063, SetName::Macroman),
+    Collations(1064, 1064, SetName::Cp852),
+    Collations(1065, 1065, SetName::Latin7),
+    Collations(1067, 1067, SetName::Macce),
+    Collations(1069, 1070, SetName::Utf8),
+    Collations(1071, 1071, SetName::Latin1),
+    Collations(1074, 1075, SetName::Cp1251),
+    Collations(1077, 1077, SetName::Macroman),
+    Collations(1078, 1079, SetName::Utf16),
+    Collations(1080, 1080, SetName::Utf16Le),
+    Collations(1081, 1081, SetName::Cp1256),
+    Collations(1082, 1083, SetName::Cp1257),
+    Collations(1084, 1085, SetName::Utf32),
+    Collations(1086, 1086, SetName::Utf16Le),
+    Collations(1088, 1088, SetName::Armscii8),
+    Collations(1089, 1089, SetName::Ascii),
+    Collations(1090, 1090, SetName::Cp1250),
+    Collations(1091, 1091, SetName::Cp1256),
+    Collations(1092, 1092, SetName::Cp866),
+    Collations(1093, 1093, SetName::Dec8),
+    Collations(1094, 1094, SetName::Greek),
+    Collations(1095, 1095, SetName::Hebrew),
+    Collations(1096, 1096, SetName::Hp8),
+    Collations(1097, 1097, SetName::Keybcs2),
+    Collations(1098, 1098, SetName::Koi8r),
+    Collations(1099, 1099, SetName::Koi8u),
+    Collations(1101, 1101, SetName::Latin2),
+    Collations(1102, 1102, SetName::Latin5),
+    Collations(1103, 1103, SetName::Latin7),
+    Collations(1104, 1104, SetName::Cp850),
+    Collations(1105, 1105, SetName::Cp852),
+    Collations(1106, 1106, SetName::Swe7),
+    Collations(1107, 1107, SetName::Utf8),
+    Collations(1113, 1113, SetName::Tis620),
+    Collations(1114, 1114, SetName::Ucs2),
+    Collations(1116, 1117, SetName::Geostd8),
+    Collations(1125, 1125, SetName::Utf16),
+    Collations(1147, 1147, SetName::Utf16),
+    Collations(1152, 1152, SetName::Ucs2),
+    Collations(1174, 1174, SetName::Ucs2),
+    Collations(1184, 1184, SetName::Utf32),
+    Collations(1206, 1206, SetName::Utf32),
+    Collations(1216, 1216, SetName::Utf8),
+    Collations(1238, 1238, SetName::Utf8),
+    Collations(1248, 1248, SetName::Utf8),
+    Collations(1270, 1270, SetName::Utf8),
+    Collations(2048, 2559, SetName::Utf8),
+    Collations(2560, 2815, SetName::Ucs2),
+    Collations(2816, 3071, SetName::Utf16),
+    Collations(3072, 3327, SetName::Utf32),
 ];
 
 impl Collations {
@@ -823,7 +207,7 @@ impl Collations {
     fn has(&self, collation: u16) -> bool
         ensures { result ≡ has self.now collation }
     {
-        self.first <= collation && collation <= self.last
+        self.0 <= collation && collation <= self.1
     }
 }
 
@@ -833,13 +217,52 @@ fn name_in(all: &[Collations], collation: u16) -> Option<SetName>
 {
     for collations in all {
         if collations.has(collation) {
-            return Some(collations.set);
+            return Some(collations.2);
         }
     }
     None
 }
 
 impl SetName {
+    /// Returns the character set with this name, as `SHOW CHARACTER SET` lists it.
+    fn named(name: &str) -> Option<SetName>
+        ensures { result ≡ set_name_of name.now }
+    {
+        match name {
+            "utf8" | "utf8mb3" | "utf8mb4" => Some(SetName::Utf8),
+            "ascii" => Some(SetName::Ascii),
+            "ucs2" => Some(SetName::Ucs2),
+            "utf16" => Some(SetName::Utf16),
+            "utf16le" => Some(SetName::Utf16Le),
+            "utf32" => Some(SetName::Utf32),
+            "armscii8" => Some(SetName::Armscii8),
+            "cp1250" => Some(SetName::Cp1250),
+            "cp1251" => Some(SetName::Cp1251),
+            "cp1256" => Some(SetName::Cp1256),
+            "cp1257" => Some(SetName::Cp1257),
+            "cp850" => Some(SetName::Cp850),
+            "cp852" => Some(SetName::Cp852),
+            "cp866" => Some(SetName::Cp866),
+            "dec8" => Some(SetName::Dec8),
+            "geostd8" => Some(SetName::Geostd8),
+            "greek" => Some(SetName::Greek),
+            "hebrew" => Some(SetName::Hebrew),
+            "hp8" => Some(SetName::Hp8),
+            "keybcs2" => Some(SetName::Keybcs2),
+            "koi8r" => Some(SetName::Koi8r),
+            "koi8u" => Some(SetName::Koi8u),
+            "latin1" => Some(SetName::Latin1),
+            "latin2" => Some(SetName::Latin2),
+            "latin5" => Some(SetName::Latin5),
+            "latin7" => Some(SetName::Latin7),
+            "macce" => Some(SetName::Macce),
+            "macroman" => Some(SetName::Macroman),
+            "swe7" => Some(SetName::Swe7),
+            "tis620" => Some(SetName::Tis620),
+            _ => None,
+        }
+    }
+
     /// Returns the character set with this name.
     fn character_set(self) -> CharacterSet
         ensures { set_view result ≡ set_named self }
@@ -893,40 +316,12 @@ impl CharacterSet {
     }
 
     /// The character set with this name, as `SHOW CHARACTER SET` lists it; None if it isn't known here.
-    pub fn named(name: &str) -> Option<CharacterSet> {
-        let characters = match name {
-            "utf8" | "utf8mb3" | "utf8mb4" => return Some(CharacterSet::Utf8),
-            "ascii" => return Some(CharacterSet::Ascii),
-            "ucs2" => return Some(CharacterSet::Ucs2),
-            "utf16" => return Some(CharacterSet::Utf16),
-            "utf16le" => return Some(CharacterSet::Utf16Le),
-            "utf32" => return Some(CharacterSet::Utf32),
-            "armscii8" => &tables::ARMSCII8,
-            "cp1250" => &tables::CP1250,
-            "cp1251" => &tables::CP1251,
-            "cp1256" => &tables::CP1256,
-            "cp1257" => &tables::CP1257,
-            "cp850" => &tables::CP850,
-            "cp852" => &tables::CP852,
-            "cp866" => &tables::CP866,
-            "dec8" => &tables::DEC8,
-            "geostd8" => &tables::GEOSTD8,
-            "greek" => &tables::GREEK,
-            "hebrew" => &tables::HEBREW,
-            "hp8" => &tables::HP8,
-            "keybcs2" => &tables::KEYBCS2,
-            "koi8r" => &tables::KOI8R,
-            "koi8u" => &tables::KOI8U,
-            "latin1" => &tables::LATIN1,
-            "latin2" => &tables::LATIN2,
-            "latin5" => &tables::LATIN5,
-            "latin7" => &tables::LATIN7,
-            "macce" => &tables::MACCE,
-            "macroman" => &tables::MACROMAN,
-            "swe7" => &tables::SWE7,
-            "tis620" => &tables::TIS620,
-            _ => return None,
-        };
-        Some(CharacterSet::SingleByte(characters))
+    pub fn named(name: &str) -> Option<CharacterSet>
+        ensures { option_map set_view result ≡ named_set name.now }
+    {
+        match SetName::named(name) {
+            Some(name) => Some(name.character_set()),
+            None => None,
+        }
     }
 }

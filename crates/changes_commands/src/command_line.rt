@@ -37,6 +37,8 @@ pub struct Options<'w> {
     pub is_json: bool,
     /// The character set of columns whose character set isn't in the log.
     pub character_set: Option<CharacterSet>,
+    /// Whether the numbers of BIGINT columns are printed as strings.
+    pub quotes_numbers: bool,
     pub range: Range,
     pub databases: Vec<&'w [u8]>,
     /// Tables as `database.table`.
@@ -85,6 +87,13 @@ const CHARACTER_SET: Known = Known {
     name: "character-set",
     value: "NAME",
     help: "the character set of text whose character set isn't in the log, such as utf8mb4",
+};
+
+const NUMBERS_AS_STRINGS: Known = Known {
+    takes: Takes::Nothing,
+    name: "numbers-as-strings",
+    value: "",
+    help: "print the numbers of BIGINT columns as strings, for readers whose numbers are doubles",
 };
 
 const START: Known = Known {
@@ -172,6 +181,7 @@ const JSON: KnownCommand = KnownCommand {
     options: &[
         TRANSACTIONS,
         CHARACTER_SET,
+        NUMBERS_AS_STRINGS,
         START,
         STOP,
         FROM_TIME,
@@ -418,6 +428,7 @@ impl<'w> Options<'w> {
             by_transaction: matches!(task, Task::Json) && matches.get_flag("transactions"),
             is_json: matches!(task, Task::Check) && matches.get_flag("json"),
             character_set: None,
+            quotes_numbers: matches!(task, Task::Json) && matches.get_flag(NUMBERS_AS_STRINGS.name),
             range,
             databases: Vec::new(alloc),
             tables: Vec::new(alloc),

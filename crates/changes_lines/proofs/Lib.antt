@@ -1,4 +1,13 @@
 pub mod CellJsonLemmas
+pub mod AppendLemmas
+pub mod TextListLemmas
+pub mod ReadRowLemmas
+pub mod UpdateLemmas
+pub mod WriteLemmas
+pub mod SameNameLemmas
+pub mod TableLemmas
+pub mod BeginLemmas
+pub mod RecorderLemmas
 pub mod ReadCellLemmas
 pub mod RowReadLemmas
 pub mod ShortRowLemmas

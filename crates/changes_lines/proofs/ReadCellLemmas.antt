@@ -203,16 +203,8 @@ pub record IsWriting (t : List ColumnView) (old left : ImageCells) (s : Separato
   pub separator : s ≡ separator_after brace.Brace json
   pub appended : after ≡ before ++ members_json t json
 
--- the cells were read
-pub record IsReading (t : List ColumnView) (old left : ImageCells) : Type 0 where
-  pub json : List CellJson
-  pub gives : GivesJson t old left json
-
 pub none_written : (t : List ColumnView) (c : ImageCells) (before : List ℕ) → IsWriting t c c brace.Brace before before
 none_written t c before = record { json = []; gives = gives_none t c; separator = refl; appended = sym (append-nil before) }
-
-pub none_read : (t : List ColumnView) (c : ImageCells) → IsReading t c c
-none_read t c = record { json = []; gives = gives_none t c }
 
 -- one more member
 pub member_written : (t : List ColumnView) (first old new : ImageCells) (s : Separator) (f : ImageField) (rest before one two : List ℕ) → IsWriting t first old s before one → IsNextField old f → HasNextFormat old f → AppendsMember t s f rest one two
@@ -234,14 +226,6 @@ member_written t first old new s f rest before one two w n format a skips column
           ∙ ap (λ (l : List ℕ). before ++ l) (sym (members_both t brace.Brace w.json (x ∷ [])));
     }
 
--- one more cell
-pub member_read : (t : List ColumnView) (first old new : ImageCells) (f : ImageField) (v : CellValue) (x rest : List ℕ) → IsReading t first old → IsNextField old f → HasNextFormat old f → field_at f.is_null f.format f.bytes.now ≡ Ok (v, rest) → IsCellJson (column_at t f.column) f.format v x
-    → SkipsField old rest new → columns_left old ≡ next_column old ∷ columns_left new → IsReading t first new
-member_read t first old new f v x rest w n format read is skips columns = record {
-  json = w.json ++ record { column = f.column; json = x } ∷ [];
-  gives = gives_both t first old new w.json (record { column = f.column; json = x } ∷ []) w.gives (gives_field t old new f v x rest n format read is skips columns);
-}
-
 -- all members, and the end of the object
 pub image_written : (t : List ColumnView) (s : ImageShape) (bytes : List ℕ) (first left : ImageCells) (sep : Separator) (before one two : List ℕ) → remaining_cells first ≡ image_at s bytes → columns_left first ≡ s.columns → IsWriting t first left sep before one
     → length left.columns.now ≤ left.index → two ≡ one ++ separator_end sep → AppendsImage t s bytes left.rest.now before two
@@ -259,8 +243,3 @@ image_written t s bytes first left sep before one two is columns w none end =
           ∙ ap (λ (k : Separator). before ++ (members_json t w.json ++ separator_end k)) w.separator
           ∙ ap (λ (l : List ℕ). before ++ l) (sym (object_ends t w.json));
     }
-
-pub image_is_read : (t : List ColumnView) (s : ImageShape) (bytes : List ℕ) (first left : ImageCells) → remaining_cells first ≡ image_at s bytes → columns_left first ≡ s.columns → IsReading t first left → length left.columns.now ≤ left.index → ReadsImage t s bytes left.rest.now
-image_is_read t s bytes first left is columns w none =
-    let read = image_read t s bytes first left w.json is columns w.gives none in
-    record { values = read.0; json = w.json; read = read.1; are = read.2 }

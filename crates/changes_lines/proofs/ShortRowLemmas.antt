@@ -2,23 +2,24 @@
 use Rattle.std.proofs.Common.{◌≡◌, ◌≤◌, ◌<◌, ◌+◌, ◌*◌, ℕ, suc, List, [], ◌∷◌, ◌++◌, length, take, drop, Option, Some, None, Result, Ok, Err, refl, sym, ap, ◌∙◌, append_assoc, arith}
 use Rattle.std.specs.Borrow.{Bor}
 use Rattle.std.proofs.Math.Seq.{take-append-add}
-use Rattle.std.proofs.lemmas.List.{append-nil, length-append, length-take, length-take-le, take-append-le, take-take, take-append-drop}
-use Rattle.rows_cells.specs.Images.{ImageShape, image_at, field_at}
+use Rattle.std.proofs.lemmas.List.{append-nil, length-append, length-drop, length-take, length-take-le, take-append-le, take-take, take-append-drop}
+use Rattle.rows_cells.specs.Images.{ColumnValue, ImageShape, image_at, field_at}
+use Rattle.rows_cells.specs.declared.image.ImageColumn.{ImageColumn}
 use Rattle.rows_cells.specs.ImageViews.{remaining_cells, columns_left, cells_count, next_column, image_shape, IsNextField, HasNextFormat, SkipsField}
 use Rattle.rows_cells.specs.declared.image.ImageCells.{ImageCells}
 use Rattle.rows_cells.specs.declared.image.ImageField.{ImageField}
-use Rattle.feed_change_log.specs.CheckedRows.{HasImageTexts}
-use Rattle.feed_change_log.proofs.CheckedRowLemmas.{first_passes}
 use Rattle.feed_text.specs.DocumentForms.{AppendsOne}
 use Rattle.changes_tables.specs.ShownColumns.{ColumnView}
 use Rattle.changes_cells.specs.FieldJson.{WritesCell}
-use Rattle.changes_lines.specs.RowJson.{CellJson, column_at, member_json, members_json}
+use Rattle.changes_lines.specs.ReadRows.{ReadsRow}
+use Rattle.changes_lines.specs.TextLists.{ended}
+use Rattle.changes_lines.specs.RowJson.{CellJson, AreCellsJson, column_at, member_json, members_json, object_json}
 use Rattle.changes_lines.specs.declared.members.Separator.TheVariants as brace
 use Rattle.changes_lines.specs.ReadCells.{GivesJson, separator_after, separator_byte}
 use Rattle.changes_lines.proofs.CellJsonLemmas.{members_both, members_one, separator_both}
 use Rattle.changes_lines.specs.ShortMembers.{WritesMembers}
 use Rattle.changes_lines.proofs.ReadCellLemmas.{gives_none, gives_both, gives_field, image_read}
-use Rattle.changes_lines.proofs.RowReadLemmas.{reads_text}
+use Rattle.changes_lines.proofs.ReadRowLemmas.{one_reads}
 
 -- the members of some cells were written, and there is room for the others
 pub record WritesSoFar (t : List ColumnView) (old left : ImageCells) (s : ℕ) (at : ℕ) (before after : List ℕ) (end : ℕ) : Type 0 where
@@ -95,22 +96,47 @@ member_so_far t first old new s at before one two three end start after f rest w
 pub all_so_far : (t : List ColumnView) (old left : ImageCells) (s : ℕ) (at : ℕ) (before after rest : List ℕ) (end : ℕ) → WritesSoFar t old left s at before after end → cells_count left ≡ 0 → rest ≡ left.rest.now → WritesMembers t old at before after end rest
 all_so_far t old left s at before after rest end w none is = record { json = w.json; left = left; gives = w.gives; none_left = none; rest_is = is; most = let most = w.most in omega (arith, most, none); written = w.written }
 
--- a row of these members has a text in the feed
-pub members_pass : (t : List ColumnView) (s : ImageShape) (bytes rest : List ℕ) (cells : ImageCells) (at : ℕ) (before after : List ℕ) (end : ℕ) → remaining_cells cells ≡ image_at s bytes → columns_left cells ≡ s.columns → WritesMembers t cells at before after end rest
-    → HasImageTexts (s ∷ []) bytes rest
-members_pass t s bytes rest cells at before after end is columns w =
+-- a row of these members is read
+pub members_read : (t : List ColumnView) (s : ImageShape) (bytes rest : List ℕ) (cells : ImageCells) (at : ℕ) (before after : List ℕ) (end : ℕ) → remaining_cells cells ≡ image_at s bytes → columns_left cells ≡ s.columns → (w : WritesMembers t cells at before after end rest)
+    → ReadsRow t (s ∷ []) bytes rest (object_json t w.json)
+members_read t s bytes rest cells at before after end is columns w =
     let none = w.none_left in
     let read = image_read t s bytes cells w.left w.json is columns w.gives (omega (arith, none)) in
-    rw w.rest_is (first_passes s bytes w.left.rest.now (reads_text t s bytes w.left.rest.now (record { values = read.0; json = w.json; read = read.1; are = read.2 })))
+    rw w.rest_is (one_reads t s bytes w.left.rest.now read.0 w.json read.1 (w.json, read.2, refl))
 
--- something was written after these bytes, or nothing
-pub appended_after : (Such : List ℕ → Type 0) (at end : ℕ) (old new : List ℕ) → at ≤ end → take at new ≡ take at old → Such (drop at (take end new)) → AppendsOne Such (take at old) (take end new)
-appended_after Such at end old new le same such = record {
-  text = drop at (take end new);
-  such = such;
-  appended = sym (take-append-drop at (take end new)) ∙ ap (λ (l : List ℕ). l ++ drop at (take end new)) (take-take at end new le ∙ same);
-}
+-- cells that were all read have JSON
+pub some_json : (t : List ColumnView) (cells left : ImageCells) (json : List CellJson) → GivesJson t cells left json → cells_count left ≡ 0 → 0 < cells_count cells → 0 < length json
+unfolding AreCellsJson
+some_json t cells left json g none some = of g.columns g.given json g.are g.split
+  where
+    of : (cs : List ImageColumn) (vs : List ColumnValue) (xs : List CellJson) → AreCellsJson t cs vs xs → columns_left cells ≡ cs ++ columns_left left → 0 < length xs
+    of [] [] [] h split =
+        let same = ap length split in
+        let one = length-drop cells.index cells.columns.now in
+        let two = length-drop left.index left.columns.now in
+        absurd (omega (arith, same, one, two, none, some))
+    of (c ∷ cs) (v ∷ vs) (x ∷ xs) h split = omega arith
+    of [] (v ∷ vs) xs h split = absurd h
+    of [] [] (x ∷ xs) h split = omega arith
+    of (c ∷ cs) [] xs h split = absurd h
+    of (c ∷ cs) (v ∷ vs) [] h split = absurd h
 
+-- the members of an object, its end, and the end of its line
+row_text : (t : List ColumnView) (xs : List CellJson) → 0 < length xs → members_json t xs ++ (125 ∷ 125 ∷ 10 ∷ []) ≡ ended (object_json t xs)
+row_text t [] some = absurd (omega (arith, some))
+row_text t (x ∷ xs) some = sym (append_assoc (members_json t (x ∷ xs)) (125 ∷ []) (125 ∷ 10 ∷ []))
+
+pub appended_row : (Such : List ℕ → Type 0) (t : List ColumnView) (json : List CellJson) (at end r1 r2 r3 : ℕ) (before one two three four : List ℕ) → take end one ≡ take at before ++ members_json t json → 0 < length json
+    → take r1 two ≡ take end one ++ 125 ∷ [] → take r2 three ≡ take r1 two ++ 125 ∷ [] → take r3 four ≡ take r2 three ++ 10 ∷ [] → Such (ended (object_json t json)) → AppendsOne Such (take at before) (take r3 four)
+appended_row Such t json at end r1 r2 r3 before one two three four written some a b c such =
+    let all : take r3 four ≡ take end one ++ (125 ∷ 125 ∷ 10 ∷ []) = c ∙ ap (λ (l : List ℕ). l ++ 10 ∷ []) (b ∙ ap (λ (l : List ℕ). l ++ 125 ∷ []) a) ∙ append_assoc (take end one ++ 125 ∷ []) (125 ∷ []) (10 ∷ []) ∙ append_assoc (take end one) (125 ∷ []) (125 ∷ 10 ∷ []) in
+    record {
+      text = ended (object_json t json);
+      such = such;
+      appended = all ∙ ap (λ (l : List ℕ). l ++ (125 ∷ 125 ∷ 10 ∷ [])) written ∙ append_assoc (take at before) (members_json t json) (125 ∷ 125 ∷ 10 ∷ []) ∙ ap (λ (l : List ℕ). take at before ++ l) (row_text t json some);
+    }
+
+-- nothing was written after these bytes
 pub appended_none : (Such : List ℕ → Type 0) (at : ℕ) (old new : List ℕ) → take at new ≡ take at old → Such [] → AppendsOne Such (take at old) (take at new)
 appended_none Such at old new same such = record { text = []; such = such; appended = same ∙ sym (append-nil (take at old)) }
 
@@ -123,20 +149,6 @@ before_object t cells at before after rest end within w =
           ∙ ap (take at) w.written
           ∙ take-append-le at (take at before) (members_json t w.json) (let n = length-take-le at before within in omega (arith, n))
           ∙ take-take at at before (omega arith),
-    )
-
--- and so it is after the ends of the object and of its line
-pub before_end : (at end r1 r2 r3 : ℕ) (before one two three four : List ℕ) → at ≤ end → end ≤ length one → take at one ≡ take at before → r1 ≡ end + 1 → r2 ≡ r1 + 1 → r3 ≡ r2 + 1 → take r1 two ≡ take end one ++ 125 ∷ [] → take r2 three ≡ take r1 two ++ 125 ∷ [] → take r3 four ≡ take r2 three ++ 10 ∷ []
-    → (at ≤ r3) × (take at four ≡ take at before)
-before_end at end r1 r2 r3 before one two three four le within same e1 e2 e3 a b c =
-    let all : take r3 four ≡ take end one ++ (125 ∷ 125 ∷ 10 ∷ []) = c ∙ ap (λ (l : List ℕ). l ++ 10 ∷ []) (b ∙ ap (λ (l : List ℕ). l ++ 125 ∷ []) a) ∙ append_assoc (take end one ++ 125 ∷ []) (125 ∷ []) (10 ∷ []) ∙ append_assoc (take end one) (125 ∷ []) (125 ∷ 10 ∷ []) in
-    let on : at ≤ r3 = omega (arith, le, e1, e2, e3) in (
-      on,
-      sym (take-take at r3 four on)
-          ∙ ap (take at) all
-          ∙ take-append-le at (take end one) (125 ∷ 125 ∷ 10 ∷ []) (let n = length-take-le end one within in omega (arith, n, le))
-          ∙ take-take at end one le
-          ∙ same,
     )
 
 -- a label's first bytes were written with the others

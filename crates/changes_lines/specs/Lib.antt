@@ -1,5 +1,12 @@
 pub mod RowJson
 pub mod TableColumns
 pub mod ReadCells
+pub mod TextLists
+pub mod ReadRows
 pub mod ShortMembers
+pub mod Updates
+pub mod Origins
+pub mod ChangeLines
+pub mod RecordedParts
 pub mod RecordedLines
+pub mod WrittenLines

@@ -71,8 +71,3 @@ pub record ReadsImage (table : List ColumnView) (s : ImageShape) (bytes rest : L
   pub json : List CellJson
   pub read : image_at s bytes ≡ Ok (values, rest)
   pub are : AreCellsJson table s.columns values json
-
--- the cell that these bytes begin with has JSON, and the bytes after it were returned; or an error says why not
-abbrev pub IsReadMember : List ColumnView → ImageField → Result (Bor (List ℕ)) RowsError → Type 0
-IsReadMember table f (Ok rest) = (v : CellValue) × (x : List ℕ) × (field_at f.is_null f.format f.bytes.now ≡ Ok (v, rest.now)) × IsCellJson (column_at table f.column) f.format v x
-IsReadMember table f (Err e) = IsFieldError e f.is_null f.format f.bytes.now

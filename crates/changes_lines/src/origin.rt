@@ -1,5 +1,14 @@
 //! Where a change comes from: its time, its server, its transaction's GTID, file and position.
 
+ghost use Rattle.std.specs.Prelude.{◌≡◌, ◌++◌, ◌∷◌, Some, OnOk, option_map};
+ghost use Rattle.hex.specs.Hex.{encode_lower};
+ghost use Rattle.events_frames.specs.Headers.{event_header_of};
+ghost use Rattle.feed_checks.specs.KindViews.{gtid_view};
+ghost use Rattle.feed_checks.specs.Kinds.{Tagged};
+ghost use Rattle.feed_text.specs.Buffers.{text_in};
+ghost use Rattle.feed_transactions.specs.TransactionTexts.{uuid_text};
+ghost use Rattle.changes_lines.specs.Origins.{AppendsGtid, AppendsOrigin, header_members};
+
 use crate::tagged_gtid::TaggedGtid;
 use crate::utf8::{put_base64, put_utf8};
 use events_frames::BinlogEventHeader;
@@ -8,35 +17,49 @@ use feed_text::TextBuffer;
 use std::alloc::{AllocError, Allocator};
 
 /// Appends a UUID in hexadecimal digits, 8-4-4-4-12.
-fn put_uuid<A: Allocator>(uuid: &[u8; 16], text: &mut TextBuffer<A>) -> Result<(), AllocError> {
-    for (index, byte) in uuid.iter().enumerate() {
-        if matches!(index, 4 | 6 | 8 | 10) {
-            text.put(b'-')?;
-        }
-        text.put_hexadecimal(&[*byte])?;
-    }
-    Ok(())
+fn put_uuid<A: Allocator>(uuid: &[u8; 16], text: &mut TextBuffer<A>) -> Result<(), AllocError>
+    ensures { OnOk result (text_in text.new ≡ text_in text.old ++ uuid_text uuid.now) }
+{
+    text.put_hexadecimal(&uuid[..4])?;
+    put_group(&uuid[4..6], text)?;
+    put_group(&uuid[6..8], text)?;
+    put_group(&uuid[8..10], text)?;
+    put_group(&uuid[10..], text)
+}
+
+/// Appends a hyphen and a group of hexadecimal digits.
+fn put_group<A: Allocator>(bytes: &[u8], text: &mut TextBuffer<A>) -> Result<(), AllocError>
+    ensures { OnOk result (text_in text.new ≡ text_in text.old ++ 45 ∷ encode_lower bytes.now) }
+{
+    text.put(b'-')?;
+    text.put_hexadecimal(bytes)
 }
 
 /// Appends a tagged GTID as a string; an object with the Base64 of the event's body if that can't be read.
-fn put_tagged<A: Allocator>(body: &[u8], text: &mut TextBuffer<A>) -> Result<(), AllocError> {
+fn put_tagged<A: Allocator>(body: &[u8], text: &mut TextBuffer<A>) -> Result<(), AllocError>
+    ensures { OnOk result (AppendsGtid (Some (Tagged body.now)) (text_in text.old) (text_in text.new)) }
+{
     let Some(gtid) = TaggedGtid::read(body) else {
         return put_base64(body, text);
     };
     text.put(b'"')?;
     put_uuid(&gtid.uuid, text)?;
     text.put(b':')?;
-    text.put_text(gtid.tag.as_bytes())?;
+    text.put_text(gtid.tag)?;
     text.put(b':')?;
     text.put_number(gtid.number)?;
     text.put(b'"')
 }
 
 /// Appends a GTID as a string, or null if it is anonymous or there is none.
+///
+/// - `AllocError`: out of memory; a part of it may be appended.
 pub fn put_gtid<A: Allocator>(
     gtid: Option<Gtid<'_>>,
     text: &mut TextBuffer<A>,
-) -> Result<(), AllocError> {
+) -> Result<(), AllocError>
+    ensures { OnOk result (AppendsGtid (option_map gtid_view gtid.entry) (text_in text.old) (text_in text.new)) }
+{
     match gtid {
         Some(Gtid::Numbered { uuid, number }) => {
             text.put(b'"')?;
@@ -54,7 +77,9 @@ pub fn put_gtid<A: Allocator>(
 pub(crate) fn put_header<A: Allocator>(
     header: BinlogEventHeader,
     text: &mut TextBuffer<A>,
-) -> Result<(), AllocError> {
+) -> Result<(), AllocError>
+    ensures { OnOk result (text_in text.new ≡ text_in text.old ++ header_members (event_header_of header)) }
+{
     text.put_text(b",\"ts\":")?;
     text.put_number(u64::from(header.timestamp()))?;
     text.put_text(b",\"server_id\":")?;
@@ -67,7 +92,9 @@ pub(crate) fn put_origin<A: Allocator>(
     file: &[u8],
     position: u32,
     text: &mut TextBuffer<A>,
-) -> Result<(), AllocError> {
+) -> Result<(), AllocError>
+    ensures { OnOk result (AppendsOrigin (option_map gtid_view gtid.entry) file.now position (text_in text.old) (text_in text.new)) }
+{
     text.put_text(b",\"gtid\":")?;
     put_gtid(gtid, text)?;
     text.put_text(b",\"file\":")?;

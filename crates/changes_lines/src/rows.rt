@@ -1,10 +1,14 @@
 //! The rows of an event as JSON.
 
-ghost use Rattle.std.specs.Prelude.{◌≡◌, ◌≤◌, IfOk, IfErr, OnOk, List, ℕ, length};
+ghost use Rattle.std.specs.Prelude.{◌≡◌, ◌≤◌, ◌++◌, ◌∷◌, [], IfOk, IfErr, OnOk, List, ℕ, length};
 ghost use Rattle.rows_cells.specs.RowViews.{row_shape};
-ghost use Rattle.feed_change_log.specs.CheckedRows.{HasImageTexts, HaveTexts};
+ghost use Rattle.feed_change_log.specs.CheckedRows.{HaveTexts};
+ghost use Rattle.feed_text.specs.Buffers.{text_in};
 ghost use Rattle.feed_transactions.specs.RowLines.{row_verdict, IsRowError, IsRowsError, images_texts_at, rows_texts_at};
+ghost use Rattle.changes_lines.specs.ReadRows.{AddsAllRead, AddsRead, AppendsRow};
 ghost use Rattle.changes_lines.specs.ShortMembers.{HaveTextsSoFar};
+ghost use Rattle.changes_lines.specs.TableColumns.{columns_in};
+ghost use Rattle.changes_lines.specs.TextLists.{HasTexts, ended};
 
 use crate::columns::Columns;
 use crate::images::put_image;
@@ -30,7 +34,7 @@ fn put_row<'a>(
     before: &mut Before,
     text: &mut TextBuffer<Global>,
 ) -> Result<&'a [u8], RowsError>
-    ensures ok { IfOk result (λ rest. HasImageTexts (row_shape plan.entry) bytes.now rest.now) }
+    ensures ok { IfOk result (λ rest. AppendsRow (columns_in columns.entry) (row_shape plan.entry) bytes.now rest.now (text_in text.old) (text_in text.new)) }
     ensures err { IfErr result (λ e. IsRowError (images_texts_at (row_shape plan.entry) bytes.now) (row_verdict e)) }
 {
     match plan.second {
@@ -48,6 +52,7 @@ fn put_first_rows<'a>(
     texts: &mut TextList,
 ) -> Result<&'a [u8], AllocError>
     ensures rows { IfOk result (λ rest. (bytes : List ℕ) → HaveTextsSoFar (row_shape plan.entry) bytes rows_data.now → HaveTextsSoFar (row_shape plan.entry) bytes rest.now) }
+    ensures json { IfOk result (λ rest. AddsRead (columns_in columns.entry) (row_shape plan.entry) texts.old rows_data.now rest.now texts.new) }
     ensures most { IfOk result (λ rest. length rest.now ≤ length rows_data.now) }
 {
     match plan.second {
@@ -69,6 +74,7 @@ pub(crate) fn put_rows(
     texts: &mut TextList,
 ) -> Result<(), Verdict>
     ensures ok { OnOk result (HaveTexts (row_shape plan.entry) rows_data.now) }
+    ensures json { OnOk result (AddsAllRead (columns_in columns.entry) (row_shape plan.entry) rows_data.now texts.old texts.new) }
     ensures err { IfErr result (IsRowsError (rows_texts_at (row_shape plan.entry) rows_data.now)) }
 {
     let mut rest = match put_first_rows(columns, plan, rows_data, texts) {
@@ -95,7 +101,9 @@ pub(crate) fn put_rows(
 }
 
 /// Ends the text of a row.
-fn end_row(texts: &mut TextList) -> Result<(), AllocError> {
+fn end_row(texts: &mut TextList) -> Result<(), AllocError>
+    ensures { OnOk result ((before : List (List ℕ)) (json : List ℕ) → HasTexts texts.old before json → HasTexts texts.new (before ++ ended json ∷ []) []) }
+{
     texts.buffer.put_text(END)?;
     texts.close()
 }

@@ -4,7 +4,8 @@ ghost use Rattle.std.specs.Prelude.{◌≡◌, ◌≤◌, ◌+◌, ◌*◌, ◌�
 ghost use Rattle.rows_cells.specs.ImageViews.{image_shape, cells_count};
 ghost use Rattle.changes_tables.specs.ShownColumns.{column_view};
 ghost use Rattle.changes_lines.specs.TableColumns.{columns_in};
-ghost use Rattle.changes_lines.specs.ShortMembers.{MayWriteMembers, MayPassRow, HaveTextsSoFar};
+ghost use Rattle.changes_lines.specs.ReadRows.{AddsRead};
+ghost use Rattle.changes_lines.specs.ShortMembers.{MayWriteMembers, MayWriteRow, HaveTextsSoFar};
 
 use crate::columns::Columns;
 use crate::members::Separator;
@@ -84,7 +85,7 @@ fn put_members<'a>(
 impl<'a> WritingInRoom for ShortRow<'_, '_, 'a> {
     type Left = Option<&'a [u8]>;
 
-    ghost Wrote = { λ w x left. MayPassRow w left };
+    ghost Wrote = { MayWriteRow };
 
     #[inline(always)]
     fn put(self, text: &mut [u8], at: usize) -> (usize, Option<&'a [u8]>) {
@@ -116,6 +117,7 @@ pub(crate) fn put_short_rows<'a>(
     texts: &mut TextList,
 ) -> Result<&'a [u8], AllocError>
     ensures rows { IfOk result (λ rest. (bytes : List ℕ) → HaveTextsSoFar (image_shape plan.entry ∷ []) bytes rows.now → HaveTextsSoFar (image_shape plan.entry ∷ []) bytes rest.now) }
+    ensures json { IfOk result (λ rest. AddsRead (columns_in columns.entry) (image_shape plan.entry ∷ []) texts.old rows.now rest.now texts.new) }
     ensures most { IfOk result (λ rest. length rest.now ≤ length rows.now) }
 {
     let room = (plan.columns.len() + 1).saturating_mul(MEMBER_LEN);

@@ -2,8 +2,6 @@
 //! version of the format, the size of the message, the number of the last field that a reader must know), and then the fields, each after
 //! its number: the flags, the UUID, the number of the transaction, the tag, and others.
 
-use std::str;
-
 /// The version of the format.
 const VERSION: u64 = 1;
 
@@ -11,7 +9,7 @@ const VERSION: u64 = 1;
 #[derive(Clone, Copy)]
 pub(crate) struct TaggedGtid<'a> {
     pub(crate) uuid: [u8; 16],
-    pub(crate) tag: &'a str,
+    pub(crate) tag: &'a [u8],
     /// The number of the transaction.
     pub(crate) number: u64,
 }
@@ -60,13 +58,13 @@ fn is_of_tag(byte: u8) -> bool {
 }
 
 /// The tag that the bytes begin with, after its length: letters, digits and underscores.
-fn split_tag(bytes: &[u8]) -> Option<&str> {
+fn split_tag(bytes: &[u8]) -> Option<&[u8]> {
     let (len, rest) = split_integer(bytes)?;
     let tag = rest.get(..usize::try_from(len).ok()?)?;
     if !tag.iter().all(|byte| is_of_tag(*byte)) {
         return None;
     }
-    str::from_utf8(tag).ok()
+    Some(tag)
 }
 
 impl<'a> TaggedGtid<'a> {

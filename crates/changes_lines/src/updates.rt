@@ -1,12 +1,17 @@
 //! An update as JSON: the row after it, and what it changed.
 
-ghost use Rattle.std.specs.Prelude.{◌≡◌, ◌∷◌, [], IfOk, IfErr};
-ghost use Rattle.rows_errors.specs.Readings.{map_reading};
+ghost use Rattle.std.specs.Prelude.{◌≡◌, ◌∷◌, ◌++◌, [], List, ℕ, IfOk, IfErr, OnOk, codes};
 ghost use Rattle.rows_cells.specs.ImageViews.{image_shape};
-ghost use Rattle.feed_change_log.specs.CheckedRows.{HasImageTexts};
+ghost use Rattle.feed_text.specs.Buffers.{text_in};
 ghost use Rattle.feed_transactions.specs.RowLines.{row_verdict, IsRowError, image_text_at, images_texts_at};
+ghost use Rattle.changes_tables.specs.ShownColumns.{ColumnView, column_view};
+ghost use Rattle.changes_cells.specs.FieldJson.{IsFieldError};
 ghost use Rattle.changes_lines.specs.TableColumns.{columns_in};
-ghost use Rattle.changes_lines.specs.ReadCells.{ReadsImage, IsReadMember};
+ghost use Rattle.changes_lines.specs.RowJson.{CellJson, member_json, members_json, object_json};
+ghost use Rattle.changes_lines.specs.ReadCells.{members_after, separator_byte, separator_end, separator_after as separator_of};
+ghost use Rattle.changes_lines.specs.ReadRows.{AppendsRow};
+ghost use Rattle.changes_lines.specs.Updates.{IsMember, AreMembers, IsFrom, ReadsCell, KeepsMember, PutsFirst, PutsAll, Compares, StepsOver, cell_of};
+ghost use Rattle.changes_lines.specs.declared.members.Separator.TheVariants.{Brace, Comma};
 
 use crate::columns::Columns;
 use crate::members::{Separator, put_end, put_key};
@@ -28,13 +33,19 @@ struct Member {
 }
 
 impl Member {
+    ghost use Rattle.changes_lines.specs.Updates.{IsMember};
+
     /// Its key and its value.
-    fn whole(self, text: &[u8]) -> &[u8] {
+    fn whole(self, text: &[u8]) -> &[u8]
+        ensures { (table : List ColumnView) (x : CellJson) → IsMember table text.now self x → result.now ≡ member_json table x }
+    {
         text.get(self.start..self.end).unwrap_or(&[])
     }
 
     /// Its value.
-    fn value(self, text: &[u8]) -> &[u8] {
+    fn value(self, text: &[u8]) -> &[u8]
+        ensures { (table : List ColumnView) (x : CellJson) → IsMember table text.now self x → result.now ≡ x.json }
+    {
         text.get(self.value..self.end).unwrap_or(&[])
     }
 }
@@ -45,7 +56,7 @@ pub(crate) struct Before {
     text: TextBuffer<Global>,
     members: Vec<Member>,
     /// The members whose values the update changed.
-    old: TextBuffer<Global>,
+    changed: TextBuffer<Global>,
 }
 
 /// Appends a member of the image before an update, and notes where it is. Returns the bytes after the cell.
@@ -56,7 +67,8 @@ fn keep<'a>(
     text: &mut TextBuffer<Global>,
     members: &mut Vec<Member>,
 ) -> Result<&'a [u8], RowsError>
-    ensures { IsReadMember (columns_in columns.entry) field.entry result }
+    ensures ok { IfOk result (λ rest. KeepsMember (columns_in columns.entry) field.entry rest.now (text_in text.old) (text_in text.new) members.old.items members.new.items) }
+    ensures err { IfErr result (λ e. IsFieldError e field.entry.is_null field.entry.format field.entry.bytes.now) }
 {
     let column = columns.get(field.column);
     let start = text.len();
@@ -87,10 +99,12 @@ fn put_unset<'m>(
     column: u32,
     separator: Separator,
     out: &mut TextBuffer<Global>,
-) -> Result<(&'m [Member], Separator), AllocError> {
+) -> Result<(&'m [Member], Separator), AllocError>
+    ensures { IfOk result (λ r. (table : List ColumnView) (cells : List CellJson) → AreMembers table text.now members.now cells → PutsFirst table text.now column separator r.1 r.0.now cells (text_in out.old) (text_in out.new)) }
+{
     let mut left = members;
     let mut separator = separator;
-    while let [member, after @ ..] = left {
+    while let Some((member, after)) = left.split_first() {
         if member.column >= column {
             break;
         }
@@ -106,10 +120,14 @@ fn put_all(
     members: &[Member],
     separator: Separator,
     out: &mut TextBuffer<Global>,
-) -> Result<Separator, AllocError> {
+) -> Result<Separator, AllocError>
+    ensures { IfOk result (λ then. (table : List ColumnView) (cells : List CellJson) → AreMembers table text.now members.now cells → PutsAll table separator then cells (text_in out.old) (text_in out.new)) }
+{
+    let mut left = members;
     let mut separator = separator;
-    for member in members {
+    while let Some((member, after)) = left.split_first() {
         separator = put_whole(text, *member, separator, out)?;
+        left = after;
     }
     Ok(separator)
 }
@@ -120,7 +138,10 @@ fn put_whole(
     member: Member,
     separator: Separator,
     out: &mut TextBuffer<Global>,
-) -> Result<Separator, AllocError> {
+) -> Result<Separator, AllocError>
+    ensures comma { IfOk result (λ then. then ≡ Comma) }
+    ensures text { OnOk result ((table : List ColumnView) (x : CellJson) → IsMember table text.now member x → text_in out.new ≡ text_in out.old ++ separator_byte separator ∷ member_json table x) }
+{
     let byte = match separator {
         Separator::Brace => b'{',
         Separator::Comma => b',',
@@ -131,7 +152,9 @@ fn put_whole(
 }
 
 /// What is before the next member of an object with this text.
-fn separator_after(text: &TextBuffer<Global>) -> Separator {
+fn separator_after(text: &TextBuffer<Global>) -> Separator
+    ensures { (table : List ColumnView) (cells : List CellJson) → text_in text.now ≡ members_json table cells → result ≡ separator_of Brace cells }
+{
     if text.len() == 0 {
         Separator::Brace
     } else {
@@ -147,26 +170,32 @@ fn compare<'m>(
     column: u32,
     after: &[u8],
     old: &mut TextBuffer<Global>,
-) -> Result<&'m [Member], AllocError> {
-    let [member, left @ ..] = members else {
+) -> Result<&'m [Member], AllocError>
+    ensures { IfOk result (λ left. (table : List ColumnView) (cells changed : List CellJson) (y : CellJson) → AreMembers table text.now members.now cells → IsFrom column cells → y.column ≡ column → y.json ≡ after.now → text_in old.old ≡ members_json table changed
+        → Compares table text.now y left.now cells changed (text_in old.new)) }
+{
+    let Some((member, left)) = members.split_first() else {
         return Ok(members);
     };
     if member.column != column {
         return Ok(members);
     }
-    if member.value(text) != after {
-        put_whole(text, *member, separator_after(old), old)?;
+    if member.value(text) == after {
+        return Ok(left);
     }
+    put_whole(text, *member, separator_after(old), old)?;
     Ok(left)
 }
 
 impl Before {
+    ghost use Rattle.changes_lines.specs.Updates.{ReadsBefore, HasBefore, AppendsAfter};
+
     /// No members.
     pub(crate) fn new(alloc: Global) -> Before {
         Before {
             text: TextBuffer::new(alloc),
             members: Vec::new(alloc),
-            old: TextBuffer::new(alloc),
+            changed: TextBuffer::new(alloc),
         }
     }
 
@@ -178,12 +207,12 @@ impl Before {
         plan: ImagePlan<'_>,
         bytes: &'a [u8],
     ) -> Result<&'a [u8], RowsError>
-        ensures ok { IfOk result (λ rest. ReadsImage (columns_in columns.entry) (image_shape plan.entry) bytes.now rest.now) }
+        ensures ok { IfOk result (λ rest. ReadsBefore (columns_in columns.entry) (image_shape plan.entry) bytes.now rest.now self.new) }
         ensures err { IfErr result (λ e. IsRowError (image_text_at (image_shape plan.entry) bytes.now) (row_verdict e)) }
     {
         self.text.clear();
         self.members.clear();
-        self.old.clear();
+        self.changed.clear();
         let mut cells = match ImageCells::of(plan, bytes) {
             Ok(cells) => cells,
             Err(fault) => return Err(fault),
@@ -206,7 +235,7 @@ impl Before {
         bytes: &'a [u8],
         out: &mut TextBuffer<Global>,
     ) -> Result<&'a [u8], RowsError>
-        ensures ok { IfOk result (λ rest. ReadsImage (columns_in columns.entry) (image_shape plan.entry) bytes.now rest.now) }
+        ensures ok { IfOk result (λ rest. (cells : List CellJson) → HasBefore (columns_in columns.entry) self.old cells → AppendsAfter (columns_in columns.entry) (image_shape plan.entry) bytes.now rest.now (text_in out.old) (text_in out.new) cells (text_in self.new.changed)) }
         ensures err { IfErr result (λ e. IsRowError (image_text_at (image_shape plan.entry) bytes.now) (row_verdict e)) }
     {
         let mut cells = match ImageCells::of(plan, bytes) {
@@ -223,7 +252,7 @@ impl Before {
                 field,
                 (text, members, separator),
                 out,
-                &mut self.old,
+                &mut self.changed,
             ) {
                 Ok((rest, left)) => {
                     cells.skip_field(rest);
@@ -240,10 +269,12 @@ impl Before {
     }
 
     /// Appends the object of what the update changed.
-    fn put_old(&self, out: &mut TextBuffer<Global>) -> Result<(), AllocError> {
+    fn put_old(&self, out: &mut TextBuffer<Global>) -> Result<(), AllocError>
+        ensures { OnOk result ((table : List ColumnView) (changed : List CellJson) → text_in self.now.changed ≡ members_json table changed → text_in out.new ≡ text_in out.old ++ (codes ",\"old\":" ++ object_json table changed)) }
+    {
         out.put_text(b",\"old\":")?;
-        out.put_text(self.old.as_slice())?;
-        put_end(separator_after(&self.old), out)
+        out.put_text(self.changed.as_slice())?;
+        put_end(separator_after(&self.changed), out)
     }
 
     /// Appends the update that the bytes begin with: the row after it, and what it changed; returns the remaining bytes.
@@ -256,7 +287,7 @@ impl Before {
         bytes: &'a [u8],
         out: &mut TextBuffer<Global>,
     ) -> Result<&'a [u8], RowsError>
-        ensures ok { IfOk result (λ rest. HasImageTexts (image_shape first.entry ∷ image_shape second.entry ∷ []) bytes.now rest.now) }
+        ensures ok { IfOk result (λ rest. AppendsRow (columns_in columns.entry) (image_shape first.entry ∷ image_shape second.entry ∷ []) bytes.now rest.now (text_in out.old) (text_in out.new)) }
         ensures err { IfErr result (λ e. IsRowError (images_texts_at (image_shape first.entry ∷ image_shape second.entry ∷ []) bytes.now) (row_verdict e)) }
     {
         let middle = match self.read(alloc, columns, first, bytes) {
@@ -280,7 +311,9 @@ fn put_last(
     members: &[Member],
     separator: Separator,
     out: &mut TextBuffer<Global>,
-) -> Result<(), AllocError> {
+) -> Result<(), AllocError>
+    ensures { OnOk result ((table : List ColumnView) (cells : List CellJson) → AreMembers table text.now members.now cells → text_in out.new ≡ text_in out.old ++ (members_after table separator cells ++ separator_end (separator_of separator cells))) }
+{
     let separator = put_all(text, members, separator, out)?;
     put_end(separator, out)
 }
@@ -296,7 +329,9 @@ fn put_next<'a, 'm>(
     out: &mut TextBuffer<Global>,
     old: &mut TextBuffer<Global>,
 ) -> Result<(&'a [u8], &'m [Member]), RowsError>
-    ensures { IsReadMember (columns_in columns.entry) field.entry (map_reading (λ x. x.0) result) }
+    ensures ok { IfOk result (λ r. (json : List ℕ) × ReadsCell (columns_in columns.entry) field.entry r.0.now json × ((cells changed : List CellJson) → AreMembers (columns_in columns.entry) before.entry.0.now before.entry.1.now cells → text_in old.old ≡ members_json (columns_in columns.entry) changed
+        → StepsOver (columns_in columns.entry) before.entry.0.now (cell_of field.entry json) before.entry.2 r.1.now cells changed (text_in out.old) (text_in out.new) (text_in old.new))) }
+    ensures err { IfErr result (λ e. IsFieldError e field.entry.is_null field.entry.format field.entry.bytes.now) }
 {
     let (text, members, separator) = before;
     let column = columns.get(field.column);

@@ -1,5 +1,5 @@
 -- The tables so far, by the bytes of their table maps.
-use Rattle.std.specs.Prelude.{◌≡◌, ◌||◌, ℕ, false, List, Option, option_map, All, IsSomeAnd}
+use Rattle.std.specs.Prelude.{◌≡◌, ◌||◌, ℕ, false, List, Option, Some, option_map, All, IsSomeAnd}
 use Rattle.std.specs.List.{slice_get}
 use Rattle.rows_table_map.specs.TableMaps.{TableMap}
 use Rattle.changes_tables.specs.declared.tables.Lacks.{Lacks}
@@ -9,12 +9,12 @@ use Rattle.changes_tables.specs.declared.shown_tables.ShownTables.{ShownTables}
 use Rattle.changes_tables.specs.declared.columns.TableOptions.{TableOptions}
 use Rattle.changes_tables.specs.ShownTables.{IsShownTable}
 
--- the table is that of the table map that `reads` finds in its bytes
-abbrev pub IsKept : TableOptions → (List ℕ → TableMap) → KeptTable → Type 0
-IsKept options reads kept = IsShownTable options (reads kept.map.items) kept.table
+-- the table is that of the table map that `reads` finds in its bytes, if it finds one
+abbrev pub IsKept : TableOptions → (List ℕ → Option TableMap) → KeptTable → Type 0
+IsKept options reads kept = (m : TableMap) → reads kept.map.items ≡ Some m → IsShownTable options m kept.table
 
--- each table is that of the table map that `reads` finds in its bytes
-abbrev pub Keeps : (List ℕ → TableMap) → ShownTables → Type 0
+-- each table is that of the table map that `reads` finds in its bytes, if it finds one
+abbrev pub Keeps : (List ℕ → Option TableMap) → ShownTables → Type 0
 Keeps reads t = All (IsKept t.options reads) t.tables.items
 
 -- there is a newest table, and its table map has these bytes

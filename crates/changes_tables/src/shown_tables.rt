@@ -1,6 +1,6 @@
 //! The tables so far.
 
-ghost use Rattle.std.specs.Prelude.{◌≡◌, ◌↔◌, List, ℕ, [], IsTrue, OnOk, OnErr, IsSomeAnd};
+ghost use Rattle.std.specs.Prelude.{◌≡◌, ◌↔◌, List, ℕ, [], Option, Some, IsTrue, OnOk, OnErr, IsSomeAnd};
 ghost use Rattle.std.specs.Option.{option_copied};
 ghost use Rattle.rows_table_map.specs.TableMaps.{TableMap};
 ghost use Rattle.rows_table_map.specs.MapViews.{map_of};
@@ -23,7 +23,8 @@ struct KeptTable {
     table: ShownTable,
 }
 
-/// The tables so far, by the bytes of their table maps.
+/// The tables so far, by the bytes of their table maps. Different tables must have different bytes; one whose bytes aren't known has
+/// none, is added and not selected.
 ///
 /// [`ShownTables::select`] finds the table of a table map, [`ShownTables::add`] adds it, and [`ShownTables::newest`] is the table that
 /// was found or added last. A table takes memory until its columns and those of later tables are 131,072.
@@ -96,7 +97,7 @@ impl ShownTables {
     /// Drops all tables if they have too many columns.
     fn drop_many(&mut self)
         ensures options { self.new.options ≡ self.old.options }
-        ensures kept { (reads : List ℕ → TableMap) → Keeps reads self.old → Keeps reads self.new }
+        ensures kept { (reads : List ℕ → Option TableMap) → Keeps reads self.old → Keeps reads self.new }
         ensures lacks { self.new.lacks ≡ self.old.lacks }
     {
         if self.columns >= MAX_COLUMNS {
@@ -111,8 +112,9 @@ impl ShownTables {
     /// - `AllocError`: out of memory; there may be no newest table then.
     pub fn add(&mut self, map: &TableMapEvent<'_>, bytes: &[u8]) -> Result<(), AllocError>
         ensures options { self.new.options ≡ self.old.options }
-        ensures kept { (reads : List ℕ → TableMap) → Keeps reads self.old → reads bytes.now ≡ map_of map.now → Keeps reads self.new }
+        ensures kept { (reads : List ℕ → Option TableMap) → Keeps reads self.old → ((m : TableMap) → reads bytes.now ≡ Some m → m ≡ map_of map.now) → Keeps reads self.new }
         ensures newest { OnOk result (IsNewest bytes.now self.new) }
+        ensures shown { OnOk result (IsSomeAnd (newest_table self.new) (IsShownTable self.new.options (map_of map.now))) }
         ensures lacks { OnOk result (self.new.lacks ≡ both_lack self.old.lacks (lacks_of (map_of map.now))) }
         ensures err { OnErr result (self.new.lacks ≡ self.old.lacks) }
     {
@@ -137,7 +139,7 @@ impl ShownTables {
     /// Returns the newest table; None if there is none.
     pub fn newest(&self) -> Option<&ShownTable>
         ensures table { option_copied result ≡ newest_table self.now }
-        ensures shown { (reads : List ℕ → TableMap) (bytes : List ℕ) → Keeps reads self.now → IsNewest bytes self.now → IsSomeAnd result (λ table. IsShownTable self.now.options (reads bytes) table.now) }
+        ensures shown { (reads : List ℕ → Option TableMap) (bytes : List ℕ) (m : TableMap) → Keeps reads self.now → reads bytes ≡ Some m → IsNewest bytes self.now → IsSomeAnd result (λ table. IsShownTable self.now.options m table.now) }
     {
         match self.tables.get(self.newest) {
             Some(kept) => Some(&kept.table),

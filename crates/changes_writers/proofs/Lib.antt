@@ -1,3 +1,4 @@
+pub mod NumberLemmas
 pub mod EscapeLemmas
 pub mod PlainLemmas
 pub mod StringLemmas

@@ -13,7 +13,7 @@ use mir.Val.{zeroes}
 use Rattle.base64.specs.Engines.{standard}
 use Rattle.base64.specs.GeneralPurpose.{engine_symbols}
 use Rattle.feed_writers.proofs.PlainLemmas.{upto_sound}
-use Rattle.changes_writers.specs.declared.base64_text.TheConstants.{SHIFTS, GROUPS}
+use Rattle.changes_writers.specs.declared.base64_text.TheConstants.{SHIFTS, GROUPS, DOWN, UP}
 use Rattle.changes_writers.specs.SixBits.{six_bits}
 
 abbrev listed : (ℕ → ℕ) → ℕ → List ℕ
@@ -80,64 +80,71 @@ pub digits_are : (v : List ℕ) → length v ≡ 16 → All (λ x. x < 64) v →
 digits_are v long h = digits_by_lane v long ∙ mapped v (small v h)
 
 -- ---- the numbers of six bits of twelve bytes, as the code computes them
+abbrev groups_of : List ℕ → List ℕ
+groups_of v = digits_l 65536 8 (number_l 256 (pick_l 0 (v ++ v) GROUPS))
+
 abbrev down : ℕ → ℕ → ℕ
 down a b = a / 2 ^ b
 
 abbrev up : ℕ → ℕ → ℕ
-up a b = (a * 2 ^ b) % 4294967296
+up a b = (a * b) % 65536
+
+abbrev high : ℕ → ℕ → ℕ
+high a b = (a * 2 ^ b) % 65536
 
 abbrev plus : ℕ → ℕ → ℕ
-plus a b = (a + b) % 4294967296
-
-abbrev groups_of : List ℕ → List ℕ
-groups_of v = digits_l 4294967296 4 (number_l 256 (pick_l 0 (v ++ v) GROUPS))
+plus a b = (a + b) % 65536
 
 abbrev lanes_of : List ℕ → List ℕ
-lanes_of g = zip2 plus (zip2 plus (zip2 bit_and (zip2 down g (replicate 4 18)) (replicate 4 63)) (zip2 up (zip2 bit_and (zip2 down g (replicate 4 12)) (replicate 4 63)) (replicate 4 8)))
-    (zip2 plus (zip2 up (zip2 bit_and (zip2 down g (replicate 4 6)) (replicate 4 63)) (replicate 4 16)) (zip2 up (zip2 bit_and g (replicate 4 63)) (replicate 4 24)))
+lanes_of g = zip2 plus (zip2 bit_and (zip2 down g DOWN) (replicate 8 63)) (zip2 high (zip2 bit_and (zip2 down (zip2 up g UP) (replicate 8 8)) (replicate 8 63)) (replicate 8 8))
 
 abbrev pub sixes_of : List ℕ → List ℕ
-sixes_of v = digits_l 256 16 (number_l 4294967296 (lanes_of (groups_of v)))
+sixes_of v = digits_l 256 16 (number_l 65536 (lanes_of (groups_of v)))
 
-abbrev lane : ℕ → ℕ
-lane g = plus (plus (bit_and (down g 18) 63) (up (bit_and (down g 12) 63) 8)) (plus (up (bit_and (down g 6) 63) 16) (up (bit_and g 63) 24))
+-- two numbers of six bits, by the bits that move down and the factor that moves up
+abbrev lane : ℕ → ℕ → ℕ → ℕ
+lane j k g = plus (bit_and (down g j) 63) (high (bit_and (down (up g k) 8) 63) 8)
 
-abbrev group : ℕ → ℕ → ℕ → ℕ
-group a b c = c + 256 * (b + 256 * (a + 256 * a))
+-- a byte below another
+abbrev pair : ℕ → ℕ → ℕ
+pair a b = b + 256 * a
 
--- a group of three bytes with the last first, and the first twice
-group_in : (a b c n : ℕ) (rest : List ℕ) → a < 256 → b < 256 → c < 256 → digits_l 4294967296 (suc n) (number_l 256 (c ∷ b ∷ a ∷ a ∷ rest)) ≡ group a b c ∷ digits_l 4294967296 n (number_l 256 rest)
+-- a group of three bytes as two numbers
+group_in : (a b c n : ℕ) (rest : List ℕ) → a < 256 → b < 256 → c < 256
+    → digits_l 65536 (suc (suc n)) (number_l 256 (b ∷ a ∷ c ∷ b ∷ rest)) ≡ pair a b ∷ pair b c ∷ digits_l 65536 n (number_l 256 rest)
 group_in a b c n rest p q r =
     let y = number_l 256 rest in
-    let x = c + 256 * (b + 256 * (a + 256 * (a + 256 * y))) in
-    let first : x % 4294967296 ≡ group a b c = omega arith in
-    let others : x / 4294967296 ≡ y = omega arith in
-    ap₂ (λ (k m : ℕ). k ∷ digits_l 4294967296 n m) first others
+    let x = b + 256 * (a + 256 * (c + 256 * (b + 256 * y))) in
+    let first : x % 65536 ≡ pair a b = omega arith in
+    let others : x / 65536 ≡ c + 256 * (b + 256 * y) = omega arith in
+    let second : (c + 256 * (b + 256 * y)) % 65536 ≡ pair b c = omega arith in
+    let last : (c + 256 * (b + 256 * y)) / 65536 ≡ y = omega arith in
+    ap₂ (λ (k m : ℕ). k ∷ digits_l 65536 (suc n) m) first others ∙ ap₂ (λ (k m : ℕ). pair a b ∷ k ∷ digits_l 65536 n m) second last
 
-six : (x k : ℕ) → bit_and (x / 2 ^ k) 63 ≡ x / 2 ^ k % 64
-six x k = and_mask (x / 2 ^ k) 6
+lane_is : (j k g l u : ℕ) → down g j % 64 ≡ l → down (up g k) 8 % 64 ≡ u → lane j k g ≡ l + 256 * u
+lane_is j k g l u lower upper =
+    let one : bit_and (down g j) 63 ≡ l = and_mask (down g j) 6 ∙ lower in
+    let two : bit_and (down (up g k) 8) 63 ≡ u = and_mask (down (up g k) 8) 6 ∙ upper in
+    rw (one, two) (omega (arith, lower, upper))
 
-lane_is : (a b c : ℕ) → a < 256 → b < 256 → c < 256 → lane (group a b c) ≡ a / 4 + 256 * (a % 4 * 16 + b / 16 + 256 * (b % 16 * 4 + c / 64 + 256 * (c % 64)))
-lane_is a b c p q r =
-    let g = group a b c in
-    let one : bit_and (down g 18) 63 ≡ a / 4 = and_mask (down g 18) 6 ∙ (omega arith) in
-    let two : bit_and (down g 12) 63 ≡ a % 4 * 16 + b / 16 = and_mask (down g 12) 6 ∙ (omega arith) in
-    let three : bit_and (down g 6) 63 ≡ b % 16 * 4 + c / 64 = and_mask (down g 6) 6 ∙ (omega arith) in
-    let four : bit_and g 63 ≡ c % 64 = and_mask g 6 ∙ (omega arith) in
-    rw (one, two, three, four) (omega arith)
+first_lane : (a b : ℕ) → a < 256 → b < 256 → lane 10 16 (pair a b) ≡ a / 4 + 256 * (a % 4 * 16 + b / 16)
+first_lane a b p q = lane_is 10 16 (pair a b) (a / 4) (a % 4 * 16 + b / 16) (omega arith) (omega arith)
+
+second_lane : (b c : ℕ) → b < 256 → c < 256 → lane 6 256 (pair b c) ≡ b % 16 * 4 + c / 64 + 256 * (c % 64)
+second_lane b c q r = lane_is 6 256 (pair b c) (b % 16 * 4 + c / 64) (c % 64) (omega arith) (omega arith)
 
 group_out : (a b c n y : ℕ) → a < 256 → b < 256 → c < 256
-    → digits_l 256 (suc (suc (suc (suc n)))) (lane (group a b c) + 4294967296 * y) ≡ a / 4 ∷ (a % 4 * 16 + b / 16) ∷ (b % 16 * 4 + c / 64) ∷ (c % 64) ∷ digits_l 256 n y
+    → digits_l 256 (suc (suc (suc (suc n)))) (lane 10 16 (pair a b) + 65536 * (lane 6 256 (pair b c) + 65536 * y)) ≡ a / 4 ∷ (a % 4 * 16 + b / 16) ∷ (b % 16 * 4 + c / 64) ∷ (c % 64) ∷ digits_l 256 n y
 group_out a b c n y p q r =
     let s = a / 4 in
     let t = a % 4 * 16 + b / 16 in
     let u = b % 16 * 4 + c / 64 in
     let w = c % 64 in
-    ap (λ (k : ℕ). digits_l 256 (suc (suc (suc (suc n)))) (k + 4294967296 * y)) (lane_is a b c p q r) ∙ bytes_out s t u w n y (omega arith) (omega arith) (omega arith) (omega arith)
+    ap₂ (λ (k m : ℕ). digits_l 256 (suc (suc (suc (suc n)))) (k + 65536 * (m + 65536 * y))) (first_lane a b p q) (second_lane b c q r) ∙ bytes_out s t u w n y (omega arith) (omega arith) (omega arith) (omega arith)
   where
-    bytes_out : (s t u w n y : ℕ) → s < 256 → t < 256 → u < 256 → w < 256 → digits_l 256 (suc (suc (suc (suc n)))) (s + 256 * (t + 256 * (u + 256 * w)) + 4294967296 * y) ≡ s ∷ t ∷ u ∷ w ∷ digits_l 256 n y
+    bytes_out : (s t u w n y : ℕ) → s < 256 → t < 256 → u < 256 → w < 256 → digits_l 256 (suc (suc (suc (suc n)))) (s + 256 * t + 65536 * (u + 256 * w + 65536 * y)) ≡ s ∷ t ∷ u ∷ w ∷ digits_l 256 n y
     bytes_out s t u w n y h i j k =
-        let x = s + 256 * (t + 256 * (u + 256 * w)) + 4294967296 * y in
+        let x = s + 256 * t + 65536 * (u + 256 * w + 65536 * y) in
         let one : x % 256 ≡ s = omega arith in
         let from : x / 256 ≡ t + 256 * (u + 256 * w) + 16777216 * y = omega arith in
         let two : (t + 256 * (u + 256 * w) + 16777216 * y) % 256 ≡ t = omega arith in
@@ -152,26 +159,33 @@ group_out a b c n y p q r =
         ∙ ap₂ (λ (k m : ℕ). s ∷ t ∷ u ∷ k ∷ digits_l 256 n m) four last
 
 -- ---- all four groups
-four_in : (f : ℕ → ℕ) → ((k : ℕ) → k < 12 → f k < 256) → groups_of (listed f 16) ≡ group (f 0) (f 1) (f 2) ∷ group (f 3) (f 4) (f 5) ∷ group (f 6) (f 7) (f 8) ∷ group (f 9) (f 10) (f 11) ∷ []
+abbrev spread : (ℕ → ℕ) → ℕ → List ℕ → List ℕ
+spread f k rest = pair (f k) (f (k + 1)) ∷ pair (f (k + 1)) (f (k + 2)) ∷ rest
+
+four_in : (f : ℕ → ℕ) → ((k : ℕ) → k < 12 → f k < 256) → groups_of (listed f 16) ≡ spread f 0 (spread f 3 (spread f 6 (spread f 9 [])))
 four_in f h =
-    group_in (f 0) (f 1) (f 2) 3 (f 5 ∷ f 4 ∷ f 3 ∷ f 3 ∷ f 8 ∷ f 7 ∷ f 6 ∷ f 6 ∷ f 11 ∷ f 10 ∷ f 9 ∷ f 9 ∷ []) (h 0 (omega arith)) (h 1 (omega arith)) (h 2 (omega arith))
-    ∙ ap (λ (t : List ℕ). group (f 0) (f 1) (f 2) ∷ t)
-    (group_in (f 3) (f 4) (f 5) 2 (f 8 ∷ f 7 ∷ f 6 ∷ f 6 ∷ f 11 ∷ f 10 ∷ f 9 ∷ f 9 ∷ []) (h 3 (omega arith)) (h 4 (omega arith)) (h 5 (omega arith))
-    ∙ ap (λ (t : List ℕ). group (f 3) (f 4) (f 5) ∷ t)
-    (group_in (f 6) (f 7) (f 8) 1 (f 11 ∷ f 10 ∷ f 9 ∷ f 9 ∷ []) (h 6 (omega arith)) (h 7 (omega arith)) (h 8 (omega arith))
-    ∙ ap (λ (t : List ℕ). group (f 6) (f 7) (f 8) ∷ t)
+    group_in (f 0) (f 1) (f 2) 6 (f 4 ∷ f 3 ∷ f 5 ∷ f 4 ∷ f 7 ∷ f 6 ∷ f 8 ∷ f 7 ∷ f 10 ∷ f 9 ∷ f 11 ∷ f 10 ∷ []) (h 0 (omega arith)) (h 1 (omega arith)) (h 2 (omega arith))
+    ∙ ap (λ (t : List ℕ). spread f 0 t)
+    (group_in (f 3) (f 4) (f 5) 4 (f 7 ∷ f 6 ∷ f 8 ∷ f 7 ∷ f 10 ∷ f 9 ∷ f 11 ∷ f 10 ∷ []) (h 3 (omega arith)) (h 4 (omega arith)) (h 5 (omega arith))
+    ∙ ap (λ (t : List ℕ). spread f 3 t)
+    (group_in (f 6) (f 7) (f 8) 2 (f 10 ∷ f 9 ∷ f 11 ∷ f 10 ∷ []) (h 6 (omega arith)) (h 7 (omega arith)) (h 8 (omega arith))
+    ∙ ap (λ (t : List ℕ). spread f 6 t)
     (group_in (f 9) (f 10) (f 11) 0 [] (h 9 (omega arith)) (h 10 (omega arith)) (h 11 (omega arith)))))
 
+-- the lanes of the groups from index k on
+abbrev laned : (ℕ → ℕ) → ℕ → List ℕ → List ℕ
+laned f k rest = lane 10 16 (pair (f k) (f (k + 1))) ∷ lane 6 256 (pair (f (k + 1)) (f (k + 2))) ∷ rest
+
 four_out : (f : ℕ → ℕ) → ((k : ℕ) → k < 12 → f k < 256)
-    → digits_l 256 16 (number_l 4294967296 (lane (group (f 0) (f 1) (f 2)) ∷ lane (group (f 3) (f 4) (f 5)) ∷ lane (group (f 6) (f 7) (f 8)) ∷ lane (group (f 9) (f 10) (f 11)) ∷ [])) ≡ six_bits (take 12 (listed f 16))
+    → digits_l 256 16 (number_l 65536 (laned f 0 (laned f 3 (laned f 6 (laned f 9 []))))) ≡ six_bits (take 12 (listed f 16))
 four_out f h =
     let one = λ (n y : ℕ). group_out (f 0) (f 1) (f 2) n y (h 0 (omega arith)) (h 1 (omega arith)) (h 2 (omega arith)) in
     let two = λ (n y : ℕ). group_out (f 3) (f 4) (f 5) n y (h 3 (omega arith)) (h 4 (omega arith)) (h 5 (omega arith)) in
     let three = λ (n y : ℕ). group_out (f 6) (f 7) (f 8) n y (h 6 (omega arith)) (h 7 (omega arith)) (h 8 (omega arith)) in
     let four = λ (n y : ℕ). group_out (f 9) (f 10) (f 11) n y (h 9 (omega arith)) (h 10 (omega arith)) (h 11 (omega arith)) in
-    let d = number_l 4294967296 (lane (group (f 9) (f 10) (f 11)) ∷ []) in
-    let c = number_l 4294967296 (lane (group (f 6) (f 7) (f 8)) ∷ lane (group (f 9) (f 10) (f 11)) ∷ []) in
-    let b = number_l 4294967296 (lane (group (f 3) (f 4) (f 5)) ∷ lane (group (f 6) (f 7) (f 8)) ∷ lane (group (f 9) (f 10) (f 11)) ∷ []) in
+    let d = number_l 65536 (laned f 9 []) in
+    let c = number_l 65536 (laned f 6 (laned f 9 [])) in
+    let b = number_l 65536 (laned f 3 (laned f 6 (laned f 9 []))) in
     one 12 b
     ∙ ap (λ (t : List ℕ). f 0 / 4 ∷ (f 0 % 4 * 16 + f 1 / 16) ∷ (f 1 % 16 * 4 + f 2 / 64) ∷ (f 2 % 64) ∷ t)
     (two 8 c
@@ -186,4 +200,4 @@ sixes_are v long fits = spelled (λ v. ((k : ℕ) → k < 12 → get_or v k 0 < 
     all : (f : ℕ → ℕ) → ((k : ℕ) → k < 12 → get_or (listed f 16) k 0 < 256) → sixes_of (listed f 16) ≡ six_bits (take 12 (listed f 16))
     all f h =
         let each : (k : ℕ) → k < 12 → f k < 256 = λ k lt. subst (λ (x : ℕ). x < 256) (get_or-map-range_with_len f 0 16 k k 0 (omega arith) (omega arith)) (h k lt) in
-        ap (λ (g : List ℕ). digits_l 256 16 (number_l 4294967296 (lanes_of g))) (four_in f each) ∙ four_out f each
+        ap (λ (g : List ℕ). digits_l 256 16 (number_l 65536 (lanes_of g))) (four_in f each) ∙ four_out f each

@@ -18,8 +18,14 @@ static SHIFTS: [u8; 16] = [
     71, 252, 252, 252, 252, 252, 252, 252, 252, 252, 252, 237, 240, 65, 0, 0,
 ];
 
-/// The bytes of four groups of three, each with the last byte first, and the first byte twice.
-const GROUPS: [usize; 16] = [2, 1, 0, 0, 5, 4, 3, 3, 8, 7, 6, 6, 11, 10, 9, 9];
+/// The bytes of four groups of three, each as two numbers of 16 bits: the second byte below the first, and the third below the second.
+const GROUPS: [usize; 16] = [1, 0, 2, 1, 4, 3, 5, 4, 7, 6, 8, 7, 10, 9, 11, 10];
+
+/// By how many bits the first and the third six bits of a group are moved down, to the lower byte.
+const DOWN: [u16; 8] = [10, 6, 10, 6, 10, 6, 10, 6];
+
+/// What moves the second and the fourth six bits up, to the upper byte.
+const UP: [u16; 8] = [16, 256, 16, 256, 16, 256, 16, 256];
 
 /// The length of the Base64 of bytes.
 #[inline(always)]
@@ -34,14 +40,12 @@ pub fn base64_len(bytes: &[u8]) -> usize
 fn sixes_of(v: u8x16) -> u8x16
     ensures { result ≡ six_bits (take 12 v) }
 {
-    let groups = u32x4::from_le_bytes(v.swizzle::<16>(GROUPS));
-    let six = u32x4::splat(63);
-    let first = (groups >> u32x4::splat(18)) & six;
-    let second = (groups >> u32x4::splat(12)) & six;
-    let third = (groups >> u32x4::splat(6)) & six;
-    let fourth = groups & six;
-    ((first + (second << u32x4::splat(8)))
-        + ((third << u32x4::splat(16)) + (fourth << u32x4::splat(24)))).to_le_bytes()
+    let groups = u16x8::from_le_bytes(v.swizzle::<16>(GROUPS));
+    let six = u16x8::splat(63);
+    let byte = u16x8::splat(8);
+    let lower = (groups >> u16x8::from_array(DOWN)) & six;
+    let upper = ((groups * u16x8::from_array(UP)) >> byte) & six;
+    (lower + (upper << byte)).to_le_bytes()
 }
 
 /// The digits of sixteen numbers of six bits.

@@ -1,4 +1,5 @@
 mod SelectionLemmas
+mod AscendingLemmas
 mod PassLemmas
 mod WalkLemmas
 mod CountingLemmas

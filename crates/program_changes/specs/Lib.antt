@@ -4,3 +4,4 @@ pub mod LogWalks
 pub mod Counting
 pub mod Findings
 pub mod WalkedStops
+pub mod AscendingPositions

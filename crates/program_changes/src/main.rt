@@ -6,6 +6,7 @@
 
 mod changes;
 mod check;
+mod laws;
 mod positions;
 mod run;
 mod selection;

@@ -1,29 +1,48 @@
 use Rattle.std.proofs.Common.{rules, arith, refl, ◌≡◌, ◌<◌, ◌≤◌, length}
 use Rattle.rows_cells.specs.RowViews.{row_shape}
 use Rattle.feed_change_log.proofs.CheckedRowLemmas.{no_rows_yet, row_passes, rows_pass, row_fails, empty_row_fails}
+use Rattle.changes_lines.specs.TableColumns.{columns_in}
+use Rattle.changes_lines.proofs.ReadRowLemmas.{row_has_texts, adds_row, adds_both, adds_all}
 use Rattle.changes_lines.proofs.rows.put_rows.Goals as goal
 
 pub loop-rest-init : goal.loop-rest-init
-loop-rest-init c = c.in-Ok.ensures.rows c.args.rows_data.now (no_rows_yet (row_shape c.args.plan) c.args.rows_data.now)
+loop-rest-init c = record {
+  texts = c.in-Ok.ensures.rows c.args.rows_data.now (no_rows_yet (row_shape c.args.plan) c.args.rows_data.now);
+  json = c.in-Ok.ensures.json;
+}
 
 pub returns-in-Err-put_row-clause-err : goal.returns-in-Err-put_row-clause-err
 returns-in-Err-put_row-clause-err c =
     let some : 0 < length c.loop-rest.rest.now = search (arith, rules) in
-    row_fails (row_shape c.args.plan) c.args.rows_data.now c.loop-rest.rest.now _ some c.loop-rest.invariant (rw (← c.row_verdict.ensures) at c.in-Err-put_row.ensures.err)
+    row_fails (row_shape c.args.plan) c.args.rows_data.now c.loop-rest.rest.now _ some c.loop-rest.invariant.texts (rw (← c.row_verdict.ensures) at c.in-Err-put_row.ensures.err)
 
 pub returns-then-next-rest-clause-err : goal.returns-then-next-rest-clause-err
 returns-then-next-rest-clause-err c =
     let some : 0 < length c.loop-rest.rest.now = search (arith, rules) in
     let long : length c.loop-rest.rest.now ≤ length c.in-Ok-put_row.next.now = search rules in
-    empty_row_fails (row_shape c.args.plan) c.args.rows_data.now c.loop-rest.rest.now c.in-Ok-put_row.next.now _ some c.loop-rest.invariant c.in-Ok-put_row.ensures.ok long refl
+    let row = c.in-Ok-put_row.ensures.ok in
+    empty_row_fails (row_shape c.args.plan) c.args.rows_data.now c.loop-rest.rest.now c.in-Ok-put_row.next.now _ some c.loop-rest.invariant.texts
+    (row_has_texts (columns_in c.args.columns) (row_shape c.args.plan) c.loop-rest.rest.now c.in-Ok-put_row.next.now row.json row.reads) long refl
 
 pub loop-rest-preserved : goal.loop-rest-preserved
 loop-rest-preserved c =
     let some : 0 < length c.loop-rest.rest.now = search (arith, rules) in
     let less : length c.in-Ok-put_row.next.now < length c.loop-rest.rest.now = search (arith, rules) in
-    c.in-Ok-put_first_rows.ensures.rows c.args.rows_data.now (row_passes (row_shape c.args.plan) c.args.rows_data.now c.loop-rest.rest.now c.in-Ok-put_row.next.now some c.loop-rest.invariant c.in-Ok-put_row.ensures.ok less)
+    let row = c.in-Ok-put_row.ensures.ok in
+    let texts = row_has_texts (columns_in c.args.columns) (row_shape c.args.plan) c.loop-rest.rest.now c.in-Ok-put_row.next.now row.json row.reads in
+    let one = adds_row (columns_in c.args.columns) (row_shape c.args.plan) _ _ _ c.loop-rest.rest.now c.in-Ok-put_row.next.now some row less refl c.in-Ok-end_row.ensures in
+    record {
+      texts = c.in-Ok-put_first_rows.ensures.rows c.args.rows_data.now (row_passes (row_shape c.args.plan) c.args.rows_data.now c.loop-rest.rest.now c.in-Ok-put_row.next.now some c.loop-rest.invariant.texts texts less);
+      json = adds_both (columns_in c.args.columns) (row_shape c.args.plan) _ _ _ c.args.rows_data.now c.loop-rest.rest.now c.in-Ok-put_first_rows.rest.now c.loop-rest.invariant.json
+          (adds_both (columns_in c.args.columns) (row_shape c.args.plan) _ _ _ c.loop-rest.rest.now c.in-Ok-put_row.next.now c.in-Ok-put_first_rows.rest.now one c.in-Ok-put_first_rows.ensures.json);
+    }
 
 pub returns-clause-ok : goal.returns-clause-ok
 returns-clause-ok c =
     let none : length c.loop-rest.rest.now ≡ 0 = search (arith, rules) in
-    rows_pass (row_shape c.args.plan) c.args.rows_data.now c.loop-rest.rest.now none c.loop-rest.invariant
+    rows_pass (row_shape c.args.plan) c.args.rows_data.now c.loop-rest.rest.now none c.loop-rest.invariant.texts
+
+pub returns-clause-json : goal.returns-clause-json
+returns-clause-json c =
+    let none : length c.loop-rest.rest.now ≡ 0 = search (arith, rules) in
+    adds_all (columns_in c.args.columns) (row_shape c.args.plan) _ _ c.args.rows_data.now c.loop-rest.rest.now none c.loop-rest.invariant.json

@@ -1,0 +1,55 @@
+-- What all lines of a transaction have, and the line of a whole transaction.
+use Rattle.std.proofs.Common.{◌≡◌, ◌<◌, ◌≤◌, ◌-◌, ℕ, Bool, true, false, List, [], ◌∷◌, ◌++◌, length, take, drop, map, Option, Some, None, Result, Ok, Err, refl, sym, ap, ◌∙◌, arith}
+use Rattle.std.specs.Prelude.{⊤, OnOk, codes, unwrap_or}
+use Rattle.std.specs.Borrow.{Bor}
+use Rattle.std.specs.Slice.{IsGetRangeResult}
+use Rattle.std.proofs.lemmas.List.{append-nil, length-drop, take_all}
+use Rattle.events_frames.specs.Headers.{Header}
+use Rattle.feed_checks.specs.Kinds.{Gtid}
+use Rattle.feed_text.specs.Buffers.{text_in}
+use Rattle.feed_transactions.specs.Changes.{Committed}
+use Rattle.changes_lines.specs.ChangeLines.{ChangeJson, change_objects, objects, transaction_line, with_ends}
+use Rattle.changes_lines.specs.Origins.{header_members, origin_members, AppendsOrigin}
+use Rattle.changes_lines.specs.RecordedLines.{HaveRows}
+use Rattle.changes_lines.specs.WrittenLines.{Begins}
+use Rattle.changes_lines.specs.declared.lines.Lines.{Lines}
+
+-- a fact whatever the result of a call
+pub on_any : {A E : Type 0} (r : Result ⊤ E) → A → OnOk r A
+on_any (Ok x) a = a
+on_any (Err e) a = tt
+
+-- the members of a changed row or a statement
+pub begun_alone : (s : Lines) (file : List ℕ) (t : Committed) (g : Option Gtid) (position : ℕ) (before : List ℕ) → s.by_transaction ≡ false → before ≡ [] → g ≡ t.gtid → position ≡ t.commit.log_pos → AppendsOrigin g file position before (text_in s.origin) → Begins s file t
+begun_alone s file t g position before plain none same at a =
+    record { gtid = a.gtid; is = rw (← same) a.is; begun = rw plain (a.appended ∙ ap (λ (l : List ℕ). l ++ origin_members a.gtid file position) none ∙ ap (origin_members a.gtid file) at) }
+
+-- those of a transaction
+pub begun_with_header : (s : Lines) (file : List ℕ) (t : Committed) (h : Header) (g : Option Gtid) (position : ℕ) (before mid : List ℕ) → s.by_transaction ≡ true → before ≡ [] → mid ≡ before ++ header_members h → h ≡ t.commit → g ≡ t.gtid → position ≡ t.commit.log_pos
+    → AppendsOrigin g file position mid (text_in s.origin) → Begins s file t
+begun_with_header s file t h g position before mid whole none first commit same at a = record {
+  gtid = a.gtid;
+  is = rw (← same) a.is;
+  begun = rw whole (
+      a.appended
+      ∙ ap (λ (l : List ℕ). l ++ origin_members a.gtid file position) (first ∙ ap (λ (l : List ℕ). l ++ header_members h) none ∙ ap header_members commit)
+      ∙ ap (λ (n : ℕ). header_members t.commit ++ origin_members a.gtid file n) at
+      );
+}
+
+-- the bytes after the first, if there is one
+pub rest_of : (xs : List ℕ) (o : Option (Bor (List ℕ))) (none got : Bor (List ℕ)) → IsGetRangeResult xs 1 (length xs) o → got ≡ unwrap_or o none → none.now ≡ [] → got.now ≡ drop 1 xs
+rest_of xs (Some x) none got h is empty =
+    ap (λ (r : Bor (List ℕ)). r.now) is ∙ h.0.2 ∙ take_all (length xs - 1) (drop 1 xs) (let long = length-drop 1 xs in omega (arith, long))
+rest_of [] None none got h is empty = ap (λ (r : Bor (List ℕ)). r.now) is ∙ empty
+rest_of (x ∷ xs) None none got h is empty = absurd (let e : false ≡ true = h.1 (omega arith, omega arith) in cc)
+
+-- the line of a transaction that has changes
+pub line_is : (members : List ℕ) (xs : List ChangeJson) → HaveRows xs → 0 < length (map (λ x. length x.rows) xs)
+    → transaction_line members (objects [] xs) ≡ (123 ∷ []) ++ (drop 1 members ++ (codes ",\"changes\":[" ++ (with_ends (codes "},") (codes "}") (objects [] xs) ++ codes "]}\n")))
+line_is members [] rows some = absurd (omega (arith, some))
+line_is members (x ∷ xs) rows some = of x.rows rows.0
+  where
+    of : (l : List (List ℕ)) → 0 < length l → (let os = map (λ row. x.front ++ ([] ++ (x.back ++ row))) l ++ objects [] xs in transaction_line members os ≡ (123 ∷ []) ++ (drop 1 members ++ (codes ",\"changes\":[" ++ (with_ends (codes "},") (codes "}") os ++ codes "]}\n"))))
+    of [] less = absurd (omega (arith, less))
+    of (row ∷ l) less = refl

@@ -1,0 +1,66 @@
+-- How the lines of a transaction are written, piece by piece.
+use Rattle.std.specs.Prelude.{◌≡◌, ⊤, ℕ, Bool, true, false, List, [], ◌∷◌, ◌++◌, map, codes, Option, Some, None, Result, Ok, Err, if◌then◌else◌}
+use Rattle.std.specs.Borrow.{Bor}
+use Rattle.feed_checks.specs.declared.verdict.Verdict.{Verdict}
+use Rattle.feed_transactions.specs.InterruptedWrites.{IsInterruptedWrite}
+use Rattle.feed_transactions.specs.Waiting.{WritesSome}
+use Rattle.feed_text.specs.Buffers.{text_in}
+use Rattle.feed_transactions.specs.Changes.{Committed}
+use Rattle.changes_lines.specs.ChangeLines.{ChangeJson, change_objects}
+use Rattle.changes_lines.specs.Origins.{IsGtidJson, header_members, origin_members}
+use Rattle.changes_lines.specs.declared.lines.Lines.{Lines}
+use Rattle.changes_lines.specs.declared.lines.Ends.{Ends}
+use Rattle.changes_lines.specs.declared.lines.Head.{Head}
+
+-- whether a line is a transaction
+abbrev pub is_by_transaction : Lines → Bool
+is_by_transaction s = s.by_transaction
+
+-- a text was put after the bytes that waited; or the writer failed after a prefix of both
+abbrev pub Puts : Option (List ℕ) → Option (List ℕ) → List ℕ → List ℕ → Bool → List ℕ → Result ⊤ Verdict → Type 0
+Puts old new before after failed text (Ok x) = WritesSome old new before text after
+Puts old new before after failed text (Err v) = IsInterruptedWrite old new (before ++ text) failed v
+
+-- what lines begin with
+abbrev pub head_text : Head → List ℕ
+head_text h = h.front.now ++ (h.origin.now ++ h.back.now)
+
+-- whether there are texts
+abbrev pub has_texts : List (List ℕ) → Bool
+has_texts [] = false
+has_texts (t ∷ ts) = true
+
+-- the end of a row that isn't the last: its own, or another
+abbrev pub end_of : Option (Bor (List ℕ)) → List ℕ
+end_of None = codes "}\n"
+end_of (Some end) = end.now
+
+-- the end of an object, by those after it, and by whether there are more after these
+abbrev pub end_before : List ℕ → List ℕ → Bool → List (List ℕ) → List ℕ
+end_before each last true os = each
+end_before each last false [] = last
+end_before each last false (o ∷ os) = each
+
+-- objects with their ends, before others or as the last
+unfoldable pub ends_before : List ℕ → List ℕ → Bool → List (List ℕ) → List ℕ
+ends_before each last more [] = []
+ends_before each last more (o ∷ os) = o ++ (end_before each last more os ++ ends_before each last more os)
+
+-- the objects of rows, with their ends, before others or as the last
+abbrev pub rows_text : Head → Ends → Bool → List (List ℕ) → List ℕ
+rows_text h e more rows = ends_before (end_of e.each) e.last.now more (map (λ row. head_text h ++ row) rows)
+
+-- the objects of a change with their ends, before others or as the last
+abbrev pub change_text : List ℕ → Ends → Bool → ChangeJson → List ℕ
+change_text origin e more x = ends_before (end_of e.each) e.last.now more (change_objects origin x)
+
+-- the members that all lines of a transaction have were made; `gtid` is the JSON of its GTID
+abbrev pub IsBegun : Lines → List ℕ → Committed → List ℕ → Type 0
+IsBegun s file t gtid =
+    text_in s.origin ≡ (if s.by_transaction then header_members t.commit ++ origin_members gtid file t.commit.log_pos else origin_members gtid file t.commit.log_pos)
+
+-- the same, with its GTID
+pub record Begins (s : Lines) (file : List ℕ) (t : Committed) : Type 0 where
+  pub gtid : List ℕ
+  pub is : IsGtidJson t.gtid gtid
+  pub begun : IsBegun s file t gtid
