@@ -1,14 +1,14 @@
 -- The JSON of the cell that bytes begin with.
-use Rattle.std.proofs.Common.{◌≡◌, ℕ, ℤ, Bool, subst, List, [], ◌++◌, take, length, false, Ok, Err, inl, inr, refl, sym, ap, ◌∙◌}
+use Rattle.std.proofs.Common.{◌≡◌, ℕ, ℤ, Bool, subst, List, [], ◌++◌, take, length, false, Ok, inr, sym, ap, ◌∙◌}
 use Rattle.std.proofs.Math.Seq.{take-length}
 use Rattle.rows_errors.specs.declared.fault.RowsError.{RowsError}
-use Rattle.rows_errors.specs.Readings.{Reading, ◌>>=◌}
+use Rattle.rows_errors.specs.Readings.{Reading}
 use Rattle.rows_jsonb.specs.DocumentTrees.{document_tree}
 use Rattle.rows_jsonb.specs.JsonTrees.{Tree}
 use Rattle.rows_cells.specs.declared.format.CellFormat.{CellFormat}
 use Rattle.rows_cells.specs.CellValues.{CellValue, null, bytes, int, uint, float, double, date, time, json, json_diffs}
 use Rattle.rows_cells.specs.Cells.{cell_at}
-use Rattle.feed_text.specs.CellText.{label, cell_text, cell_value_text, tree_text, cell_diffs_text, IsTextError}
+use Rattle.feed_text.specs.CellText.{label, cell_value_text, tree_text, cell_diffs_text, IsTextError}
 use Rattle.feed_text.specs.DirectText.{WritesDocument, IsDocumentError}
 use Rattle.feed_text.specs.DocumentForms.{AppendsUpdates}
 use Rattle.feed_text.specs.JsonText.{document_text}

@@ -1,5 +1,5 @@
 -- The integer that eight bytes begin with.
-use Rattle.std.proofs.Common.{◌≡◌, ℕ, zero, suc, ◌+◌, ◌-◌, ◌*◌, ◌/◌, ◌%◌, ◌^◌, ◌<◌, ◌≤◌, Bool, true, false, cond, ℤ, pos, negsuc, ◌-ℤ◌, List, length, take, drop, get_or, refl, sym, ap, ◌∙◌, arith, to_z, w64, Ok}
+use Rattle.std.proofs.Common.{◌≡◌, ℕ, zero, suc, ◌-◌, ◌*◌, ◌/◌, ◌%◌, ◌^◌, ◌<◌, ◌≤◌, Bool, true, false, cond, ℤ, pos, negsuc, ◌-ℤ◌, List, length, take, drop, get_or, refl, sym, ap, ◌∙◌, arith, to_z, w64, Ok}
 use Rattle.std.specs.Prelude.{nat_lt, if◌then◌else◌}
 use Rattle.std.specs.Int.Signed.{shr_z}
 use Rattle.std.proofs.lemmas.Bool.{ltb-true, ltb-false, le-leb}
@@ -8,7 +8,6 @@ use Rattle.std.proofs.Math.Facts.{to_z-neg}
 use Rattle.std.proofs.lemmas.List.{take-append-drop, length-take-le}
 use Rattle.byteorder.specs.Endian.{little_number, twos_complement}
 use Rattle.byteorder.specs.Numbers.{little_from-append}
-use Rattle.wire_buf.specs.Numbers.{little_signed}
 use Rattle.rows_cells.specs.declared.format.Width.{Width}
 use Rattle.rows_cells.specs.declared.format.Width.TheVariants.{One, Two, Three, Four, Eight}
 use Rattle.rows_cells.specs.declared.format.CellFormat.{CellFormat}
@@ -71,7 +70,7 @@ number_of_content n b h = sym (little_from-append n (take n b) (drop n b) (omega
 content_is : (n : ℕ) (b : List ℕ) → n ≤ length b → at_width n b ≡ Ok (take n b, drop n b)
 content_is n b h = rw (le-leb n (length b) h) refl
 
-pub signed_cell : (f : CellFormat) (w : Width) (b rest : List ℕ) (z : ℤ) → f ≡ Signed w → width_bytes w ≤ length b → z ≡ little_signed (width_bytes w) b → rest ≡ drop (width_bytes w) b → IsIntegerAt f b z rest
+pub signed_cell : (f : CellFormat) (w : Width) (b rest : List ℕ) (z : ℤ) → f ≡ Signed w → width_bytes w ≤ length b → z ≡ twos_complement (width_bytes w) (little_number (width_bytes w) b) → rest ≡ drop (width_bytes w) b → IsIntegerAt f b z rest
 unfolding cell_at
 signed_cell f w b rest z form h is after = record {
   value = int z;

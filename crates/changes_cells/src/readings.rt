@@ -9,8 +9,7 @@ ghost use Rattle.rows_cells.specs.declared.format.CellFormat.TheVariants.{Float,
 ghost use Rattle.rows_cells.specs.CellValues.{bytes as bytes_value, float, double, new_date, old_time, old_datetime, timestamp_text};
 ghost use Rattle.rows_cells.specs.Cells.{cell_at};
 ghost use Rattle.rows_cells.specs.CellSizes.{width_bytes};
-ghost use Rattle.byteorder.specs.Endian.{little_number};
-ghost use Rattle.wire_buf.specs.Numbers.{little_signed};
+ghost use Rattle.byteorder.specs.Endian.{little_number, twos_complement};
 ghost use Rattle.changes_cells.specs.FieldJson.{IsIntegerAt};
 
 use byteorder::{ByteOrder, LittleEndian};
@@ -117,7 +116,7 @@ fn highest_bits(bytes: &[u8], width: Width) -> (u64, u32)
 #[inline(always)]
 fn signed_of_eight(bytes: &[u8], width: Width) -> i64
     requires { 8 ≤ length bytes.now }
-    ensures { result ≡ little_signed (width_bytes width) bytes.now }
+    ensures { result ≡ twos_complement (width_bytes width) (little_number (width_bytes width) bytes.now) }
 {
     let (bits, unused) = highest_bits(bytes, width);
     bits.cast_signed() >> unused

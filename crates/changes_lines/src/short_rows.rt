@@ -31,6 +31,16 @@ struct ShortRow<'c, 'p, 'a> {
     bytes: &'a [u8],
 }
 
+/// Writes the room of a key. It is copied first: a value can't overlap the text.
+#[inline(always)]
+fn put_whole(text: &mut [u8], at: usize, label: [u8; LABEL_LEN]) -> usize
+    requires { at + 32 ≤ length text.old }
+    ensures end { result ≡ at + 32 }
+    ensures text { take result text.new ≡ take at text.old ++ label }
+{
+    put_bytes(text, at, &label)
+}
+
 /// Writes the key of a column, if it is short.
 #[inline(always)]
 fn put_label(text: &mut [u8], at: usize, column: &ShownColumn) -> Option<usize>
@@ -44,7 +54,7 @@ fn put_label(text: &mut [u8], at: usize, column: &ShownColumn) -> Option<usize>
     if len > LABEL_LEN {
         return None;
     }
-    let _end = put_bytes(text, at, &column.label);
+    let _end = put_whole(text, at, column.label);
     Some(at + len)
 }
 

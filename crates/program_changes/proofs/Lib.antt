@@ -3,3 +3,4 @@ mod AscendingLemmas
 mod PassLemmas
 mod WalkLemmas
 mod CountingLemmas
+pub mod LineSinkLemmas

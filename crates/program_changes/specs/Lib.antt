@@ -5,3 +5,4 @@ pub mod Counting
 pub mod Findings
 pub mod WalkedStops
 pub mod AscendingPositions
+pub mod LineSinks

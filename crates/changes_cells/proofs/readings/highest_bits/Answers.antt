@@ -1,4 +1,4 @@
-use Rattle.std.proofs.Common.{ℕ, ◌≡◌, ◌-◌, ◌*◌, ◌%◌, ◌^◌, ap, sym, ◌∙◌, rules}
+use Rattle.std.proofs.Common.{◌≡◌, ◌-◌, ◌*◌, ◌%◌, ◌^◌, ap, sym, ◌∙◌, rules}
 use Rattle.rows_cells.specs.CellSizes.{width_bytes}
 use Rattle.byteorder.specs.Endian.{little_number}
 use Rattle.changes_cells.proofs.WordLemmas.{highest}

@@ -1,7 +1,6 @@
-use Rattle.std.proofs.Common.{◌≡◌, ◌≤◌, ℤ, pos, length, drop, ap, ◌∙◌, arith, rules}
+use Rattle.std.proofs.Common.{drop, ap, ◌∙◌, arith, rules}
 use Rattle.std.proofs.lemmas.Int.{to_z-of_z}
 use mir.Syntax.{w64}
-use Rattle.rows_cells.specs.CellSizes.{width_bytes}
 use Rattle.changes_cells.proofs.WordLemmas.{signed_cell, unsigned_cell}
 use Rattle.changes_cells.proofs.readings.read_integer.Goals as goal
 

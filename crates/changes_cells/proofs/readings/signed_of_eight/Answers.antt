@@ -1,5 +1,5 @@
 use mir.Val.{of_z}
-use Rattle.std.proofs.Common.{ℕ, ◌≡◌, ◌-◌, ◌*◌, ◌^◌, ap, ◌∙◌, rules, to_z, w64}
+use Rattle.std.proofs.Common.{◌*◌, ◌^◌, ap, ◌∙◌, rules, to_z, w64}
 use Rattle.std.specs.Int.Signed.{shr_z}
 use Rattle.std.proofs.lemmas.Int.{to_z-of_z}
 use Rattle.rows_cells.specs.CellSizes.{width_bytes}

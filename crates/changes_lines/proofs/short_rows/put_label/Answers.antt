@@ -7,5 +7,4 @@ returns-clause-text c =
     let within : c.args.at ≤ length c.args.text.now = (let r = c.requires in omega (arith, r)) in
     let few : length c.args.column.now.key.items ≤ 32 = search (arith, rules) in
     let len : c.len-len.result ≡ length c.args.column.now.key.items = search rules in
-    let is : c.put_bytes-end.result ≡ c.args.at + 32 = search (arith, rules) in
-    rw len (label_written c.args.at (length c.args.column.now.key.items) c.put_bytes-end.result c.args.text.now c.put_bytes-end.new.text c.args.column.now.label c.args.column.now.key.items within few is c.put_bytes-end.ensures.text (c.args.column.now.label_is few))
+    rw len (label_written c.args.at (length c.args.column.now.key.items) c.put_whole-end.result c.args.text.now c.put_whole-end.new.text c.args.column.now.label c.args.column.now.key.items within few c.put_whole-end.ensures.end c.put_whole-end.ensures.text (c.args.column.now.label_is few))
