@@ -92,6 +92,8 @@ CELLS = [
     ((5, b"\x08"), struct.pack("<d", 1e300), "1e300"),
     ((5, b"\x08"), struct.pack("<d", -0.0), "-0.0"),
 ]
+# The bytes of a format description before the post-header lengths of the event types.
+BEFORE_LENGTHS = 57
 
 
 def log_of(write):
@@ -120,6 +122,20 @@ def tagged(log):
     """Writes a transaction with a tagged GTID."""
     log.event(events.TAGGED_GTID, TAGGED)
     log.query(b"shop", b"CREATE TABLE t (a INT)")
+
+
+def short_ids(log):
+    """Writes rows of two tables. Table maps have a post-header length of 6, as MySQL before 5.1 wrote: ids of four bytes."""
+    log.position = log.file.seek(len(events.MAGIC))
+    description = bytearray(logs.GENERATE.description_body(log.algorithm))
+    description[BEFORE_LENGTHS + events.TABLE_MAP - 1] = 6
+    log.event(events.FORMAT_DESCRIPTION, bytes(description))
+    log.begin(b"shop")
+    for name in (b"t", b"u"):
+        body = logs.GENERATE.map_body(7, b"shop", name, [3], b"")
+        log.event(events.TABLE_MAP, body[:4] + body[6:])
+        log.event(events.WRITE_ROWS, logs.GENERATE.rows_start(7, 1) + b"\0" + struct.pack("<i", 1))
+    log.commit()
 
 
 def names(*all_names):
@@ -159,6 +175,7 @@ def exact(program, folder):
     data = container(DOCUMENT)
     compare(program, folder, row_of([(245, b"\4")], [struct.pack("<I", len(data)) + data]), f'"data":{{"@0":{DOCUMENT_TEXT}}}')
     compare(program, folder, tagged, f'"gtid":"{UUID}:{TAG}:1"')
+    compare(program, folder, short_ids, '"table":"u"')
     for column, cell, text in CELLS:
         compare(program, folder, row_of([column], [cell]), f'"data":{{"@0":{text}}}')
     numbers = [(3, b""), (3, b"")], [struct.pack("<i", 1), struct.pack("<i", 2)]
@@ -177,4 +194,4 @@ def exact(program, folder):
     quoted = [(8, b""), (3, b"")], [struct.pack("<q", 2**53 + 1), struct.pack("<i", -1)]
     compare(program, folder, row_of(*quoted), '"data":{"@0":"9007199254740993","@1":-1}', "--numbers-as-strings")
     compare(program, folder, row_of(*quoted), '"data":{"@0":9007199254740993,"@1":-1}')
-    return 2 + len(CELLS) + 7 + 3 + 2
+    return 3 + len(CELLS) + 7 + 3 + 2
