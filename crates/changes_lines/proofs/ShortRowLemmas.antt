@@ -150,13 +150,3 @@ before_object t cells at before after rest end within w =
           ∙ take-append-le at (take at before) (members_json t w.json) (let n = length-take-le at before within in omega (arith, n))
           ∙ take-take at at before (omega arith),
     )
-
--- a label's first bytes were written with the others
-pub label_written : (at n end : ℕ) (old new label key : List ℕ) → at ≤ length old → n ≤ 32 → end ≡ at + 32 → take end new ≡ take at old ++ label → take n label ≡ key → take (at + n) new ≡ take at old ++ key
-label_written at n end old new label key within few is written first =
-    let long = length-take-le at old within in
-    sym (take-take (at + n) end new (omega (arith, few, is)))
-    ∙ ap (take (at + n)) written
-    ∙ ap (λ (k : ℕ). take (k + n) (take at old ++ label)) (sym long)
-    ∙ take-append-add (take at old) label n
-    ∙ ap (λ (l : List ℕ). take at old ++ l) first

@@ -7,9 +7,13 @@ use Rattle.feed_transactions.specs.TransactionTexts.{uuid_text}
 use Rattle.changes_writers.specs.Base64Texts.{base64_object}
 use Rattle.changes_tables.specs.MemberTexts.{utf8_json}
 
+-- a time and a server
+abbrev pub time_members : ℕ → ℕ → List ℕ
+time_members timestamp server_id = codes ",\"ts\":" ++ (decimal timestamp ++ (codes ",\"server_id\":" ++ decimal server_id))
+
 -- the time and the server of an event
 abbrev pub header_members : Header → List ℕ
-header_members h = codes ",\"ts\":" ++ (decimal h.timestamp ++ (codes ",\"server_id\":" ++ decimal h.server_id))
+header_members h = time_members h.timestamp h.server_id
 
 -- a GTID with a tag
 pub record TaggedGtid : Type 0 where

@@ -2,6 +2,7 @@
 #![tactic(auto)]
 
 mod columns;
+mod header_text;
 mod images;
 mod lines;
 mod members;

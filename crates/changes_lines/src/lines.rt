@@ -10,7 +10,8 @@ ghost use Rattle.changes_lines.specs.RecordedLines.{HasChanges, IsDoneJson, chan
 ghost use Rattle.changes_lines.specs.TextLists.{AreLeft, ended};
 ghost use Rattle.changes_lines.specs.WrittenLines.{Puts, change_text, end_of, has_texts, head_text, rows_text};
 
-use crate::origin::{put_header, put_origin};
+use crate::header_text::HeaderText;
+use crate::origin::put_origin;
 use crate::recorder::JsonRecorder;
 use crate::rows::END;
 use crate::text_list::Texts;
@@ -242,7 +243,7 @@ impl Lines {
         if !self.by_transaction {
             return put_origin(transaction.gtid(), file, position, &mut self.origin);
         }
-        put_header(header, &mut self.origin)?;
+        HeaderText::new(header.timestamp(), header.server_id()).put(header, &mut self.origin)?;
         put_origin(transaction.gtid(), file, position, &mut self.origin)
     }
 

@@ -2,16 +2,14 @@
 
 ghost use Rattle.std.specs.Prelude.{◌≡◌, ◌++◌, ◌∷◌, Some, OnOk, option_map};
 ghost use Rattle.hex.specs.Hex.{encode_lower};
-ghost use Rattle.events_frames.specs.Headers.{event_header_of};
 ghost use Rattle.feed_checks.specs.KindViews.{gtid_view};
 ghost use Rattle.feed_checks.specs.Kinds.{Tagged};
 ghost use Rattle.feed_text.specs.Buffers.{text_in};
 ghost use Rattle.feed_transactions.specs.TransactionTexts.{uuid_text};
-ghost use Rattle.changes_lines.specs.Origins.{AppendsGtid, AppendsOrigin, header_members};
+ghost use Rattle.changes_lines.specs.Origins.{AppendsGtid, AppendsOrigin};
 
 use crate::tagged_gtid::TaggedGtid;
 use crate::utf8::{put_base64, put_utf8};
-use events_frames::BinlogEventHeader;
 use feed_checks::Gtid;
 use feed_text::TextBuffer;
 use std::alloc::{AllocError, Allocator};
@@ -71,19 +69,6 @@ pub fn put_gtid<A: Allocator>(
         Some(Gtid::Tagged(body)) => put_tagged(body, text),
         Some(Gtid::Anonymous) | None => text.put_text(b"null"),
     }
-}
-
-/// Appends the members with the time of an event and the id of its server, each after a comma.
-pub(crate) fn put_header<A: Allocator>(
-    header: BinlogEventHeader,
-    text: &mut TextBuffer<A>,
-) -> Result<(), AllocError>
-    ensures { OnOk result (text_in text.new ≡ text_in text.old ++ header_members (event_header_of header)) }
-{
-    text.put_text(b",\"ts\":")?;
-    text.put_number(u64::from(header.timestamp()))?;
-    text.put_text(b",\"server_id\":")?;
-    text.put_number(u64::from(header.server_id()))
 }
 
 /// Appends the members that all lines of a transaction have, each after a comma: its GTID, its file and its position.

@@ -14,5 +14,5 @@ returns-then-not-self-clause-ok c =
 
 pub returns-clause-ok : goal.returns-clause-ok
 returns-clause-ok c =
-    on_ok_weaker c.put_origin-2.result (λ a t d. begun_with_header _ c.args.file.now t (event_header_of c.commit_header-header.result) (option_map gtid_view c.gtid-2.result) c.log_pos-position.result (text_in c.clear.new.self) (text_in c.put_header.new.text) c.if-not-self.false c.clear.ensures c.in_ok-put_header.ensures
+    on_ok_weaker c.put_origin-2.result (λ a t d. begun_with_header _ c.args.file.now t (event_header_of c.commit_header-header.result) (option_map gtid_view c.gtid-2.result) c.log_pos-position.result (text_in c.clear.new.self) (text_in c.put.new.text) c.if-not-self.false c.clear.ensures c.in_ok-put.ensures.ok
     (c.commit_header-header.ensures t d) (c.gtid-2.ensures ∙ d.opened.gtid) (c.log_pos-position.ensures ∙ ap (λ h. h.log_pos) (c.commit_header-header.ensures t d)) a) c.put_origin-2.ensures
