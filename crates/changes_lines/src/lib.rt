@@ -4,17 +4,21 @@
 mod columns;
 mod images;
 mod lines;
+mod little_endian;
 mod members;
+mod numbered_rows;
 mod origin;
 mod recorder;
 mod rows;
 mod short_rows;
 mod tagged_gtid;
 mod text_list;
+mod told;
 mod updates;
 mod utf8;
 
 pub use lines::Lines;
 pub use origin::put_gtid;
 pub use recorder::JsonRecorder;
+pub use told::AddedMembers;
 pub use utf8::put_utf8;

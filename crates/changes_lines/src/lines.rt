@@ -239,11 +239,11 @@ impl Lines {
         let header = transaction.commit_header();
         let position = header.log_pos();
         self.origin.clear();
-        if !self.by_transaction {
-            return put_origin(transaction.gtid(), file, position, &mut self.origin);
+        if self.by_transaction {
+            put_header(header, &mut self.origin)?;
         }
-        put_header(header, &mut self.origin)?;
-        put_origin(transaction.gtid(), file, position, &mut self.origin)
+        put_origin(transaction.gtid(), file, position, &mut self.origin)?;
+        transaction.put_added(&mut self.origin)
     }
 
     /// Writes the lines of the transaction that was begun.

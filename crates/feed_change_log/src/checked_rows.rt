@@ -137,7 +137,7 @@ fn check_images<'a>(
     check_image(alloc, second, rest, scratch)
 }
 
-/// Reads all rows of an event with these columns. `scratch` is a buffer.
+/// Reads all rows of an event with these columns, and returns their number. `scratch` is a buffer.
 ///
 /// - `Row`: a row can't be read, can't be printed, or takes no bytes.
 /// - `Memory`: out of memory.
@@ -146,17 +146,19 @@ pub fn check_rows(
     plan: RowPlan<'_>,
     rows_data: &[u8],
     scratch: &mut TextBuffer<Global>,
-) -> Result<(), Verdict>
+) -> Result<usize, Verdict>
     ensures ok { OnOk result (HaveTexts (row_shape plan.entry) rows_data.now) }
     ensures err { IfErr result (IsRowsError (rows_texts_at (row_shape plan.entry) rows_data.now)) }
 {
     let mut rest = rows_data;
+    let mut rows = 0usize;
     while !rest.is_empty() {
         let next = check_images(alloc, plan, rest, scratch)?;
         if next.len() >= rest.len() {
             return Err(Verdict::Row);
         }
         rest = next;
+        rows = rows.saturating_add(1);
     }
-    Ok(())
+    Ok(rows)
 }
