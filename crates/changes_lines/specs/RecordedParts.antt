@@ -1,6 +1,5 @@
 -- What the code has of names and tables, for the lines of a transaction.
-use Rattle.std.specs.Prelude.{◌≡◌, ℕ, List, [], ◌∷◌, ◌++◌, map, codes, Option, None}
-use Rattle.std.specs.Borrow.{Bor}
+use Rattle.std.specs.Prelude.{◌≡◌, ℕ, List, [], ◌∷◌, ◌++◌, codes, Option, None}
 use Rattle.events_frames.specs.Headers.{Header}
 use Rattle.rows_event_body.specs.declared.rows_event_type.RowImages.{RowImages}
 use Rattle.feed_checks.specs.BodyReaders.{table_map_in}
@@ -14,10 +13,6 @@ use Rattle.changes_lines.specs.Origins.{header_members}
 abbrev pub usual_map : List ℕ → Option TableMap
 usual_map [] = None
 usual_map (b ∷ bs) = table_map_in 8 (b ∷ bs)
-
--- lists of the same names
-abbrev pub AreSame : List (Bor (List ℕ)) → List (Bor (List ℕ)) → Type 0
-AreSame names others = map (λ n. n.now) names ≡ map (λ n. n.now) others
 
 -- what the lines of the rows of an event begin with
 abbrev pub front_of : RowImages → ShownTable → Header → List ℕ

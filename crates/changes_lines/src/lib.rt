@@ -4,7 +4,6 @@
 mod columns;
 mod images;
 mod lines;
-mod little_endian;
 mod members;
 mod numbered_rows;
 mod origin;

@@ -3,8 +3,6 @@
 //! its number: the flags, the UUID, the number of the transaction, the tag, two logical timestamps, the time of the commit in microseconds,
 //! and others.
 
-use crate::little_endian::little_endian;
-
 /// The version of the format.
 const VERSION: u64 = 1;
 
@@ -15,6 +13,15 @@ pub(crate) struct TaggedGtid<'a> {
     pub(crate) tag: &'a [u8],
     /// The number of the transaction.
     pub(crate) number: u64,
+}
+
+/// The number in little-endian order of up to eight bytes.
+fn little_endian(bytes: &[u8]) -> u64 {
+    let mut number = 0u64;
+    for byte in bytes.iter().rev() {
+        number = number % 0x100_0000_0000_0000 * 256 + u64::from(*byte);
+    }
+    number
 }
 
 /// The integer that the bytes begin with, and the remaining bytes. The ones at the end of its first byte count the bytes that follow; the

@@ -6,7 +6,7 @@ ghost use Rattle.rows_cells.specs.ImageViews.{image_shape, cells_count};
 ghost use Rattle.rows_cells.specs.RowViews.{row_shape};
 ghost use Rattle.feed_text.specs.CellText.{cell_text};
 ghost use Rattle.feed_transactions.specs.RowLines.{IsRowError, IsRowsError, image_text_at, images_texts_at, rows_texts_at};
-ghost use Rattle.feed_change_log.specs.CheckedRows.{is_document, HasCellText, Passes, PassesNext, IsNextError, IsDocumentError, HasImageText, HasImageTexts, HaveTexts};
+ghost use Rattle.feed_change_log.specs.CheckedRows.{is_document, HasCellText, Passes, PassesNext, IsNextError, IsDocumentError, HasImageText, HasImageTexts, HaveTexts, rows_count};
 
 use feed_checks::Verdict;
 use feed_text::TextBuffer;
@@ -148,6 +148,7 @@ pub fn check_rows(
     scratch: &mut TextBuffer<Global>,
 ) -> Result<usize, Verdict>
     ensures ok { OnOk result (HaveTexts (row_shape plan.entry) rows_data.now) }
+    ensures count { IfOk result (λ rows. rows ≡ rows_count (row_shape plan.entry) rows_data.now) }
     ensures err { IfErr result (IsRowsError (rows_texts_at (row_shape plan.entry) rows_data.now)) }
 {
     let mut rest = rows_data;
@@ -158,7 +159,7 @@ pub fn check_rows(
             return Err(Verdict::Row);
         }
         rest = next;
-        rows = rows.saturating_add(1);
+        rows += 1;
     }
     Ok(rows)
 }
