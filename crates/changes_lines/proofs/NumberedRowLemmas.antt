@@ -47,11 +47,9 @@ numbered_row t shapes old some mid new bytes rest after n m own more a r less sa
 
 -- all rows were added
 pub numbered_all : (t : List ColumnView) (shapes : List ImageShape) (old new : TextList) (bytes rest : List ℕ) (n m : ℕ) → length rest ≡ 0 → AddsNumbered t shapes old bytes n rest m new → AddsAllRows t shapes bytes (Some n) old new
-unfolding numbered_by
 numbered_all t shapes old new bytes rest n m none a =
     record { json = a.json; are = all_read t shapes bytes rest a.json none (a.reads bytes [] (none_read_yet t shapes bytes)); adds = a.adds }
 
 -- without numbers
 pub plain_all : (t : List ColumnView) (shapes : List ImageShape) (old new : TextList) (bytes : List ℕ) → AddsAllRead t shapes bytes old new → AddsAllRows t shapes bytes None old new
-unfolding numbered_by
 plain_all t shapes old new bytes a = record { json = a.json; are = a.are; adds = a.adds }

@@ -1,5 +1,5 @@
 -- The JSON lines of a committed transaction: an object of RFC 8259 for each changed row and each statement, or one for the whole transaction.
-use Rattle.std.specs.Prelude.{◌≡◌, ℕ, Bool, true, false, List, [], ◌∷◌, ◌++◌, length, drop, map, codes, Option, Ok}
+use Rattle.std.specs.Prelude.{◌≡◌, ◌+◌, ℕ, Bool, true, false, List, [], ◌∷◌, ◌++◌, length, drop, map, codes, Option, Ok}
 use Rattle.std.specs.List.{AllZip, flat_map}
 use Rattle.events_frames.specs.Headers.{Header}
 use Rattle.events_frames.specs.QueryTexts.{StatementTexts}
@@ -49,8 +49,18 @@ rows_back (b ∷ bs) query = 44 ∷ ((b ∷ bs) ++ (query ++ codes ",\"data\":")
 abbrev pub key_of : TableMap → List ℕ
 key_of m = key_member (column_names m) (key_columns (length m.column_types) (used_metadata m).key)
 
--- The rows of an event under its table map. Of the members that are asked for it isn't stated here which statement changed the rows, and how many rows the transaction has before these.
-pub record IsRowsJson (options : TableOptions) (added : AddedMembers) (h : Header) (m : TableMap) (r : RowsBody) (x : ChangeJson) : Type 0 where
+-- how many rows a change has; a statement counts as one
+abbrev pub rows_of : Content → ℕ
+rows_of (OfRows m r) = length (event_rows r (plan_by m)).items
+rows_of (OfStatement q) = 1
+
+-- the same of changes
+abbrev pub rows_of_all : List EventChange → ℕ
+rows_of_all [] = 0
+rows_of_all (c ∷ cs) = rows_of c.content + rows_of_all cs
+
+-- The rows of an event under its table map, after so many rows of its transaction. Of the members that are asked for it isn't stated here which statement changed the rows.
+pub record IsRowsJson (options : TableOptions) (added : AddedMembers) (before : ℕ) (h : Header) (m : TableMap) (r : RowsBody) (x : ChangeJson) : Type 0 where
   pub columns : List ColumnView
   pub shown : ∥ AllZip (IsColumn options) (column_parts m) columns ∥₁
   pub shapes : List ImageShape
@@ -58,29 +68,30 @@ pub record IsRowsJson (options : TableOptions) (added : AddedMembers) (h : Heade
   pub front : x.front ≡ rows_front (images_of r.event_type) m h
   pub query : Option (List ℕ)
   pub back : x.back ≡ rows_back (key_of m) (query_member added.query query)
-  pub before : ℕ
   pub plain : List (List ℕ)
   pub rows : AreRowsJson columns shapes (event_rows r (plan_by m)).items plain
   pub numbered : x.rows ≡ numbered_if added.row before plain
 
--- A statement, with its default schema. Which number it has isn't stated here.
-pub record IsStatementJson (added : AddedMembers) (h : Header) (q : StatementTexts) (x : ChangeJson) : Type 0 where
+-- a statement, with its default schema, after so many rows of its transaction
+pub record IsStatementJson (added : AddedMembers) (before : ℕ) (h : Header) (q : StatementTexts) (x : ChangeJson) : Type 0 where
   pub front : x.front ≡ codes "{\"type\":\"statement\",\"database\":" ++ (utf8_json q.schema ++ header_members h)
   pub back : x.back ≡ codes ",\"sql\":"
-  pub number : ℕ
-  pub rows : x.rows ≡ (utf8_json q.query ++ row_member_if added.row number) ∷ []
+  pub rows : x.rows ≡ (utf8_json q.query ++ row_member_if added.row (before + 1)) ∷ []
 
-abbrev pub IsContentJson : TableOptions → AddedMembers → Header → Content → ChangeJson → Type 0
-IsContentJson options added h (OfRows m r) x = IsRowsJson options added h m r x
-IsContentJson options added h (OfStatement q) x = IsStatementJson added h q x
+abbrev pub IsContentJson : TableOptions → AddedMembers → ℕ → Header → Content → ChangeJson → Type 0
+IsContentJson options added before h (OfRows m r) x = IsRowsJson options added before h m r x
+IsContentJson options added before h (OfStatement q) x = IsStatementJson added before h q x
 
--- a change
-abbrev pub IsChangeJson : TableOptions → AddedMembers → EventChange → ChangeJson → Type 0
-IsChangeJson options added c x = IsContentJson options added c.header c.content x
+-- a change, which is among all changes of its transaction
+pub record IsChangeJson (options : TableOptions) (added : AddedMembers) (all : List EventChange) (c : EventChange) (x : ChangeJson) : Type 0 where
+  pub before : List EventChange
+  pub after : List EventChange
+  pub among : all ≡ before ++ c ∷ after
+  pub is : IsContentJson options added (rows_of_all before) c.header c.content x
 
--- changes, one by one
-abbrev pub AreChangesJson : TableOptions → AddedMembers → List EventChange → List ChangeJson → Type 0
-AreChangesJson options added cs xs = AllZip (IsChangeJson options added) cs xs
+-- some of a transaction's changes, one by one
+abbrev pub AreChangesJson : TableOptions → AddedMembers → List EventChange → List EventChange → List ChangeJson → Type 0
+AreChangesJson options added all cs xs = AllZip (IsChangeJson options added all) cs xs
 
 -- ---- lines
 
@@ -118,5 +129,5 @@ transaction_lines false file t gtid more xs = lines_of (objects (origin_members 
 -- The lines of a transaction's selected changes, with the members that are asked for. Which values its events have for these isn't stated here.
 abbrev pub AreLines : TableOptions → AddedMembers → Bool → List ℕ → Committed → List EventChange → List ℕ → Type 0
 AreLines options added by_transaction file t changes text =
-    (xs : List ChangeJson) × AreChangesJson options added changes xs
+    (xs : List ChangeJson) × AreChangesJson options added t.changes changes xs
     × ((gtid : List ℕ) × IsGtidJson t.gtid gtid × ((facts : TransactionFacts) × (text ≡ transaction_lines by_transaction file t gtid (transaction_members added facts) xs)))

@@ -1,5 +1,5 @@
 -- What a recorder of JSON lines has.
-use Rattle.std.specs.Prelude.{◌≡◌, ℕ, Bool, true, false, List, [], ◌∷◌, ◌++◌, length, map, Option, IsSomeAnd, Ok, ◌<◌, ⊤}
+use Rattle.std.specs.Prelude.{◌≡◌, ◌+◌, ℕ, Bool, true, false, List, [], ◌∷◌, ◌++◌, length, map, Option, IsSomeAnd, Ok, ◌<◌, ⊤}
 use Rattle.std.specs.List.{flat_map, filter}
 use Rattle.events_frames.specs.Headers.{Header, event_header_of}
 use Rattle.rows_cells.specs.Images.{ImageShape}
@@ -20,7 +20,7 @@ use Rattle.feed_transactions.specs.Changes.{EventChange, OfRows, Committed}
 use Rattle.feed_transactions.specs.MappedRows.{plan_by}
 use Rattle.feed_change_log.specs.declared.filter.Filter.{Filter}
 use Rattle.feed_transactions.specs.KeptGtids.{kept_gtid}
-use Rattle.changes_lines.specs.ChangeLines.{ChangeJson, AreChangesJson, rows_back}
+use Rattle.changes_lines.specs.ChangeLines.{ChangeJson, AreChangesJson, rows_back, rows_of_all}
 use Rattle.changes_lines.specs.RecordedParts.{front_of}
 use Rattle.changes_lines.specs.RowJson.{AreRowsJson}
 use Rattle.changes_lines.specs.TextLists.{HasTexts, ended}
@@ -69,7 +69,8 @@ has_some (x ∷ xs) = true
 pub record IsOpenJson (s : JsonRecorder) (g : Option Gtid) (l : List EventChange) : Type 0 where
   pub gtid : kept_gtid s.gtid ≡ g
   pub changes : List ChangeJson
-  pub are : AreChangesJson s.tables.options s.told.added (filter (takes_change s.filter) l) changes
+  pub rows : s.told.rows ≡ rows_of_all l
+  pub are : AreChangesJson s.tables.options s.told.added l (filter (takes_change s.filter) l) changes
   pub has : HasChanges s changes
 
 -- it has this committed transaction, with those of its changes that its filter takes
@@ -94,6 +95,7 @@ pub record KeepsOptions (old new : JsonRecorder) : Type 0 where
 pub record KeepsTexts (old new : JsonRecorder) : Type 0 where
   pub texts : new.texts ≡ old.texts
   pub changes : new.changes ≡ old.changes
+  pub rows : new.told.rows ≡ old.told.rows
 
 -- a change was added, if it has a row
 abbrev pub AddsJson : JsonRecorder → JsonRecorder → ChangeJson → Type 0
@@ -103,8 +105,8 @@ AddsJson old new x = (xs : List ChangeJson) → 0 < length x.rows → HasChanges
 pub record AddsRowsOf (old new : JsonRecorder) (images : RowImages) (h : Header) (shapes : List ImageShape) (bytes : List ℕ) (table : ShownTable) : Type 0 where
   pub rows : List (List ℕ)
   pub are : AreRowsJson (map column_view table.columns.items) shapes (items_at (row_at shapes) bytes).items rows
-  pub before : ℕ
-  pub adds : AddsJson old new (record { front = front_of images table h; back = rows_back table.key.items (query_member old.told.added.query (told_query old.told)); rows = numbered_if old.told.added.row before rows })
+  pub counts : (xs : List ChangeJson) → HasChanges old xs → new.told.rows ≡ old.told.rows + length rows
+  pub adds : AddsJson old new (record { front = front_of images table h; back = rows_back table.key.items (query_member old.told.added.query (told_query old.told)); rows = numbered_if old.told.added.row old.told.rows rows })
 
 -- the rows of the newest table were added
 abbrev pub AddsRowsJson : JsonRecorder → JsonRecorder → RowImages → Header → List ImageShape → List ℕ → Type 0

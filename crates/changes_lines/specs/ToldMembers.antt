@@ -31,7 +31,7 @@ pub record TransactionFacts : Type 0 where
   pub thread_id : Option ℕ
 
 -- a member with a number after a comma; nothing without a number, or if it isn't asked for
-unfoldable pub number_member : Bool → List ℕ → Option ℕ → List ℕ
+abbrev pub number_member : Bool → List ℕ → Option ℕ → List ℕ
 number_member true key (Some n) = key ++ decimal n
 number_member true key None = []
 number_member false key n = []
@@ -43,7 +43,7 @@ transaction_members a f =
     ++ (number_member a.ts_ms (codes ",\"ts_ms\":") f.ts_ms ++ (number_member a.xid (codes ",\"xid\":") f.xid ++ number_member a.thread_id (codes ",\"thread_id\":") f.thread_id))
 
 -- the statement that changed rows; nothing without one, or if it isn't asked for
-unfoldable pub query_member : Bool → Option (List ℕ) → List ℕ
+abbrev pub query_member : Bool → Option (List ℕ) → List ℕ
 query_member true (Some q) = codes ",\"query\":" ++ utf8_json q
 query_member true None = []
 query_member false q = []
@@ -53,7 +53,7 @@ abbrev pub row_member : ℕ → List ℕ
 row_member n = codes ",\"row\":" ++ decimal n
 
 -- the same, if it is asked for
-unfoldable pub row_member_if : Bool → ℕ → List ℕ
+abbrev pub row_member_if : Bool → ℕ → List ℕ
 row_member_if true n = row_member n
 row_member_if false n = []
 
@@ -63,12 +63,12 @@ numbered n [] = []
 numbered n (row ∷ rows) = (row ++ row_member (n + 1)) ∷ numbered (n + 1) rows
 
 -- the same, if they are asked for
-unfoldable pub numbered_if : Bool → ℕ → List (List ℕ) → List (List ℕ)
+abbrev pub numbered_if : Bool → ℕ → List (List ℕ) → List (List ℕ)
 numbered_if true n rows = numbered n rows
 numbered_if false n rows = rows
 
 -- the same, if there is a number of rows before them
-unfoldable pub numbered_by : Option ℕ → List (List ℕ) → List (List ℕ)
+abbrev pub numbered_by : Option ℕ → List (List ℕ) → List (List ℕ)
 numbered_by (Some n) rows = numbered n rows
 numbered_by None rows = rows
 
