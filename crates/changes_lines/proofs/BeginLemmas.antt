@@ -1,14 +1,14 @@
 -- What all lines of a transaction have, and the line of a whole transaction.
-use Rattle.std.proofs.Common.{◌≡◌, ◌<◌, ◌≤◌, ◌-◌, ℕ, Bool, true, false, List, [], ◌∷◌, ◌++◌, length, take, drop, map, Option, Some, None, Result, Ok, Err, refl, sym, ap, ◌∙◌, append_assoc, arith}
+use Rattle.std.proofs.Common.{◌≡◌, ◌<◌, ◌-◌, ℕ, true, false, List, [], ◌∷◌, ◌++◌, length, drop, map, Option, Some, None, Result, Ok, Err, refl, ap, ◌∙◌, append_assoc, arith}
 use Rattle.std.specs.Prelude.{⊤, OnOk, codes, unwrap_or}
 use Rattle.std.specs.Borrow.{Bor}
 use Rattle.std.specs.Slice.{IsGetRangeResult}
-use Rattle.std.proofs.lemmas.List.{append-nil, length-drop, take_all}
+use Rattle.std.proofs.lemmas.List.{length-drop, take_all}
 use Rattle.events_frames.specs.Headers.{Header}
 use Rattle.feed_checks.specs.Kinds.{Gtid}
 use Rattle.feed_text.specs.Buffers.{text_in}
 use Rattle.feed_transactions.specs.Changes.{Committed}
-use Rattle.changes_lines.specs.ChangeLines.{ChangeJson, change_objects, objects, transaction_line, with_ends}
+use Rattle.changes_lines.specs.ChangeLines.{ChangeJson, objects, transaction_line, with_ends}
 use Rattle.changes_lines.specs.Origins.{header_members, origin_members, AppendsOrigin}
 use Rattle.changes_lines.specs.RecordedLines.{HaveRows}
 use Rattle.changes_lines.specs.WrittenLines.{Begins}

@@ -1,12 +1,12 @@
 -- Rows with their numbers, read one after the other.
-use Rattle.std.proofs.Common.{◌≡◌, ◌<◌, ◌+◌, ℕ, suc, List, [], ◌∷◌, ◌++◌, length, map, Some, None, refl, sym, ap, subst, ◌∙◌, append_assoc, arith}
+use Rattle.std.proofs.Common.{◌≡◌, ◌<◌, ◌+◌, ℕ, List, [], ◌∷◌, ◌++◌, length, map, Some, None, sym, ap, subst, ◌∙◌, append_assoc, arith}
 use Rattle.std.proofs.lemmas.List.{append-nil, length-append, map-append}
 use Rattle.feed_text.specs.Buffers.{text_in}
 use Rattle.rows_cells.specs.Images.{ImageShape}
 use Rattle.changes_tables.specs.ShownColumns.{ColumnView}
 use Rattle.changes_lines.specs.ReadRows.{AppendsRow, ReadsRows, AddsAllRead, AddsAllRows, AddsNumbered}
 use Rattle.changes_lines.specs.TextLists.{HasTexts, ended}
-use Rattle.changes_lines.specs.ToldMembers.{numbered, numbered_by, row_member}
+use Rattle.changes_lines.specs.ToldMembers.{numbered, row_member}
 use Rattle.changes_lines.specs.declared.text_list.TextList.{TextList}
 use Rattle.changes_lines.proofs.ReadRowLemmas.{row_read, all_read, none_read_yet}
 use Rattle.changes_lines.proofs.TextListLemmas.{more_open}

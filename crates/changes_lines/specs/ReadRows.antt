@@ -1,6 +1,5 @@
 -- Rows as they are read, and the texts that the functions that write their JSON add.
-use Rattle.std.specs.Prelude.{◌≡◌, ◌≤◌, ◌<◌, ◌+◌, ℕ, Option, List, [], ◌∷◌, ◌++◌, length, Ok}
-use Rattle.std.specs.Borrow.{Bor}
+use Rattle.std.specs.Prelude.{◌≡◌, ◌≤◌, ◌+◌, ℕ, Option, List, ◌++◌, length, Ok}
 use Rattle.rows_cells.specs.Images.{ColumnValue, ImageShape}
 use Rattle.rows_cells.specs.EventRows.{images_at, row_at}
 use Rattle.rows_jsonb.specs.Items.{Walked, walk, items_at}

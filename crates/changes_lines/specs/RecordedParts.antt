@@ -1,5 +1,5 @@
 -- What the code has of names and tables, for the lines of a transaction.
-use Rattle.std.specs.Prelude.{◌≡◌, ℕ, List, [], ◌∷◌, ◌++◌, codes, Option, None}
+use Rattle.std.specs.Prelude.{ℕ, List, [], ◌∷◌, ◌++◌, codes, Option, None}
 use Rattle.events_frames.specs.Headers.{Header}
 use Rattle.rows_event_body.specs.declared.rows_event_type.RowImages.{RowImages}
 use Rattle.feed_checks.specs.BodyReaders.{table_map_in}

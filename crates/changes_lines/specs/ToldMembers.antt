@@ -1,5 +1,5 @@
 -- The members that lines have on request: what the events of a transaction say of it besides its changes. MySQL's pages of the classes Gtid_event, Query_event, Xid_event and Rows_query_event.
-use Rattle.std.specs.Prelude.{◌≡◌, ◌+◌, ◌-◌, ◌/◌, ◌%◌, ◌^◌, ◌==◌, ◌&&◌, ℕ, Bool, true, false, List, [], ◌∷◌, ◌++◌, length, take, drop, codes, Option, Some, None, cond, nat_lt, if◌then◌else◌}
+use Rattle.std.specs.Prelude.{◌+◌, ◌-◌, ◌/◌, ◌%◌, ◌^◌, ◌==◌, ℕ, Bool, true, false, List, [], ◌∷◌, ◌++◌, length, codes, Option, Some, None, cond, nat_lt, if◌then◌else◌}
 use Rattle.std.specs.Fmt.{decimal}
 use Rattle.events_frames.specs.Events.{header_size_field}
 use Rattle.events_frames.specs.HeaderFields.{header_field}
