@@ -1,10 +1,12 @@
 //! The words of the command line.
 
+use crate::member_names::added_members;
+use crate::time_zone::Zone;
 use changes_character_sets::CharacterSet;
+use changes_lines::AddedMembers;
 use clap::{Arg, ArgAction, ArgMatches, Command, Error};
-use jiff::civil::DateTime;
-use jiff::tz::Offset;
 use std::alloc::{AllocError, Global};
+use std::rt::Files;
 
 /// A command of the program.
 #[derive(Clone, Copy)]
@@ -39,6 +41,8 @@ pub struct Options<'w> {
     pub character_set: Option<CharacterSet>,
     /// Whether the numbers of BIGINT columns are printed as strings.
     pub quotes_numbers: bool,
+    /// The members that lines have on request.
+    pub added: AddedMembers,
     pub range: Range,
     pub databases: Vec<&'w [u8]>,
     /// Tables as `database.table`.
@@ -53,6 +57,8 @@ enum Takes {
     Nothing,
     Position,
     Value,
+    /// A value that may begin with a minus.
+    SignedValue,
     /// A value, and the option may be given several times.
     Values,
     /// It has no name: it is the words after the options.
@@ -96,6 +102,13 @@ const NUMBERS_AS_STRINGS: Known = Known {
     help: "print the numbers of BIGINT columns as strings, for readers whose numbers are doubles",
 };
 
+const WITH: Known = Known {
+    takes: Takes::Value,
+    name: "with",
+    value: "NAME,..",
+    help: "more members of each line: begin, ts_ms, xid, thread_id, query, row, or all",
+};
+
 const START: Known = Known {
     takes: Takes::Position,
     name: "start-position",
@@ -128,14 +141,21 @@ const FROM_TIME: Known = Known {
     takes: Takes::Value,
     name: "start-datetime",
     value: "TIME",
-    help: "only from this time on, in UTC: '2026-11-27 10:00:00'",
+    help: "only from this time on: '2026-11-27 10:00:00', in UTC unless --time-zone says otherwise",
 };
 
 const TO_TIME: Known = Known {
     takes: Takes::Value,
     name: "stop-datetime",
     value: "TIME",
-    help: "only before this time, in UTC",
+    help: "only before this time",
+};
+
+const TIME_ZONE: Known = Known {
+    takes: Takes::SignedValue,
+    name: "time-zone",
+    value: "NAME",
+    help: "the time zone of these times: UTC, +02:00 or Europe/Berlin",
 };
 
 const DATABASE: Known = Known {
@@ -182,10 +202,12 @@ const JSON: KnownCommand = KnownCommand {
         TRANSACTIONS,
         CHARACTER_SET,
         NUMBERS_AS_STRINGS,
+        WITH,
         START,
         STOP,
         FROM_TIME,
         TO_TIME,
+        TIME_ZONE,
         DATABASE,
         TABLE,
         EXCLUDED,
@@ -197,7 +219,7 @@ const CHECK: KnownCommand = KnownCommand {
     name: "check",
     about: "Says whether logs are whole, and where they end; counts the transactions that options select",
     options: &[
-        AS_JSON, START, STOP, FROM_TIME, TO_TIME, DATABASE, TABLE, EXCLUDED, FILES,
+        AS_JSON, START, STOP, FROM_TIME, TO_TIME, TIME_ZONE, DATABASE, TABLE, EXCLUDED, FILES,
     ],
 };
 
@@ -209,6 +231,7 @@ const EVENTS: KnownCommand = KnownCommand {
         LAST_EVENT,
         FROM_TIME,
         TO_TIME,
+        TIME_ZONE,
         DATABASE,
         TABLE,
         EXCLUDED,
@@ -230,6 +253,11 @@ fn argument<'a>(alloc: Global, known: Known) -> Arg<'a> {
             .long(known.name)
             .value_name(known.value)
             .action(ArgAction::Set),
+        Takes::SignedValue => argument
+            .long(known.name)
+            .value_name(known.value)
+            .action(ArgAction::Set)
+            .allow_hyphen_values(true),
         Takes::Values => argument
             .long(known.name)
             .value_name(known.value)
@@ -304,6 +332,8 @@ impl Refused {
         match option {
             "table" | "exclude-table" => "shop.orders",
             "character-set" => "utf8mb4",
+            "time-zone" => "UTC, +02:00 or Europe/Berlin",
+            "with" => "xid,row; the names are begin, ts_ms, xid, thread_id, query, row and all",
             _ => "'2026-11-27 10:00:00'",
         }
     }
@@ -323,24 +353,27 @@ fn add_names<'w>(
     Ok(())
 }
 
-/// The seconds since 1970 of a time as the options give it, in UTC: `2026-11-27 10:00:00`, or a date alone; 0 for an earlier one.
-fn seconds_of(text: &str) -> Option<u64> {
-    let time: DateTime = match text.parse() {
-        Ok(time) => time,
-        Err(_) => return None,
+/// The time zone that an option names; UTC if it isn't given.
+fn zone_of<R: Files + AllocGlobal>(rt: &R, matches: &ArgMatches<'_>) -> Result<Zone, Refused> {
+    let Some(name) = matches.get_str(TIME_ZONE.name) else {
+        return Ok(Zone::UTC);
     };
-    match Offset::UTC.to_timestamp(time) {
-        Ok(timestamp) => Some(u64::try_from(timestamp.as_second()).unwrap_or(0)),
-        Err(_) => None,
+    match Zone::named(rt, name) {
+        Some(zone) => Ok(zone),
+        None => Err(Refused::Value(TIME_ZONE.name)),
     }
 }
 
-/// The time that an option has, if it is given.
-fn time_of(matches: &ArgMatches<'_>, option: &'static str) -> Result<Option<u64>, Refused> {
+/// The time that an option has, if it is given, in seconds since 1970.
+fn time_of(
+    matches: &ArgMatches<'_>,
+    zone: &Zone,
+    option: &'static str,
+) -> Result<Option<u64>, Refused> {
     let Some(text) = matches.get_str(option) else {
         return Ok(None);
     };
-    match seconds_of(text) {
+    match zone.seconds_of(text) {
         Some(seconds) => Ok(Some(seconds)),
         None => Err(Refused::Value(option)),
     }
@@ -357,13 +390,24 @@ fn character_set_of(matches: &ArgMatches<'_>) -> Result<Option<CharacterSet>, Re
     }
 }
 
+/// The members that an option names, if it is given.
+fn added_of(matches: &ArgMatches<'_>) -> Result<AddedMembers, Refused> {
+    let Some(names) = matches.get_str(WITH.name) else {
+        return Ok(AddedMembers::NONE);
+    };
+    match added_members(names) {
+        Some(added) => Ok(added),
+        None => Err(Refused::Value(WITH.name)),
+    }
+}
+
 /// Where to begin, and where to end.
-fn range_of(matches: &ArgMatches<'_>) -> Result<Range, Refused> {
+fn range_of(matches: &ArgMatches<'_>, zone: &Zone) -> Result<Range, Refused> {
     Ok(Range {
         start: matches.get_one("start-position"),
         stop: matches.get_one("stop-position"),
-        from_time: time_of(matches, "start-datetime")?,
-        to_time: time_of(matches, "stop-datetime")?,
+        from_time: time_of(matches, zone, "start-datetime")?,
+        to_time: time_of(matches, zone, "stop-datetime")?,
     })
 }
 
@@ -429,6 +473,7 @@ impl<'w> Options<'w> {
             is_json: matches!(task, Task::Check) && matches.get_flag("json"),
             character_set: None,
             quotes_numbers: matches!(task, Task::Json) && matches.get_flag(NUMBERS_AS_STRINGS.name),
+            added: AddedMembers::NONE,
             range,
             databases: Vec::new(alloc),
             tables: Vec::new(alloc),
@@ -455,6 +500,7 @@ impl<'w> Options<'w> {
         }
         if let Task::Json = self.task {
             self.character_set = character_set_of(matches)?;
+            self.added = added_of(matches)?;
         }
         add_names(matches, "database", &mut self.databases)?;
         add_tables(matches, "table", &mut self.tables)?;
@@ -464,13 +510,14 @@ impl<'w> Options<'w> {
 }
 
 /// What a command is to do.
-fn options_of<'w>(
-    alloc: Global,
+fn options_of<'w, R: Files + AllocGlobal>(
+    rt: &R,
     task: Task,
     matches: &ArgMatches<'w>,
 ) -> Result<Options<'w>, Refused> {
-    let range = range_of(matches)?;
-    let mut options = Options::new(alloc, task, matches, range);
+    let zone = zone_of(rt, matches)?;
+    let range = range_of(matches, &zone)?;
+    let mut options = Options::new(rt.alloc(), task, matches, range);
     match options.add(matches) {
         Ok(()) => Ok(options),
         Err(refused) => Err(refused),
@@ -478,19 +525,25 @@ fn options_of<'w>(
 }
 
 /// What the command that was given is to do.
-fn options_in<'w>(alloc: Global, matches: &ArgMatches<'w>) -> Result<Options<'w>, Refused> {
+fn options_in<'w, R: Files + AllocGlobal>(
+    rt: &R,
+    matches: &ArgMatches<'w>,
+) -> Result<Options<'w>, Refused> {
     match matches.subcommand() {
-        Some(("check", matches)) => options_of(alloc, Task::Check, matches),
-        Some(("events", matches)) => options_of(alloc, Task::Events, matches),
-        Some((_, matches)) => options_of(alloc, Task::Json, matches),
+        Some(("check", matches)) => options_of(rt, Task::Check, matches),
+        Some(("events", matches)) => options_of(rt, Task::Events, matches),
+        Some((_, matches)) => options_of(rt, Task::Json, matches),
         None => Err(Refused::NoCommand),
     }
 }
 
 /// Reads the command line.
-pub fn parse<'w>(alloc: Global, words: &'w [String]) -> Result<Options<'w>, Refused> {
-    match command(alloc)?.try_get_matches_from(words) {
-        Ok(matches) => options_in(alloc, &matches),
+pub fn parse<'w, R: Files + AllocGlobal>(
+    rt: &R,
+    words: &'w [String],
+) -> Result<Options<'w>, Refused> {
+    match command(rt.alloc())?.try_get_matches_from(words) {
+        Ok(matches) => options_in(rt, &matches),
         Err(error) => Err(Refused::Words(error)),
     }
 }

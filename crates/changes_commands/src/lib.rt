@@ -7,12 +7,14 @@ mod event_walk;
 mod events;
 mod log_reader;
 mod logs;
+mod member_names;
 mod messages;
 mod output;
 mod progress;
 mod rotation;
 mod shown;
 mod text;
+mod time_zone;
 
 pub use command_line::{Options, Range, Refused, Task, parse};
 pub use event_walk::Listed;

@@ -1,14 +1,14 @@
 -- What all lines of a transaction have, and the line of a whole transaction.
-use Rattle.std.proofs.Common.{◌≡◌, ◌<◌, ◌≤◌, ◌-◌, ℕ, Bool, true, false, List, [], ◌∷◌, ◌++◌, length, take, drop, map, Option, Some, None, Result, Ok, Err, refl, sym, ap, ◌∙◌, arith}
+use Rattle.std.proofs.Common.{◌≡◌, ◌<◌, ◌-◌, ℕ, true, false, List, [], ◌∷◌, ◌++◌, length, drop, map, Option, Some, None, Result, Ok, Err, refl, ap, ◌∙◌, append_assoc, arith}
 use Rattle.std.specs.Prelude.{⊤, OnOk, codes, unwrap_or}
 use Rattle.std.specs.Borrow.{Bor}
 use Rattle.std.specs.Slice.{IsGetRangeResult}
-use Rattle.std.proofs.lemmas.List.{append-nil, length-drop, take_all}
+use Rattle.std.proofs.lemmas.List.{length-drop, take_all}
 use Rattle.events_frames.specs.Headers.{Header}
 use Rattle.feed_checks.specs.Kinds.{Gtid}
 use Rattle.feed_text.specs.Buffers.{text_in}
 use Rattle.feed_transactions.specs.Changes.{Committed}
-use Rattle.changes_lines.specs.ChangeLines.{ChangeJson, change_objects, objects, transaction_line, with_ends}
+use Rattle.changes_lines.specs.ChangeLines.{ChangeJson, objects, transaction_line, with_ends}
 use Rattle.changes_lines.specs.Origins.{header_members, origin_members, AppendsOrigin}
 use Rattle.changes_lines.specs.RecordedLines.{HaveRows}
 use Rattle.changes_lines.specs.WrittenLines.{Begins}
@@ -20,20 +20,23 @@ on_any (Ok x) a = a
 on_any (Err e) a = tt
 
 -- the members of a changed row or a statement
-pub begun_alone : (s : Lines) (file : List ℕ) (t : Committed) (g : Option Gtid) (position : ℕ) (before : List ℕ) → s.by_transaction ≡ false → before ≡ [] → g ≡ t.gtid → position ≡ t.commit.log_pos → AppendsOrigin g file position before (text_in s.origin) → Begins s file t
-begun_alone s file t g position before plain none same at a =
-    record { gtid = a.gtid; is = rw (← same) a.is; begun = rw plain (a.appended ∙ ap (λ (l : List ℕ). l ++ origin_members a.gtid file position) none ∙ ap (origin_members a.gtid file) at) }
+pub begun_alone : (s : Lines) (file more : List ℕ) (t : Committed) (g : Option Gtid) (position : ℕ) (before mid : List ℕ) → s.by_transaction ≡ false → before ≡ [] → g ≡ t.gtid → position ≡ t.commit.log_pos → AppendsOrigin g file position before mid → text_in s.origin ≡ mid ++ more → Begins s file t more
+begun_alone s file more t g position before mid plain none same at a added = record {
+  gtid = a.gtid;
+  is = rw (← same) a.is;
+  begun = rw plain (added ∙ ap (λ (l : List ℕ). l ++ more) (a.appended ∙ ap (λ (l : List ℕ). l ++ origin_members a.gtid file position) none ∙ ap (origin_members a.gtid file) at));
+}
 
 -- those of a transaction
-pub begun_with_header : (s : Lines) (file : List ℕ) (t : Committed) (h : Header) (g : Option Gtid) (position : ℕ) (before mid : List ℕ) → s.by_transaction ≡ true → before ≡ [] → mid ≡ before ++ header_members h → h ≡ t.commit → g ≡ t.gtid → position ≡ t.commit.log_pos
-    → AppendsOrigin g file position mid (text_in s.origin) → Begins s file t
-begun_with_header s file t h g position before mid whole none first commit same at a = record {
+pub begun_with_header : (s : Lines) (file more : List ℕ) (t : Committed) (h : Header) (g : Option Gtid) (position : ℕ) (before first mid : List ℕ) → s.by_transaction ≡ true → before ≡ [] → first ≡ before ++ header_members h → h ≡ t.commit → g ≡ t.gtid → position ≡ t.commit.log_pos
+    → AppendsOrigin g file position first mid → text_in s.origin ≡ mid ++ more → Begins s file t more
+begun_with_header s file more t h g position before first mid whole none begun commit same at a added = record {
   gtid = a.gtid;
   is = rw (← same) a.is;
   begun = rw whole (
-      a.appended
-      ∙ ap (λ (l : List ℕ). l ++ origin_members a.gtid file position) (first ∙ ap (λ (l : List ℕ). l ++ header_members h) none ∙ ap header_members commit)
-      ∙ ap (λ (n : ℕ). header_members t.commit ++ origin_members a.gtid file n) at
+      added
+      ∙ ap (λ (l : List ℕ). l ++ more) (a.appended ∙ ap (λ (l : List ℕ). l ++ origin_members a.gtid file position) (begun ∙ ap (λ (l : List ℕ). l ++ header_members h) none ∙ ap header_members commit) ∙ ap (λ (n : ℕ). header_members t.commit ++ origin_members a.gtid file n) at)
+      ∙ append_assoc (header_members t.commit) (origin_members a.gtid file t.commit.log_pos) more
       );
 }
 

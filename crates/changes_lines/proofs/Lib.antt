@@ -2,9 +2,9 @@ pub mod CellJsonLemmas
 pub mod AppendLemmas
 pub mod TextListLemmas
 pub mod ReadRowLemmas
+mod NumberedRowLemmas
 pub mod UpdateLemmas
 pub mod WriteLemmas
-pub mod SameNameLemmas
 pub mod TableLemmas
 pub mod BeginLemmas
 pub mod RecorderLemmas

@@ -1,11 +1,11 @@
 -- The cells of an image, read one after the other.
-use Rattle.std.proofs.Common.{◌≡◌, ◌≤◌, ◌<◌, ◌⊎◌, ◌+◌, ℕ, suc, false, true, Bool, List, [], ◌∷◌, ◌++◌, length, drop, Option, Some, None, Ok, Err, inl, inr, refl, sym, ap, subst, ◌∙◌, append_assoc, arith}
+use Rattle.std.proofs.Common.{◌≡◌, ◌≤◌, ◌+◌, ℕ, false, true, Bool, List, [], ◌∷◌, ◌++◌, length, drop, Option, Some, None, Ok, Err, inl, inr, refl, sym, ap, ◌∙◌, append_assoc, arith}
 use Rattle.std.proofs.lemmas.List.{append-nil, drop_all}
 use Rattle.rows_errors.specs.declared.fault.RowsError.{RowsError}
-use Rattle.rows_errors.specs.Readings.{Reading, ◌>>=◌}
+use Rattle.rows_errors.specs.Readings.{Reading}
 use Rattle.rows_cells.specs.Images.{ColumnValue, ImageShape, bit, format_in, field_at, image_at, cells_at}
 use Rattle.rows_cells.proofs.ImageLemmas.{all_given, one_failed, one_given}
-use Rattle.rows_cells.specs.ImageViews.{remaining_cells, columns_left, cells_count, next_column, IsNextField, HasNextFormat, SkipsField}
+use Rattle.rows_cells.specs.ImageViews.{remaining_cells, columns_left, next_column, IsNextField, HasNextFormat, SkipsField}
 use Rattle.rows_cells.specs.declared.image.ImageCells.{ImageCells}
 use Rattle.rows_cells.specs.declared.image.ImageColumn.{ImageColumn}
 use Rattle.rows_cells.specs.declared.image.ImageField.{ImageField}
@@ -27,11 +27,11 @@ use Rattle.feed_transactions.specs.RowLines.{row_verdict, IsRowError, image_text
 use Rattle.feed_transactions.proofs.RowLineLemmas.{image_untold}
 use Rattle.changes_cells.specs.FieldJson.{IsFieldError}
 use Rattle.changes_tables.specs.ShownColumns.{ColumnView}
-use Rattle.changes_cells.specs.CellJson.{IsCellJson, IsBytesJson, date_shown, fraction_digits}
+use Rattle.changes_cells.specs.CellJson.{IsCellJson, IsBytesJson, date_shown}
 use Rattle.changes_lines.specs.RowJson.{CellJson, AreCellsJson, column_at, member_json, members_json}
 use Rattle.changes_lines.specs.declared.members.Separator.{Separator}
 use Rattle.changes_lines.specs.declared.members.Separator.TheVariants as brace
-use Rattle.changes_lines.specs.ReadCells.{GivesJson, members_after, separator_after, separator_byte, separator_end, AppendsMember, AppendsImage, ReadsImage}
+use Rattle.changes_lines.specs.ReadCells.{GivesJson, separator_after, separator_byte, separator_end, AppendsMember, AppendsImage}
 use Rattle.changes_lines.proofs.CellJsonLemmas.{are_both, members_both, members_one, separator_both, object_ends}
 
 -- no cell was read yet

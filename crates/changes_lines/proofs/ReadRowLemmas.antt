@@ -1,15 +1,14 @@
 -- Rows, read one after the other, and the texts of their JSON.
-use Rattle.std.proofs.Common.{◌≡◌, ◌<◌, ◌≤◌, ℕ, zero, suc, List, [], ◌∷◌, ◌++◌, length, map, Option, Some, None, Result, Ok, Err, refl, sym, ap, subst, ◌∙◌, append_assoc, arith}
-use Rattle.std.specs.Prelude.{IfOk, codes, nat_lt}
+use Rattle.std.proofs.Common.{◌≡◌, ◌<◌, ◌≤◌, ℕ, zero, suc, List, [], ◌∷◌, ◌++◌, length, map, Result, Ok, Err, refl, sym, ap, subst, ◌∙◌, append_assoc, arith}
+use Rattle.std.specs.Prelude.{IfOk, codes}
 use Rattle.std.specs.Borrow.{Bor}
 use Rattle.std.proofs.lemmas.List.{append-nil, map-append}
 use Rattle.std.proofs.lemmas.Bool.{lt-ltb}
 use Rattle.feed_text.specs.Buffers.{text_in}
-use Rattle.rows_errors.specs.Readings.{Reading, ◌>>=◌}
 use Rattle.rows_errors.specs.declared.fault.RowsError.{RowsError}
 use Rattle.rows_cells.specs.Images.{ColumnValue, ImageShape, image_at}
-use Rattle.rows_cells.specs.EventRows.{images_at, takes_some, row_at}
-use Rattle.rows_jsonb.specs.Items.{Walked, walk, items_at, prepend_item}
+use Rattle.rows_cells.specs.EventRows.{images_at, row_at}
+use Rattle.rows_jsonb.specs.Items.{Walked, walk, items_at}
 use Rattle.rows_jsonb.proofs.ItemLemmas.{walk_on, walk_done}
 use Rattle.feed_transactions.specs.MappedRows.{image_texts}
 use Rattle.feed_transactions.specs.RowTexts.{images_text}
@@ -18,8 +17,8 @@ use Rattle.changes_tables.specs.ShownColumns.{ColumnView}
 use Rattle.changes_lines.specs.RowJson.{CellJson, IsRowJson, AreRowsJson, object_json}
 use Rattle.changes_lines.specs.ReadCells.{AppendsImage}
 use Rattle.changes_lines.specs.ReadRows.{ReadsRow, AppendsRow, after_rows, ReadsRows, AddsRead, AddsAllRead}
-use Rattle.changes_lines.specs.TextLists.{HasTexts, AddsRows, ended}
-use Rattle.changes_lines.specs.Updates.{ReadsBefore, HasBefore, AppendsAfter}
+use Rattle.changes_lines.specs.TextLists.{HasTexts, ended}
+use Rattle.changes_lines.specs.Updates.{ReadsBefore, AppendsAfter}
 use Rattle.changes_lines.specs.declared.text_list.TextList.{TextList}
 use Rattle.changes_lines.specs.declared.updates.Before.{Before}
 use Rattle.changes_lines.proofs.ReadCellLemmas.{cells_have_text}

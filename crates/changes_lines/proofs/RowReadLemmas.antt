@@ -1,10 +1,9 @@
 -- The images of rows that were written as JSON have texts in the feed.
-use Rattle.std.proofs.Common.{◌≡◌, ◌<◌, ℕ, List, [], ◌∷◌, ◌++◌, length, Some, None, Result, Ok, Err, refl, sym, ◌∙◌}
+use Rattle.std.proofs.Common.{ℕ, List, [], ◌∷◌, Result, Ok, Err, refl}
 use Rattle.std.specs.Prelude.{IfErr}
 use Rattle.std.specs.Borrow.{Bor}
 use Rattle.rows_errors.specs.declared.fault.RowsError.{RowsError}
 use Rattle.rows_cells.specs.Images.{ImageShape}
-use Rattle.feed_checks.specs.declared.verdict.Verdict.{Verdict}
 use Rattle.feed_transactions.specs.RowLines.{row_verdict, IsRowError, image_text_at, images_texts_at}
 use Rattle.feed_transactions.proofs.RowLineLemmas.{first_failed, second_failed}
 use Rattle.feed_change_log.specs.CheckedRows.{HasImageText}

@@ -1,11 +1,10 @@
 -- Rows of one image whose cells are all short.
-use Rattle.std.proofs.Common.{◌≡◌, ◌≤◌, ◌<◌, ◌+◌, ◌*◌, ℕ, suc, List, [], ◌∷◌, ◌++◌, length, take, drop, Option, Some, None, Result, Ok, Err, refl, sym, ap, ◌∙◌, append_assoc, arith}
-use Rattle.std.specs.Borrow.{Bor}
+use Rattle.std.proofs.Common.{◌≡◌, ◌≤◌, ◌<◌, ◌+◌, ◌*◌, ℕ, List, [], ◌∷◌, ◌++◌, length, take, refl, sym, ap, ◌∙◌, append_assoc, arith}
 use Rattle.std.proofs.Math.Seq.{take-append-add}
-use Rattle.std.proofs.lemmas.List.{append-nil, length-append, length-drop, length-take, length-take-le, take-append-le, take-take, take-append-drop}
-use Rattle.rows_cells.specs.Images.{ColumnValue, ImageShape, image_at, field_at}
+use Rattle.std.proofs.lemmas.List.{append-nil, length-append, length-drop, length-take, length-take-le, take-append-le, take-take}
+use Rattle.rows_cells.specs.Images.{ColumnValue, ImageShape, image_at}
 use Rattle.rows_cells.specs.declared.image.ImageColumn.{ImageColumn}
-use Rattle.rows_cells.specs.ImageViews.{remaining_cells, columns_left, cells_count, next_column, image_shape, IsNextField, HasNextFormat, SkipsField}
+use Rattle.rows_cells.specs.ImageViews.{remaining_cells, columns_left, cells_count, next_column, IsNextField, HasNextFormat, SkipsField}
 use Rattle.rows_cells.specs.declared.image.ImageCells.{ImageCells}
 use Rattle.rows_cells.specs.declared.image.ImageField.{ImageField}
 use Rattle.feed_text.specs.DocumentForms.{AppendsOne}

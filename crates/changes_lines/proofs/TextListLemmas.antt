@@ -1,10 +1,9 @@
 -- Texts in one buffer, one after the other.
 use Rattle.std.proofs.Common.{◌≡◌, ◌+◌, ℕ, suc, List, [], ◌∷◌, ◌++◌, length, refl, sym, ap, ◌∙◌, append_assoc, arith}
-use Rattle.std.specs.List.{flat_map}
 use Rattle.std.proofs.lemmas.List.{append-nil, length-append}
 use Rattle.std.proofs.lemmas.Grind.{flat_map-append}
 use Rattle.feed_text.specs.Buffers.{text_in}
-use Rattle.changes_lines.specs.TextLists.{joined, ends_from, HasTexts, AreLeft}
+use Rattle.changes_lines.specs.TextLists.{joined, ends_from, HasTexts}
 use Rattle.changes_lines.specs.declared.text_list.TextList.{TextList}
 
 pub joined_one : (ts : List (List ℕ)) (t : List ℕ) → joined (ts ++ t ∷ []) ≡ joined ts ++ t

@@ -1,15 +1,9 @@
 -- The cells of an image as they are read, and what the functions that write their JSON do.
-use Rattle.std.specs.Prelude.{◌≡◌, ◌⊎◌, ◌≤◌, ◌<◌, ℕ, List, [], ◌∷◌, ◌++◌, length, take, Option, Some, None, codes}
-use Rattle.std.specs.Borrow.{Bor}
-use Rattle.std.specs.declared.result.Result.{Result}
-use Rattle.std.specs.declared.result.Result.TheVariants.{Ok, Err}
-use Rattle.changes_cells.specs.FieldJson.{IsFieldError}
-use Rattle.rows_errors.specs.declared.fault.RowsError.{RowsError}
-use Rattle.rows_errors.specs.declared.fault.RowsError.TheVariants.{Memory}
-use Rattle.rows_errors.specs.Readings.{Reading}
+use Rattle.std.specs.Prelude.{◌≡◌, ◌≤◌, ℕ, List, [], ◌∷◌, ◌++◌, codes}
+use Rattle.std.specs.declared.result.Result.TheVariants.{Ok}
 use Rattle.rows_cells.specs.CellValues.{CellValue}
 use Rattle.rows_cells.specs.Images.{ColumnValue, ImageShape, field_at, image_at}
-use Rattle.rows_cells.specs.ImageViews.{remaining_cells, columns_left, cells_count, next_column}
+use Rattle.rows_cells.specs.ImageViews.{remaining_cells, columns_left, cells_count}
 use Rattle.rows_cells.specs.declared.image.ImageCells.{ImageCells}
 use Rattle.rows_cells.specs.declared.image.ImageColumn.{ImageColumn}
 use Rattle.rows_cells.specs.declared.image.ImageField.{ImageField}

@@ -1,12 +1,12 @@
 -- Rows as they are read, and the texts that the functions that write their JSON add.
-use Rattle.std.specs.Prelude.{◌≡◌, ◌≤◌, ◌<◌, ℕ, List, [], ◌∷◌, ◌++◌, length, Ok}
-use Rattle.std.specs.Borrow.{Bor}
+use Rattle.std.specs.Prelude.{◌≡◌, ◌≤◌, ◌+◌, ℕ, Option, List, ◌++◌, length, Ok}
 use Rattle.rows_cells.specs.Images.{ColumnValue, ImageShape}
 use Rattle.rows_cells.specs.EventRows.{images_at, row_at}
 use Rattle.rows_jsonb.specs.Items.{Walked, walk, items_at}
 use Rattle.changes_tables.specs.ShownColumns.{ColumnView}
 use Rattle.changes_lines.specs.RowJson.{IsRowJson, AreRowsJson}
 use Rattle.changes_lines.specs.TextLists.{AddsRows}
+use Rattle.changes_lines.specs.ToldMembers.{numbered, numbered_by}
 use Rattle.changes_lines.specs.declared.text_list.TextList.{TextList}
 
 -- the row that the bytes begin with has this JSON, and `rest` are the bytes after it
@@ -39,8 +39,21 @@ pub record AddsRead (table : List ColumnView) (shapes : List ImageShape) (old : 
   pub reads : (bytes : List ℕ) (before : List (List ℕ)) → ReadsRows table shapes bytes middle before → ReadsRows table shapes bytes rest (before ++ json)
   pub adds : AddsRows old new json
 
+-- The JSON of some more rows was added, with their numbers, one text for each row. There were `first` rows before them, and then `last`.
+pub record AddsNumbered (table : List ColumnView) (shapes : List ImageShape) (old : TextList) (middle : List ℕ) (first : ℕ) (rest : List ℕ) (last : ℕ) (new : TextList) : Type 0 where
+  pub json : List (List ℕ)
+  pub count : last ≡ first + length json
+  pub reads : (bytes : List ℕ) (before : List (List ℕ)) → ReadsRows table shapes bytes middle before → ReadsRows table shapes bytes rest (before ++ json)
+  pub adds : AddsRows old new (numbered first json)
+
 -- the JSON of all rows was added
 pub record AddsAllRead (table : List ColumnView) (shapes : List ImageShape) (bytes : List ℕ) (old new : TextList) : Type 0 where
   pub json : List (List ℕ)
   pub are : AreRowsJson table shapes (items_at (row_at shapes) bytes).items json
   pub adds : AddsRows old new json
+
+-- the same, with their numbers if there is a numbering: the number of rows before them
+pub record AddsAllRows (table : List ColumnView) (shapes : List ImageShape) (bytes : List ℕ) (numbering : Option ℕ) (old new : TextList) : Type 0 where
+  pub json : List (List ℕ)
+  pub are : AreRowsJson table shapes (items_at (row_at shapes) bytes).items json
+  pub adds : AddsRows old new (numbered_by numbering json)

@@ -1,5 +1,5 @@
 -- The JSON of a row: an object of its columns, and for an update one of the columns that it changed (RFC 8259, section 4).
-use Rattle.std.specs.Prelude.{◌≡◌, ⊤, ℕ, ◌<◌, List, [], ◌∷◌, ◌++◌, codes, map, slice_index_or}
+use Rattle.std.specs.Prelude.{◌≡◌, ⊤, ℕ, ◌<◌, List, [], ◌∷◌, ◌++◌, codes, slice_index_or}
 use Rattle.std.specs.List.{flat_map}
 use Rattle.rows_cells.specs.Images.{ColumnValue, ImageShape}
 use Rattle.rows_cells.specs.declared.image.ImageColumn.{ImageColumn}

@@ -7,7 +7,7 @@ use Rattle.rows_cells.specs.Images.{ColumnValue, ImageShape, field_at, image_at}
 use Rattle.rows_cells.specs.declared.image.ImageField.{ImageField}
 use Rattle.changes_tables.specs.ShownColumns.{ColumnView}
 use Rattle.changes_cells.specs.CellJson.{IsCellJson}
-use Rattle.changes_lines.specs.RowJson.{CellJson, AreCellsJson, column_at, member_json, members_json, object_json, IsUpdate}
+use Rattle.changes_lines.specs.RowJson.{CellJson, AreCellsJson, column_at, members_json, object_json, IsUpdate}
 use Rattle.changes_lines.specs.ReadCells.{members_after, separator_after}
 use Rattle.changes_lines.specs.declared.members.Separator.{Separator}
 use Rattle.changes_lines.specs.declared.updates.Member.{Member}

@@ -54,13 +54,13 @@ rows_text h e more rows = ends_before (end_of e.each) e.last.now more (map (λ r
 abbrev pub change_text : List ℕ → Ends → Bool → ChangeJson → List ℕ
 change_text origin e more x = ends_before (end_of e.each) e.last.now more (change_objects origin x)
 
--- the members that all lines of a transaction have were made; `gtid` is the JSON of its GTID
-abbrev pub IsBegun : Lines → List ℕ → Committed → List ℕ → Type 0
-IsBegun s file t gtid =
-    text_in s.origin ≡ (if s.by_transaction then header_members t.commit ++ origin_members gtid file t.commit.log_pos else origin_members gtid file t.commit.log_pos)
+-- the members that all lines of a transaction have were made; `gtid` is the JSON of its GTID, and `more` its members on request
+abbrev pub IsBegun : Lines → List ℕ → Committed → List ℕ → List ℕ → Type 0
+IsBegun s file t gtid more =
+    text_in s.origin ≡ (if s.by_transaction then header_members t.commit ++ (origin_members gtid file t.commit.log_pos ++ more) else origin_members gtid file t.commit.log_pos ++ more)
 
 -- the same, with its GTID
-pub record Begins (s : Lines) (file : List ℕ) (t : Committed) : Type 0 where
+pub record Begins (s : Lines) (file : List ℕ) (t : Committed) (more : List ℕ) : Type 0 where
   pub gtid : List ℕ
   pub is : IsGtidJson t.gtid gtid
-  pub begun : IsBegun s file t gtid
+  pub begun : IsBegun s file t gtid more

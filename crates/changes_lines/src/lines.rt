@@ -6,7 +6,7 @@ ghost use Rattle.feed_text.specs.Buffers.{text_in};
 ghost use Rattle.feed_transactions.specs.Changes.{Committed};
 ghost use Rattle.feed_transactions.specs.Waiting.{bytes_of};
 ghost use Rattle.changes_lines.specs.ChangeLines.{ChangeJson, objects, transaction_line, transaction_lines, with_ends};
-ghost use Rattle.changes_lines.specs.RecordedLines.{HasChanges, IsDoneJson, change_texts};
+ghost use Rattle.changes_lines.specs.RecordedLines.{HasChanges, IsDoneJson, change_texts, members_of};
 ghost use Rattle.changes_lines.specs.TextLists.{AreLeft, ended};
 ghost use Rattle.changes_lines.specs.WrittenLines.{Puts, change_text, end_of, has_texts, head_text, rows_text};
 
@@ -221,7 +221,7 @@ impl Lines {
     ///
     /// - `AllocError`: out of memory.
     pub fn begin(&mut self, file: &[u8], transaction: &JsonRecorder<'_>) -> Result<(), AllocError>
-        ensures ok { OnOk result ((t : Committed) → IsDoneJson transaction.now t → Begins self.new file.now t) }
+        ensures ok { OnOk result ((t : Committed) → IsDoneJson transaction.now t → Begins self.new file.now t (members_of transaction.now)) }
         ensures kept { self.new.by_transaction ≡ self.old.by_transaction }
     {
         self.put_members(file, transaction)?;
@@ -234,17 +234,19 @@ impl Lines {
 
     /// Makes the members that all lines of a transaction have.
     fn put_members(&mut self, file: &[u8], transaction: &JsonRecorder<'_>) -> Result<(), AllocError>
-        ensures ok { OnOk result ((t : Committed) → IsDoneJson transaction.now t → Begins self.new file.now t) }
+        ensures ok { OnOk result ((t : Committed) → IsDoneJson transaction.now t → Begins self.new file.now t (members_of transaction.now)) }
         ensures kept { self.new.by_transaction ≡ self.old.by_transaction }
     {
         let header = transaction.commit_header();
         let position = header.log_pos();
         self.origin.clear();
         if !self.by_transaction {
-            return put_origin(transaction.gtid(), file, position, &mut self.origin);
+            put_origin(transaction.gtid(), file, position, &mut self.origin)?;
+            return transaction.put_added(&mut self.origin);
         }
         HeaderText::new(header.timestamp(), header.server_id()).put(header, &mut self.origin)?;
-        put_origin(transaction.gtid(), file, position, &mut self.origin)
+        put_origin(transaction.gtid(), file, position, &mut self.origin)?;
+        transaction.put_added(&mut self.origin)
     }
 
     /// Writes the lines of the transaction that was begun.
@@ -256,7 +258,7 @@ impl Lines {
         waiting: &mut WaitingBytes,
         writer: &mut Watched<W>,
     ) -> Result<(), Verdict>
-        ensures text { (file gtid : List ℕ) (t : Committed) (xs : List ChangeJson) → IsBegun self.old file t gtid → HasChanges transaction.now xs → Puts (W.contents (inner_of writer.old)) (W.contents (inner_of writer.new)) (bytes_of waiting.old) (bytes_of waiting.new) (has_failed writer.new) (transaction_lines self.old.by_transaction file t gtid xs) result }
+        ensures text { (file gtid more : List ℕ) (t : Committed) (xs : List ChangeJson) → IsBegun self.old file t gtid more → HasChanges transaction.now xs → Puts (W.contents (inner_of writer.old)) (W.contents (inner_of writer.new)) (bytes_of waiting.old) (bytes_of waiting.new) (has_failed writer.new) (transaction_lines self.old.by_transaction file t gtid more xs) result }
         ensures kept { self.new.by_transaction ≡ self.old.by_transaction }
     {
         if self.by_transaction {

@@ -26,7 +26,7 @@ use std::alloc::{AllocError, Global};
 pub(crate) const END: &[u8] = b"}\n";
 
 /// Appends the row that the bytes begin with, and returns the remaining bytes.
-fn put_row<'a>(
+pub(crate) fn put_row<'a>(
     alloc: Global,
     columns: Columns<'_>,
     plan: RowPlan<'_>,
@@ -101,7 +101,7 @@ pub(crate) fn put_rows(
 }
 
 /// Ends the text of a row.
-fn end_row(texts: &mut TextList) -> Result<(), AllocError>
+pub(crate) fn end_row(texts: &mut TextList) -> Result<(), AllocError>
     ensures { OnOk result ((before : List (List ℕ)) (json : List ℕ) → HasTexts texts.old before json → HasTexts texts.new (before ++ ended json ∷ []) []) }
 {
     texts.buffer.put_text(END)?;

@@ -1,4 +1,5 @@
 pub mod CheckedRowLemmas
+mod CountedRowLemmas
 pub mod KeptTableLemmas
 pub mod KeptChangeLemmas
 pub mod RecorderLemmas

@@ -1,9 +1,11 @@
 -- The result of checking that rows can be read and printed.
-use Rattle.std.specs.Prelude.{◌≡◌, ◌⊎◌, ℕ, suc, Bool, true, false, List, [], Option, Some, Ok, Err}
+use Rattle.std.specs.Prelude.{◌≡◌, ◌⊎◌, ℕ, suc, Bool, true, false, List, [], length, Option, Some, Ok, Err}
 use Rattle.rows_errors.specs.declared.fault.RowsError.{RowsError}
 use Rattle.rows_errors.specs.declared.fault.RowsError.TheVariants.{Decimal}
 use Rattle.rows_jsonb.specs.JsonParsing.{Parses}
 use Rattle.rows_cells.specs.CellValues.{CellValue}
+use Rattle.rows_cells.specs.EventRows.{row_at}
+use Rattle.rows_jsonb.specs.Items.{items_at}
 use Rattle.rows_cells.specs.CellViews.{cell_value}
 use Rattle.rows_cells.specs.Images.{ImageShape, field_at}
 use Rattle.rows_cells.specs.ImageViews.{remaining_cells, cells_count, ReturnsCell}
@@ -65,3 +67,7 @@ HasImageTexts shapes bytes rest = (text : List ℕ) × PutsImages shapes bytes r
 -- all rows have texts
 abbrev pub HaveTexts : List ImageShape → List ℕ → Type 0
 HaveTexts shapes bytes = (texts : List (List (List ℕ))) × (rows_texts_at shapes bytes ≡ Some texts)
+
+-- the number of rows
+abbrev pub rows_count : List ImageShape → List ℕ → ℕ
+rows_count shapes bytes = length (items_at (row_at shapes) bytes).items

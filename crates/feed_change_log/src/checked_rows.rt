@@ -6,7 +6,7 @@ ghost use Rattle.rows_cells.specs.ImageViews.{image_shape, cells_count};
 ghost use Rattle.rows_cells.specs.RowViews.{row_shape};
 ghost use Rattle.feed_text.specs.CellText.{cell_text};
 ghost use Rattle.feed_transactions.specs.RowLines.{IsRowError, IsRowsError, image_text_at, images_texts_at, rows_texts_at};
-ghost use Rattle.feed_change_log.specs.CheckedRows.{is_document, HasCellText, Passes, PassesNext, IsNextError, IsDocumentError, HasImageText, HasImageTexts, HaveTexts};
+ghost use Rattle.feed_change_log.specs.CheckedRows.{is_document, HasCellText, Passes, PassesNext, IsNextError, IsDocumentError, HasImageText, HasImageTexts, HaveTexts, rows_count};
 
 use feed_checks::Verdict;
 use feed_text::TextBuffer;
@@ -137,7 +137,7 @@ fn check_images<'a>(
     check_image(alloc, second, rest, scratch)
 }
 
-/// Reads all rows of an event with these columns. `scratch` is a buffer.
+/// Reads all rows of an event with these columns, and returns their number. `scratch` is a buffer.
 ///
 /// - `Row`: a row can't be read, can't be printed, or takes no bytes.
 /// - `Memory`: out of memory.
@@ -146,17 +146,20 @@ pub fn check_rows(
     plan: RowPlan<'_>,
     rows_data: &[u8],
     scratch: &mut TextBuffer<Global>,
-) -> Result<(), Verdict>
+) -> Result<usize, Verdict>
     ensures ok { OnOk result (HaveTexts (row_shape plan.entry) rows_data.now) }
+    ensures count { IfOk result (λ rows. rows ≡ rows_count (row_shape plan.entry) rows_data.now) }
     ensures err { IfErr result (IsRowsError (rows_texts_at (row_shape plan.entry) rows_data.now)) }
 {
     let mut rest = rows_data;
+    let mut rows = 0usize;
     while !rest.is_empty() {
         let next = check_images(alloc, plan, rest, scratch)?;
         if next.len() >= rest.len() {
             return Err(Verdict::Row);
         }
         rest = next;
+        rows += 1;
     }
-    Ok(())
+    Ok(rows)
 }

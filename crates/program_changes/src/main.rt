@@ -54,7 +54,7 @@ fn main(rt: HostRuntime) -> ExitCode {
         let _ = eprintln!(&rt; "binlog-changes: out of memory");
         return ExitCode::from(3);
     };
-    match parse(rt.alloc(), &words) {
+    match parse(&rt, &words) {
         Ok(options) => run::run(&rt, &options),
         Err(refused) => refuse(&rt, refused),
     }

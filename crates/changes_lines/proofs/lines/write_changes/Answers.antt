@@ -1,4 +1,4 @@
-use Rattle.std.proofs.Common.{◌≡◌, ◌∷◌, ◌∙◌, []}
+use Rattle.std.proofs.Common.{◌∙◌}
 use Rattle.changes_lines.specs.ChangeLines.{with_ends, objects}
 use Rattle.changes_lines.specs.WrittenLines.{end_of}
 use Rattle.changes_lines.proofs.WriteLemmas.{puts_error, no_change_yet, next_change, one_more_change, change_failed, all_changes, none_of}

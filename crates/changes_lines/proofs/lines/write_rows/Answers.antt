@@ -1,5 +1,5 @@
 use Rattle.changes_lines.proofs.WriteLemmas.{puts_error, no_row_yet, next_row, end_is, one_more_row, row_failed, all_rows}
-use Rattle.std.proofs.Common.{arith, rules, ◌≡◌, ◌+◌}
+use Rattle.std.proofs.Common.{arith, rules}
 use Rattle.changes_lines.specs.WrittenLines.{rows_text, has_texts, end_of}
 use Rattle.changes_lines.proofs.lines.write_rows.Goals as goal
 

@@ -1,4 +1,4 @@
-use Rattle.std.proofs.Common.{◌≡◌, ◌≤◌, ◌+◌, length, take, arith, rules}
+use Rattle.std.proofs.Common.{◌≡◌, ◌≤◌, length, arith, rules}
 use Rattle.changes_lines.proofs.AppendLemmas.{first_written}
 use Rattle.changes_lines.proofs.short_rows.put_label.Goals as goal
 

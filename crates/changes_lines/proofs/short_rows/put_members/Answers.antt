@@ -1,7 +1,6 @@
-use Rattle.std.proofs.Common.{◌≡◌, ◌≤◌, ◌+◌, ◌∷◌, ◌++◌, [], take, length, refl, ap, subst, ◌∙◌, append_assoc, arith, rules}
+use Rattle.std.proofs.Common.{◌≡◌, ◌≤◌, ◌∷◌, ◌++◌, [], take, length, refl, ap, subst, ◌∙◌, append_assoc, arith, rules}
 use Rattle.changes_tables.specs.ShownColumns.{ColumnView, column_view}
 use Rattle.changes_cells.specs.FieldJson.{WritesCell}
-use Rattle.changes_lines.specs.RowJson.{column_at}
 use Rattle.changes_lines.specs.TableColumns.{columns_in}
 use Rattle.changes_lines.proofs.ShortRowLemmas.{none_so_far, member_so_far, all_so_far, before_members, before_label}
 use Rattle.changes_lines.proofs.short_rows.put_members.Goals as goal

@@ -1,4 +1,4 @@
-use Rattle.std.proofs.Common.{◌≡◌, ◌∷◌, []}
+use Rattle.std.proofs.Common.{◌≡◌, ◌∷◌}
 use Rattle.changes_lines.proofs.UpdateLemmas.{no_members, none_put_yet, one_more_put, all_were_put}
 use Rattle.changes_lines.proofs.updates.put_all.Goals as goal
 

@@ -1,5 +1,5 @@
-use Rattle.std.proofs.Common.{◌≡◌, ◌∷◌, [], rules, arith, ◌<◌}
-use Rattle.changes_lines.proofs.UpdateLemmas.{no_members, none_first_yet, one_more_first, first_over, first_ends}
+use Rattle.std.proofs.Common.{◌≡◌, ◌∷◌, rules, arith, ◌<◌}
+use Rattle.changes_lines.proofs.UpdateLemmas.{none_first_yet, one_more_first}
 use Rattle.changes_lines.proofs.updates.put_unset.Goals as goal
 
 pub loop-member-init : goal.loop-member-init

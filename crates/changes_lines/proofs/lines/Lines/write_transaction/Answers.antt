@@ -1,5 +1,5 @@
 use Rattle.std.specs.Prelude.{codes}
-use Rattle.std.proofs.Common.{◌≡◌, ◌<◌, ◌∷◌, ◌++◌, [], drop, map, length, refl, sym, ap, ◌∙◌, arith, rules}
+use Rattle.std.proofs.Common.{◌<◌, ◌∷◌, ◌++◌, [], drop, length, refl, ap, ◌∙◌, arith, rules}
 use Rattle.feed_text.specs.Buffers.{text_in}
 use Rattle.changes_lines.specs.ChangeLines.{objects, with_ends}
 use Rattle.changes_lines.proofs.BeginLemmas.{rest_of, line_is}

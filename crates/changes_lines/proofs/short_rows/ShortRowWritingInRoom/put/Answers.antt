@@ -1,4 +1,4 @@
-use Rattle.std.proofs.Common.{[], ◌∷◌, ◌≡◌, ◌≤◌, ◌<◌, take, length, refl, arith, rules}
+use Rattle.std.proofs.Common.{◌<◌, length, refl, arith, rules}
 use Rattle.rows_cells.specs.ImageViews.{image_shape, cells_count}
 use Rattle.changes_lines.specs.RowJson.{object_json}
 use Rattle.changes_lines.specs.TableColumns.{columns_in}

@@ -1,4 +1,3 @@
-use Rattle.std.proofs.Common.{refl}
 use Rattle.rows_cells.specs.ImageViews.{image_shape}
 use Rattle.feed_text.specs.Buffers.{text_in}
 use Rattle.changes_lines.specs.TableColumns.{columns_in}

@@ -1,6 +1,4 @@
-use Rattle.feed_text.specs.Buffers.{text_in}
 use Rattle.rows_cells.specs.ImageViews.{cells_count}
-use Rattle.changes_lines.specs.ReadCells.{GivesJson}
 use Rattle.changes_lines.specs.TableColumns.{columns_in}
 use Rattle.changes_lines.proofs.UpdateLemmas.{IsKeeping}
 use Rattle.changes_lines.proofs.updates.Before.read.Given as goal

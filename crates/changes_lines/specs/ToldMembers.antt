@@ -1,0 +1,92 @@
+-- The members that lines have on request: what the events of a transaction say of it besides its changes. MySQL's pages of the classes Gtid_event, Query_event, Xid_event and Rows_query_event.
+use Rattle.std.specs.Prelude.{◌+◌, ◌-◌, ◌/◌, ◌%◌, ◌^◌, ◌==◌, ℕ, Bool, true, false, List, [], ◌∷◌, ◌++◌, length, codes, Option, Some, None, cond, nat_lt, if◌then◌else◌}
+use Rattle.std.specs.Fmt.{decimal}
+use Rattle.events_frames.specs.Events.{header_size_field}
+use Rattle.events_frames.specs.HeaderFields.{header_field}
+use Rattle.changes_tables.specs.MemberTexts.{utf8_json}
+use Rattle.changes_lines.specs.declared.told.AddedMembers.{AddedMembers}
+use Rattle.changes_lines.specs.declared.told.Told.{Told}
+
+-- the position at which an event begins: that after it, less its size; positions have 32 bits
+abbrev pub start_of : List ℕ → ℕ
+start_of e = ((header_field 13 4 e + (2 ^ 32 - header_size_field e)) % 2 ^ 32)
+
+-- the time of the commit in the body of a GTID_EVENT or an ANONYMOUS_GTID_EVENT, in milliseconds: seven bytes of microseconds, whose highest bit is a flag, after two logical timestamps
+abbrev pub commit_time : List ℕ → Option ℕ
+commit_time body = if nat_lt (length body) 49 then None else (if header_field 25 1 body == 2 then Some (header_field 42 7 body % 2 ^ 55 / 1000) else None)
+
+-- the number of an XID_EVENT
+abbrev pub xid_of : List ℕ → Option ℕ
+xid_of e = if header_field 4 1 e == 16 then (if nat_lt (length e) 27 then None else Some (header_field 19 8 e)) else None
+
+-- the id of the thread that wrote a QUERY_EVENT
+abbrev pub thread_of : List ℕ → Option ℕ
+thread_of e = if nat_lt (length e) 23 then None else Some (header_field 19 4 e)
+
+-- what the events of a transaction say of it: the position at which it begins, when it was committed in milliseconds since 1970, the number of its XID_EVENT, and the id of its thread
+pub record TransactionFacts : Type 0 where
+  pub begin : ℕ
+  pub ts_ms : Option ℕ
+  pub xid : Option ℕ
+  pub thread_id : Option ℕ
+
+-- a member with a number after a comma; nothing without a number, or if it isn't asked for
+abbrev pub number_member : Bool → List ℕ → Option ℕ → List ℕ
+number_member true key (Some n) = key ++ decimal n
+number_member true key None = []
+number_member false key n = []
+
+-- those of a transaction
+abbrev pub transaction_members : AddedMembers → TransactionFacts → List ℕ
+transaction_members a f =
+    number_member a.begin (codes ",\"begin\":") (Some f.begin)
+    ++ (number_member a.ts_ms (codes ",\"ts_ms\":") f.ts_ms ++ (number_member a.xid (codes ",\"xid\":") f.xid ++ number_member a.thread_id (codes ",\"thread_id\":") f.thread_id))
+
+-- the statement that changed rows; nothing without one, or if it isn't asked for
+abbrev pub query_member : Bool → Option (List ℕ) → List ℕ
+query_member true (Some q) = codes ",\"query\":" ++ utf8_json q
+query_member true None = []
+query_member false q = []
+
+-- the number of a row or a statement
+abbrev pub row_member : ℕ → List ℕ
+row_member n = codes ",\"row\":" ++ decimal n
+
+-- the same, if it is asked for
+abbrev pub row_member_if : Bool → ℕ → List ℕ
+row_member_if true n = row_member n
+row_member_if false n = []
+
+-- rows with their numbers, after so many rows
+unfoldable pub numbered : ℕ → List (List ℕ) → List (List ℕ)
+numbered n [] = []
+numbered n (row ∷ rows) = (row ++ row_member (n + 1)) ∷ numbered (n + 1) rows
+
+-- the same, if they are asked for
+abbrev pub numbered_if : Bool → ℕ → List (List ℕ) → List (List ℕ)
+numbered_if true n rows = numbered n rows
+numbered_if false n rows = rows
+
+-- the same, if there is a number of rows before them
+abbrev pub numbered_by : Option ℕ → List (List ℕ) → List (List ℕ)
+numbered_by (Some n) rows = numbered n rows
+numbered_by None rows = rows
+
+-- ---- what a recorder was told
+
+-- what it was told of the open transaction
+abbrev pub facts_of : Told → TransactionFacts
+facts_of s = record { begin = s.begin; ts_ms = s.ts_ms; xid = s.xid; thread_id = s.thread_id }
+
+-- the same after a transaction began with this event: it begins with its GTID's, or else with this one
+abbrev pub begun_facts : Told → Bool → List ℕ → TransactionFacts
+begun_facts s true e = record { begin = s.gtid_start; ts_ms = s.gtid_time; xid = None; thread_id = thread_of e }
+begun_facts s false e = record { begin = start_of e; ts_ms = None; xid = None; thread_id = thread_of e }
+
+-- the same after it was committed by this event
+abbrev pub committed_facts : TransactionFacts → List ℕ → TransactionFacts
+committed_facts f e = record { begin = f.begin; ts_ms = f.ts_ms; xid = xid_of e; thread_id = f.thread_id }
+
+-- the statement that changes the rows, if it was told one
+abbrev pub told_query : Told → Option (List ℕ)
+told_query s = cond s.has_query (Some s.query.items) None
