@@ -1,5 +1,5 @@
 -- The integer that eight bytes begin with.
-use Rattle.std.proofs.Common.{◌≡◌, ℕ, zero, suc, ◌-◌, ◌*◌, ◌/◌, ◌%◌, ◌^◌, ◌<◌, ◌≤◌, Bool, true, false, cond, ℤ, pos, negsuc, ◌-ℤ◌, List, length, take, drop, get_or, refl, sym, ap, ◌∙◌, arith, to_z, w64, Ok}
+use Rattle.std.proofs.Common.{◌≡◌, inr, ℕ, zero, suc, ◌-◌, ◌*◌, ◌/◌, ◌%◌, ◌^◌, ◌<◌, ◌≤◌, Bool, true, false, cond, ℤ, pos, negsuc, ◌-ℤ◌, List, Option, Some, None, length, take, drop, get_or, refl, sym, subst, ap, ◌∙◌, arith, to_z, w64, Ok, Err}
 use Rattle.std.specs.Prelude.{nat_lt, if◌then◌else◌}
 use Rattle.std.specs.Int.Signed.{shr_z}
 use Rattle.std.proofs.lemmas.Bool.{ltb-true, ltb-false, le-leb}
@@ -11,12 +11,18 @@ use Rattle.byteorder.specs.Numbers.{little_from-append}
 use Rattle.rows_cells.specs.declared.format.Width.{Width}
 use Rattle.rows_cells.specs.declared.format.Width.TheVariants.{One, Two, Three, Four, Eight}
 use Rattle.rows_cells.specs.declared.format.CellFormat.{CellFormat}
-use Rattle.rows_cells.specs.declared.format.CellFormat.TheVariants.{Signed, Unsigned}
+use Rattle.rows_cells.specs.declared.format.CellFormat.TheVariants.{Signed, Unsigned, Float, Double, Year, NewDate, OldTime, OldDatetime, Timestamp2, Datetime2, Time2, Decimal, Plain, Counted, Json, JsonDiffs, NoMetadata, NoCells}
 use Rattle.rows_cells.specs.CellFields.{at_width}
-use Rattle.rows_cells.specs.CellSizes.{width_bytes}
-use Rattle.rows_cells.specs.CellValues.{CellValue, int, uint, content_value}
-use Rattle.rows_cells.specs.Cells.{cell_at}
-use Rattle.changes_cells.specs.FieldJson.{IsInteger, IsIntegerAt}
+use Rattle.rows_cells.specs.CellSizes.{width_bytes, cell_size}
+use Rattle.rows_cells.specs.CellValues.{CellValue, int, uint, json, json_diffs, content_value, decimal_value, unless}
+use Rattle.rows_cells.specs.Cells.{cell_at, content_at}
+use Rattle.rows_errors.specs.declared.fault.RowsError.{RowsError}
+use Rattle.rows_errors.specs.Readings.{Reading, ◌>>=◌}
+use Rattle.rows_jsonb.specs.Items.{items_at}
+use Rattle.rows_jsonb.specs.JsonDiffs.{diff_at}
+use Rattle.rows_jsonb.specs.JsonbValues.{document}
+use Rattle.rows_values.specs.Unpacked.{packed_text}
+use Rattle.changes_cells.specs.FieldJson.{IsInteger, IsIntegerAt, LacksInteger}
 
 -- the number in the highest bits of a word
 pub highest : (w : Width) (b : List ℕ) → ((i : ℕ) → get_or b i 0 < 256) → little_number 8 b * 2 ^ (64 - 8 * width_bytes w) % 2 ^ 64 ≡ little_number (width_bytes w) b * 2 ^ (64 - 8 * width_bytes w)
@@ -96,10 +102,82 @@ is_integer Three n = refl
 is_integer Four n = refl
 is_integer Eight n = refl
 
-pub unsigned_cell : (f : CellFormat) (w : Width) (b rest : List ℕ) (n : ℕ) (z : ℤ) → f ≡ Unsigned w → width_bytes w ≤ length b → n ≡ little_number (width_bytes w) b → z ≡ pos n → rest ≡ drop (width_bytes w) b → IsIntegerAt f b z rest
+unsigned_read : (f : CellFormat) (w : Width) (b : List ℕ) → f ≡ Unsigned w → width_bytes w ≤ length b → cell_at f b ≡ Ok (unsigned_by w (little_number (width_bytes w) b), drop (width_bytes w) b)
 unfolding cell_at
+unsigned_read f w b form h = rw (form, content_is (width_bytes w) b h, content_value_is w (take (width_bytes w) b), number_of_content (width_bytes w) b h) refl
+
+pub unsigned_cell : (f : CellFormat) (w : Width) (b rest : List ℕ) (n : ℕ) (z : ℤ) → f ≡ Unsigned w → width_bytes w ≤ length b → n ≡ little_number (width_bytes w) b → z ≡ pos n → rest ≡ drop (width_bytes w) b → IsIntegerAt f b z rest
 unsigned_cell f w b rest n z form h is number after = record {
   value = unsigned_by w n;
-  read = rw (form, content_is (width_bytes w) b h, content_value_is w (take (width_bytes w) b), number_of_content (width_bytes w) b h, ← is, ← after) refl;
+  read = unsigned_read f w b form h ∙ rw (← is, ← after) refl;
   is = rw number (is_integer w n);
 }
+
+-- the cell is this integer
+abbrev GivesInteger : ℤ → Reading (CellValue × List ℕ) → Type 0
+GivesInteger z (Ok cell) = IsInteger z cell.0
+GivesInteger z (Err e) = ⊥
+
+integer_given : (f : CellFormat) (b rest : List ℕ) (z : ℤ) → IsIntegerAt f b z rest → GivesInteger z (cell_at f b)
+integer_given f b rest z h = subst (GivesInteger z) (sym h.read) h.is
+
+is_number : (w : Width) (n : ℕ) (z : ℤ) → IsInteger z (unsigned_by w n) → z ≡ pos n
+is_number One n z h = sym h
+is_number Two n z h = sym h
+is_number Three n z h = sym h
+is_number Four n z h = sym h
+is_number Eight n z h = sym h
+
+at_least : (n m : ℕ) → (n < m → ⊥) → m ≤ n
+at_least n m not = either (nat_lt n m) refl
+  where
+    either : (b : Bool) → nat_lt n m ≡ b → m ≤ n
+    either true e = absurd (not (ltb-true n m e))
+    either false e = ltb-false n m e
+
+-- an unsigned integer of 2^63 or more
+pub large_number : (f : CellFormat) (w : Width) (b : List ℕ) (n : ℕ) → f ≡ Unsigned w → width_bytes w ≤ length b → n ≡ little_number (width_bytes w) b → (n < 2 ^ 63 → ⊥) → LacksInteger f b
+large_number f w b n form h is not = λ z rest given.
+    let value : GivesInteger z (Ok (unsigned_by w (little_number (width_bytes w) b), drop (width_bytes w) b)) = subst (GivesInteger z) (unsigned_read f w b form h) (integer_given f b rest z given) in
+    inr (n, is_number w (little_number (width_bytes w) b) z value ∙ ap pos (sym is), at_least n (2 ^ 63) not)
+
+decimal_given : (z : ℤ) (after : List ℕ) (text : Option (List ℕ)) → GivesInteger z (decimal_value text >>= λ v. Ok (v, after)) → ⊥
+decimal_given z after None h = h
+decimal_given z after (Some text) h = h
+
+document_given : {A : Type 0} (z : ℤ) (content after : List ℕ) (read : Reading A) → GivesInteger z ((read >>= λ v. Ok (json content)) >>= λ v. Ok (v, after)) → ⊥
+document_given z content after (Ok v) h = h
+document_given z content after (Err e) h = h
+
+diffs_given : (z : ℤ) (content after : List ℕ) (fault : Option RowsError) → GivesInteger z (unless fault (json_diffs content) >>= λ v. Ok (v, after)) → ⊥
+diffs_given z content after None h = h
+diffs_given z content after (Some e) h = h
+
+value_given : (f : CellFormat) (z : ℤ) (content after : List ℕ) → ((w : Width) → f ≡ Signed w → ⊥) → ((w : Width) → f ≡ Unsigned w → ⊥) → GivesInteger z (content_value f content >>= λ v. Ok (v, after)) → ⊥
+value_given (Signed w) z content after s u h = s w refl
+value_given (Unsigned w) z content after s u h = u w refl
+value_given Float z content after s u h = h
+value_given Double z content after s u h = h
+value_given Year z content after s u h = h
+value_given NewDate z content after s u h = h
+value_given OldTime z content after s u h = h
+value_given OldDatetime z content after s u h = h
+value_given (Timestamp2 d) z content after s u h = h
+value_given (Datetime2 d) z content after s u h = h
+value_given (Time2 d) z content after s u h = h
+value_given (Decimal p d) z content after s u h = decimal_given z after (packed_text p d content) h
+value_given (Plain n) z content after s u h = h
+value_given (Counted w) z content after s u h = h
+value_given Json z content after s u h = document_given z content after (document content) h
+value_given JsonDiffs z content after s u h = diffs_given z content after (items_at diff_at content).fault h
+value_given NoMetadata z content after s u h = h
+value_given NoCells z content after s u h = h
+
+content_given : (f : CellFormat) (z : ℤ) (content : Reading (List ℕ × List ℕ)) → ((w : Width) → f ≡ Signed w → ⊥) → ((w : Width) → f ≡ Unsigned w → ⊥) → GivesInteger z (content >>= λ c. content_value f c.0 >>= λ v. Ok (v, c.1)) → ⊥
+content_given f z (Ok c) s u h = value_given f z c.0 c.1 s u h
+content_given f z (Err e) s u h = h
+
+-- a cell of another format
+pub other_format : (f : CellFormat) (b : List ℕ) → ((w : Width) → f ≡ Signed w → ⊥) → ((w : Width) → f ≡ Unsigned w → ⊥) → LacksInteger f b
+unfolding cell_at
+other_format f b s u = λ z rest given. absurd (content_given f z (content_at (cell_size f) b) s u (integer_given f b rest z given))

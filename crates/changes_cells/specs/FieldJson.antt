@@ -1,5 +1,5 @@
 -- What the functions that write the JSON of a cell do: the cell is the one that the bytes begin with.
-use Rattle.std.specs.Prelude.{◌≡◌, ⊤, ◌≤◌, ◌+◌, ◌⊎◌, ℕ, ℤ, pos, Bool, false, List, ◌++◌, take, Option, Some, None}
+use Rattle.std.specs.Prelude.{◌≡◌, ⊤, ◌≤◌, ◌<◌, ◌+◌, ◌^◌, ◌⊎◌, ℕ, ℤ, pos, Bool, false, List, ◌++◌, take, length, Option, Some, None}
 use Rattle.std.specs.Borrow.{Bor}
 use Rattle.std.specs.declared.result.Result.{Result}
 use Rattle.std.specs.declared.result.Result.TheVariants.{Ok, Err}
@@ -50,6 +50,10 @@ pub record IsIntegerAt (f : CellFormat) (bytes : List ℕ) (z : ℤ) (rest : Lis
   pub value : CellValue
   pub read : cell_at f bytes ≡ Ok (value, rest)
   pub is : IsInteger z value
+
+-- fewer than eight bytes, or they don't begin with an integer below 2^63
+abbrev pub LacksInteger : CellFormat → List ℕ → Type 0
+LacksInteger f bytes = (z : ℤ) (rest : List ℕ) → IsIntegerAt f bytes z rest → (length bytes < 8) ⊎ ((n : ℕ) × (z ≡ pos n) × (2 ^ 63 ≤ n))
 
 -- the JSON of the cell was written, whatever the column; or the cell can't be read, for this error
 abbrev pub WritesOrFails : CellFormat → List ℕ → ℕ → List ℕ → List ℕ → Result (ℕ × Bor (List ℕ)) RowsError → Type 0

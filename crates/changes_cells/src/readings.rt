@@ -2,7 +2,7 @@
 //!
 //! Each function returns what the cell has and the bytes after it, or `EndOfBody` if there are fewer bytes.
 
-ghost use Rattle.std.specs.Prelude.{◌≡◌, ◌≤◌, ◌+◌, ◌-◌, ◌*◌, ◌^◌, IfSome, length};
+ghost use Rattle.std.specs.Prelude.{◌≡◌, ◌≤◌, ◌+◌, ◌-◌, ◌*◌, ◌^◌, IfSome, IfNone, length};
 ghost use Rattle.std.specs.Fmt.{decimal};
 ghost use Rattle.rows_errors.specs.Readings.{map_reading};
 ghost use Rattle.rows_cells.specs.declared.format.CellFormat.TheVariants.{Float, Double, Year, NewDate, OldTime, OldDatetime, Timestamp2, Plain};
@@ -10,7 +10,7 @@ ghost use Rattle.rows_cells.specs.CellValues.{bytes as bytes_value, float, doubl
 ghost use Rattle.rows_cells.specs.Cells.{cell_at};
 ghost use Rattle.rows_cells.specs.CellSizes.{width_bytes};
 ghost use Rattle.byteorder.specs.Endian.{little_number, twos_complement};
-ghost use Rattle.changes_cells.specs.FieldJson.{IsIntegerAt};
+ghost use Rattle.changes_cells.specs.FieldJson.{IsIntegerAt, LacksInteger};
 
 use byteorder::{ByteOrder, LittleEndian};
 use rows_cells::{CellFormat, Width, split_prefix};
@@ -135,7 +135,8 @@ fn unsigned_of_eight(bytes: &[u8], width: Width) -> u64
 /// Reads an integer of any width. `None`: fewer than eight bytes are left, the cell is no integer, or it is 2^63 or more.
 #[inline(always)]
 pub(crate) fn read_integer(bytes: &[u8], format: CellFormat) -> Option<(i64, &[u8])>
-    ensures { IfSome result (λ x. IsIntegerAt format bytes.now x.0 x.1.now) }
+    ensures some { IfSome result (λ x. IsIntegerAt format bytes.now x.0 x.1.now) }
+    ensures none { IfNone result (LacksInteger format bytes.now) }
 {
     if bytes.len() < 8 {
         return None;

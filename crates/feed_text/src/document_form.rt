@@ -79,21 +79,23 @@ pub trait DocumentForm {
         ensures most { result ≤ at + 96 }
         ensures text { take result text.new ≡ take at text.old ++ form.time time.now };
 
-    /// Appends a decimal. An error may leave a part of it.
+    /// Appends a decimal. `Memory`: out of memory; a part of it may be left.
     fn append_decimal<A: Allocator>(
         decimal: &Decimal,
         out: &mut Vec<u8, A>,
     ) -> Result<(), RowsError>
         ensures ok { OnOk result (out.new.items ≡ out.old.items ++ form.decimal (decimal_parts decimal.now)) }
+        ensures err { IfErr result (λ e. e ≡ Memory) }
         ensures kept { take (length out.old.items) out.new.items ≡ out.old.items };
 
-    /// Appends a value of the column type with this number. An error may leave a part of it.
+    /// Appends a value of the column type with this number. `Memory`: out of memory; a part of it may be left.
     fn append_opaque<A: Allocator>(
         number: u8,
         bytes: &[u8],
         out: &mut Vec<u8, A>,
     ) -> Result<(), RowsError>
         ensures ok { OnOk result (out.new.items ≡ out.old.items ++ form.opaque number bytes.now) }
+        ensures err { IfErr result (λ e. e ≡ Memory) }
         ensures kept { take (length out.old.items) out.new.items ≡ out.old.items };
 }
 

@@ -24,5 +24,5 @@ pub returns-in-Some-put_integer : goal.returns-in-Some-put_integer
 returns-in-Some-put_integer c =
     let column = column_view c.args.column.now in
     let same = to_z-of_z w64 c.in-Some.number (search rules) in
-    integer_written column c.args.field.is_null c.args.field.format c.args.field.bytes.now c.args.text.now c.put_integer.new.text c.in-Some.rest.now c.in-Some.number c.args.at c.in-Some-put_integer.end c.if-field.false c.in-Some.ensures
+    integer_written column c.args.field.is_null c.args.field.format c.args.field.bytes.now c.args.text.now c.put_integer.new.text c.in-Some.rest.now c.in-Some.number c.args.at c.in-Some-put_integer.end c.if-field.false c.in-Some.ensures.some
     (subst (λ z. WritesSuch (IsIntegerJson column z) c.args.at c.args.text.now c.put_integer.new.text c.in-Some-put_integer.end) same c.in-Some-put_integer.ensures)
