@@ -1,8 +1,8 @@
 -- A keeper takes what a reader gives.
-use Rattle.std.proofs.Common.{◌≡◌, ◌<◌, ◌^◌, ℕ, Bool, List, [], ◌++◌, length, Option, Some, None, IfSome, Err, refl, sym, subst, ◌∙◌, arith, ap, le_refl}
+use Rattle.std.proofs.Common.{◌≡◌, ◌<◌, ◌^◌, ℕ, Bool, List, [], ◌++◌, length, Option, Some, None, IfSome, Err, refl, sym, subst, ◌∙◌, arith, ap}
 use Rattle.std.specs.Io.KnownBytes.{Consumes, Appends, Keeps, IsAtEnd}
-use Rattle.std.proofs.KnownBytes.{Consumes-nil, Consumes-trans, Appends-kept}
-use Rattle.std.proofs.lemmas.List.{append-nil, length-append, take_all}
+use Rattle.std.proofs.KnownBytes.{Consumes-nil, Consumes-trans}
+use Rattle.std.proofs.lemmas.List.{append-nil, length-append}
 use Rattle.wire_buf.specs.Transfers.{WritesPrefix}
 use Rattle.feed_resume.specs.Kept.{kept}
 use Rattle.feed_resume.specs.Keepers.{RepresentsText}
@@ -35,27 +35,27 @@ keeps_same None = tt
 keeps_same (Some b) = refl
 
 -- the text wasn't read
-pub none_written : (input : Option (List ℕ)) (failed : Bool) (o : Option (List ℕ)) (e : Failure) → IsInputFailure failed e → WritesKept input failed o o (Err e)
-none_written input failed o failures.Memory h = keeps_same o
-none_written input failed o failures.Read h = (keeps_same o, h)
-none_written input failed o failures.Write h = absurd h
-none_written input failed o failures.Usage h = absurd h
-none_written input failed o failures.Open h = absurd h
-none_written input failed o failures.Line h = absurd h
+pub none_written : (input : Option (List ℕ)) (failed write_failed : Bool) (o : Option (List ℕ)) (e : Failure) → IsInputFailure failed e → WritesKept input failed write_failed o o (Err e)
+none_written input failed write_failed o failures.Memory h = keeps_same o
+none_written input failed write_failed o failures.Read h = (keeps_same o, h)
+none_written input failed write_failed o failures.Write h = absurd h
+none_written input failed write_failed o failures.Usage h = absurd h
+none_written input failed write_failed o failures.Open h = absurd h
+none_written input failed write_failed o failures.Line h = absurd h
 
 -- the reader gave all of its bytes
 all_taken : (b : List ℕ) (new : Option (List ℕ)) (bytes : List ℕ) → Consumes (Some b) new bytes → IsAtEnd new → b ≡ bytes
 all_taken b None bytes p r = absurd p
 all_taken b (Some y) bytes p r = p ∙ ap (λ (t : List ℕ). bytes ++ t) r ∙ append-nil bytes
 
--- the line was written, and flushed
-pub line_written : (input new before mid written : Option (List ℕ)) (keeper : Keeper) (line : List ℕ) (k : ℕ × Option ℕ) → HasKept input new keeper → ((text : List ℕ) → RepresentsText keeper text → k ≡ kept text) → line ≡ kept_line k
-    → Appends before mid line → Keeps mid written → IfSome input (λ text. length text < 2 ^ 64 → Appends before written (kept_line (kept text)))
-line_written None new before mid written keeper line k h is e w f = tt
-line_written (Some b) new before mid written keeper line k h is e w f = λ short.
+-- the line was written
+pub line_written : (input new before written : Option (List ℕ)) (keeper : Keeper) (line : List ℕ) (k : ℕ × Option ℕ) → HasKept input new keeper → ((text : List ℕ) → RepresentsText keeper text → k ≡ kept text) → line ≡ kept_line k
+    → Appends before written line → IfSome input (λ text. length text < 2 ^ 64 → Appends before written (kept_line (kept text)))
+line_written None new before written keeper line k h is e w = tt
+line_written (Some b) new before written keeper line k h is e w = λ short.
     let same : b ≡ h.text = all_taken b new h.text h.consumed h.at_end in
     let found : k ≡ kept b = is b (subst (RepresentsText keeper) (sym same) (h.represents (subst (λ (t : List ℕ). length t < 2 ^ 64) same short))) in
-    subst (λ (l : List ℕ). Appends before written l) (e ∙ ap kept_line found) (Appends-kept before mid written line w f)
+    subst (λ (l : List ℕ). Appends before written l) (e ∙ ap kept_line found) w
 
 -- a prefix of the line was written
 pub line_begun : (input new before written : Option (List ℕ)) (keeper : Keeper) (line : List ℕ) (k : ℕ × Option ℕ) → HasKept input new keeper → ((text : List ℕ) → RepresentsText keeper text → k ≡ kept text) → line ≡ kept_line k
@@ -65,10 +65,3 @@ line_begun (Some b) new before written keeper line k h is e w = λ short.
     let same : b ≡ h.text = all_taken b new h.text h.consumed h.at_end in
     let found : k ≡ kept b = is b (subst (RepresentsText keeper) (sym same) (h.represents (subst (λ (t : List ℕ). length t < 2 ^ 64) same short))) in
     subst (λ (l : List ℕ). WritesPrefix l before written) (e ∙ ap kept_line found) w
-
--- the whole line was written, and not flushed
-pub line_unflushed : (before mid written : Option (List ℕ)) (line : List ℕ) → Appends before mid line → Keeps mid written → WritesPrefix line before written
-line_unflushed before mid written line w f = record {
-  count = length line;
-  appended = subst (λ (l : List ℕ). Appends before written l) (sym (take_all (length line) line (le_refl _))) (Appends-kept before mid written line w f);
-}

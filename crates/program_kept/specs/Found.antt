@@ -35,12 +35,12 @@ IsInputFailure failed _ = ⊥
 abbrev pub kept_line : ℕ × Option ℕ → List ℕ
 kept_line k = decimal k.0 ++ 32 ∷ (decimal (unwrap_or k.1 4) ++ 10 ∷ [])
 
--- the line of the reader's text was written, or at a failure of the writer a prefix of it; if the text wasn't read, nothing
-abbrev pub WritesKept : Option (List ℕ) → Bool → Option (List ℕ) → Option (List ℕ) → Result (Unit {0}) Failure → Type 0
-WritesKept input failed before written (Ok _) = IfSome input (λ text. length text < 2 ^ 64 → Appends before written (kept_line (kept text)))
-WritesKept input failed before written (Err failures.Write) = IfSome input (λ text. length text < 2 ^ 64 → WritesPrefix (kept_line (kept text)) before written)
-WritesKept input failed before written (Err failures.Memory) = Keeps before written
-WritesKept input failed before written (Err failures.Read) = Keeps before written × (failed ≡ true)
-WritesKept input failed before written (Err failures.Usage) = ⊥
-WritesKept input failed before written (Err failures.Open) = ⊥
-WritesKept input failed before written (Err failures.Line) = ⊥
+-- the line of the reader's text was written; if the writer failed, a prefix of it; if the text wasn't read, nothing
+abbrev pub WritesKept : Option (List ℕ) → Bool → Bool → Option (List ℕ) → Option (List ℕ) → Result (Unit {0}) Failure → Type 0
+WritesKept input read_failed write_failed before written (Ok _) = IfSome input (λ text. length text < 2 ^ 64 → Appends before written (kept_line (kept text)))
+WritesKept input read_failed write_failed before written (Err failures.Write) = IfSome input (λ text. length text < 2 ^ 64 → WritesPrefix (kept_line (kept text)) before written) × (write_failed ≡ true)
+WritesKept input read_failed write_failed before written (Err failures.Memory) = Keeps before written
+WritesKept input read_failed write_failed before written (Err failures.Read) = Keeps before written × (read_failed ≡ true)
+WritesKept input read_failed write_failed before written (Err failures.Usage) = ⊥
+WritesKept input read_failed write_failed before written (Err failures.Open) = ⊥
+WritesKept input read_failed write_failed before written (Err failures.Line) = ⊥

@@ -45,12 +45,12 @@ pub record BeginsLine (text : List ℕ) (before written : Option (List ℕ)) : T
   pub is : IsLineFor text line
   pub begun : WritesPrefix line before written
 
--- the line of the reader's text was written, or at a failure of the writer a prefix of it; if there is no such line, nothing
-abbrev pub WritesKeptJson : Option (List ℕ) → Bool → Option (List ℕ) → Option (List ℕ) → Result (Unit {0}) Failure → Type 0
-WritesKeptJson input failed before written (Ok _) = IfSome input (λ text. length text < 2 ^ 64 → AppendsLine text before written)
-WritesKeptJson input failed before written (Err failures.Write) = IfSome input (λ text. length text < 2 ^ 64 → BeginsLine text before written)
-WritesKeptJson input failed before written (Err failures.Memory) = Keeps before written
-WritesKeptJson input failed before written (Err failures.Read) = Keeps before written × (failed ≡ true)
-WritesKeptJson input failed before written (Err failures.Line) = Keeps before written × IfSome input (λ text. length text < 2 ^ 64 → HasNoPoint text ⊎ HasTwoLines text)
-WritesKeptJson input failed before written (Err failures.Usage) = ⊥
-WritesKeptJson input failed before written (Err failures.Open) = ⊥
+-- the line of the reader's text was written; if the writer failed, a prefix of it; if there is no such line, nothing
+abbrev pub WritesKeptJson : Option (List ℕ) → Bool → Bool → Option (List ℕ) → Option (List ℕ) → Result (Unit {0}) Failure → Type 0
+WritesKeptJson input read_failed write_failed before written (Ok _) = IfSome input (λ text. length text < 2 ^ 64 → AppendsLine text before written)
+WritesKeptJson input read_failed write_failed before written (Err failures.Write) = IfSome input (λ text. length text < 2 ^ 64 → BeginsLine text before written) × (write_failed ≡ true)
+WritesKeptJson input read_failed write_failed before written (Err failures.Memory) = Keeps before written
+WritesKeptJson input read_failed write_failed before written (Err failures.Read) = Keeps before written × (read_failed ≡ true)
+WritesKeptJson input read_failed write_failed before written (Err failures.Line) = Keeps before written × IfSome input (λ text. length text < 2 ^ 64 → HasNoPoint text ⊎ HasTwoLines text)
+WritesKeptJson input read_failed write_failed before written (Err failures.Usage) = ⊥
+WritesKeptJson input read_failed write_failed before written (Err failures.Open) = ⊥

@@ -4,10 +4,11 @@ ghost use Rattle.std.specs.Prelude.{◌≡◌, IfOk, IfErr, OnOk, true};
 ghost use Rattle.wire_buf.specs.Watched.{inner_of, has_failed};
 ghost use Rattle.program_kept.specs.Found.{HasKept, IsInputFailure, WritesKept, failure_name};
 
+use crate::writing::put_all;
 use feed_resume::Keeper;
 use std::alloc::Global;
 use std::io::{Read, Write};
-use wire_buf::{Watched, write_all};
+use wire_buf::Watched;
 
 /// The position of the first event, after the magic number.
 const FIRST_POSITION: u32 = 4;
@@ -72,9 +73,9 @@ fn keep_all<R: Read>(alloc: Global, reader: &mut Watched<R>) -> Result<Keeper, F
 pub fn write_kept<R: Read, W: Write>(
     alloc: Global,
     reader: &mut Watched<R>,
-    writer: &mut W,
+    writer: &mut Watched<W>,
 ) -> Result<(), Failure>
-    ensures { WritesKept (R.remaining (inner_of reader.old)) (has_failed reader.new) (W.contents writer.old) (W.contents writer.new) result }
+    ensures { WritesKept (R.remaining (inner_of reader.old)) (has_failed reader.new) (has_failed writer.new) (W.contents (inner_of writer.old)) (W.contents (inner_of writer.new)) result }
 {
     let keeper = match keep_all(alloc, reader) {
         Ok(keeper) => keeper,
@@ -84,11 +85,8 @@ pub fn write_kept<R: Read, W: Write>(
     let Ok(line) = format!(in alloc; "{len} {}\n", position.unwrap_or(FIRST_POSITION)) else {
         return Err(Failure::Memory);
     };
-    if let Err(_) = write_all(writer, line.as_bytes()) {
+    if let Err(_) = put_all(writer, line.as_bytes()) {
         return Err(Failure::Write);
     }
-    match writer.flush() {
-        Ok(()) => Ok(()),
-        Err(_) => Err(Failure::Write),
-    }
+    Ok(())
 }

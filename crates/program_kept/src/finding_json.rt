@@ -5,10 +5,11 @@ ghost use Rattle.wire_buf.specs.Watched.{inner_of, has_failed};
 ghost use Rattle.program_kept.specs.WrittenJson.{WritesKeptJson, point_line, has_line_feed};
 
 use crate::finding::Failure;
+use crate::writing::put_all;
 use changes_resume::{KeptJson, KeptJsonError, kept_json};
 use std::alloc::{AllocError, Global};
 use std::io::{Read, Write};
-use wire_buf::{Watched, write_all};
+use wire_buf::Watched;
 
 /// Makes the line for complete transactions: their length in bytes, a space, the position after the last of them, a space and the name
 /// of its log; or the first event's position and no name, if there are none. `AllocError`: out of memory.
@@ -39,9 +40,9 @@ fn has_line_feed(kept: &KeptJson) -> bool
 pub fn write_kept_json<R: Read, W: Write>(
     alloc: Global,
     reader: &mut Watched<R>,
-    writer: &mut W,
+    writer: &mut Watched<W>,
 ) -> Result<(), Failure>
-    ensures { WritesKeptJson (R.remaining (inner_of reader.old)) (has_failed reader.new) (W.contents writer.old) (W.contents writer.new) result }
+    ensures { WritesKeptJson (R.remaining (inner_of reader.old)) (has_failed reader.new) (has_failed writer.new) (W.contents (inner_of writer.old)) (W.contents (inner_of writer.new)) result }
 {
     let kept = match kept_json(alloc, reader) {
         Ok(kept) => kept,
@@ -55,11 +56,8 @@ pub fn write_kept_json<R: Read, W: Write>(
     let Ok(line) = point_line(alloc, &kept) else {
         return Err(Failure::Memory);
     };
-    if let Err(_) = write_all(writer, &line) {
+    if let Err(_) = put_all(writer, &line) {
         return Err(Failure::Write);
     }
-    match writer.flush() {
-        Ok(()) => Ok(()),
-        Err(_) => Err(Failure::Write),
-    }
+    Ok(())
 }

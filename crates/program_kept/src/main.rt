@@ -9,12 +9,13 @@
 
 mod finding;
 mod finding_json;
+mod writing;
 
 use finding::{Failure, write_kept};
 use finding_json::write_kept_json;
 use std::env;
 use std::fs::File;
-use std::io::{self, ErrorKind};
+use std::io::{self, ErrorKind, Write};
 use std::process::ExitCode;
 use wire_buf::Watched;
 
@@ -35,17 +36,21 @@ fn words_of(rt: &HostRuntime) -> Result<Vec<String>, Failure> {
 /// the file can't be opened.
 fn run(rt: &HostRuntime) -> Result<(), Failure> {
     let words = words_of(rt)?;
-    let output = &mut io::writer(rt);
+    let mut output = Watched::new(io::writer(rt));
     match words.as_slice() {
-        [] => write_kept(rt.alloc(), &mut Watched::new(rt.reader()), output),
+        [] => write_kept(rt.alloc(), &mut Watched::new(rt.reader()), &mut output),
         [option] if option.as_str() == "--json" => {
-            write_kept_json(rt.alloc(), &mut Watched::new(rt.reader()), output)
+            write_kept_json(rt.alloc(), &mut Watched::new(rt.reader()), &mut output)
         }
         [option, path] if option.as_str() == "--json" => match File::open(rt, path) {
-            Ok(file) => write_kept_json(rt.alloc(), &mut Watched::new(file), output),
+            Ok(file) => write_kept_json(rt.alloc(), &mut Watched::new(file), &mut output),
             Err(_) => Err(Failure::Open),
         },
         _ => Err(Failure::Usage),
+    }?;
+    match output.into_inner().flush() {
+        Ok(()) => Ok(()),
+        Err(_) => Err(Failure::Write),
     }
 }
 
