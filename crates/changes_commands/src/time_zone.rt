@@ -1,5 +1,7 @@
 //! The time zone of the times that options give.
 
+ghost use Rattle.std.specs.Prelude.{◌≤◌, IfSome};
+
 use jiff::civil::DateTime;
 use jiff::tz::{Offset, TimeZone, Tzif};
 use std::fs;
@@ -21,15 +23,27 @@ pub(crate) enum Zone {
     Table(Tzif),
 }
 
+/// The value of a digit.
+fn digit(byte: u8) -> Option<u32>
+    ensures { IfSome result (λ value. value ≤ 9) }
+{
+    let value = byte.checked_sub(b'0')?;
+    if value > 9 {
+        return None;
+    }
+    Some(u32::from(value))
+}
+
 /// The number of two digits.
-fn two_digits(text: &[u8]) -> Option<i32> {
+fn two_digits(text: &[u8]) -> Option<u32>
+    ensures { IfSome result (λ number. number ≤ 99) }
+{
     let [tens, ones] = text else {
         return None;
     };
-    if !tens.is_ascii_digit() || !ones.is_ascii_digit() {
-        return None;
-    }
-    Some(i32::from(*tens - b'0') * 10 + i32::from(*ones - b'0'))
+    let tens = digit(*tens)?;
+    let ones = digit(*ones)?;
+    Some(tens * 10 + ones)
 }
 
 /// The seconds of an offset such as `+02:00`: at most 23 hours and 59 minutes in either direction.
@@ -42,10 +56,10 @@ fn offset_seconds(text: &[u8]) -> Option<i32> {
     if *colon != b':' || hours > 23 || minutes > 59 {
         return None;
     }
-    let seconds = hours * 3600 + minutes * 60;
+    let seconds = i32::try_from(hours * 3600 + minutes * 60).ok()?;
     match sign {
         b'+' => Some(seconds),
-        b'-' => Some(-seconds),
+        b'-' => seconds.checked_neg(),
         _ => None,
     }
 }
