@@ -3,7 +3,7 @@
 use crate::member_names::added_members;
 use crate::time_zone::Zone;
 use changes_character_sets::CharacterSet;
-use changes_lines::AddedMembers;
+use changes_origins::AddedMembers;
 use clap::{Arg, ArgAction, ArgMatches, Command, Error};
 use std::alloc::{AllocError, Global};
 use std::rt::Files;

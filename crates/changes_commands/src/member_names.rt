@@ -1,6 +1,6 @@
 //! The names of the members that lines have on request.
 
-use changes_lines::AddedMembers;
+use changes_origins::AddedMembers;
 
 /// All members.
 const ALL: AddedMembers = AddedMembers {

@@ -1,6 +1,6 @@
 //! Text that grows, for messages and JSON.
 
-use changes_lines::{put_gtid, put_utf8};
+use changes_origins::{put_gtid, put_utf8};
 use feed_checks::Gtid;
 use feed_text::TextBuffer;
 use std::alloc::{AllocError, Global};

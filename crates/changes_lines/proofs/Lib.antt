@@ -1,5 +1,4 @@
 pub mod CellJsonLemmas
-pub mod AppendLemmas
 pub mod TextListLemmas
 pub mod ReadRowLemmas
 mod NumberedRowLemmas
@@ -11,4 +10,3 @@ pub mod RecorderLemmas
 pub mod ReadCellLemmas
 pub mod RowReadLemmas
 pub mod ShortRowLemmas
-pub mod Utf8Lemmas

@@ -6,7 +6,7 @@ use Rattle.rows_cells.specs.Images.{ImageShape}
 use Rattle.changes_tables.specs.ShownColumns.{ColumnView}
 use Rattle.changes_lines.specs.ReadRows.{AppendsRow, ReadsRows, AddsAllRead, AddsAllRows, AddsNumbered}
 use Rattle.changes_lines.specs.TextLists.{HasTexts, ended}
-use Rattle.changes_lines.specs.ToldMembers.{numbered, row_member}
+use Rattle.changes_lines.specs.FactMembers.{numbered, row_member}
 use Rattle.changes_lines.specs.declared.text_list.TextList.{TextList}
 use Rattle.changes_lines.proofs.ReadRowLemmas.{row_read, all_read, none_read_yet}
 use Rattle.changes_lines.proofs.TextListLemmas.{more_open}

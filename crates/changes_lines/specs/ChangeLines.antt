@@ -19,10 +19,11 @@ use Rattle.changes_tables.specs.PrimaryKeys.{key_columns, key_member}
 use Rattle.changes_tables.specs.ShownTables.{names_member}
 use Rattle.changes_tables.specs.UsedMetadata.{used_metadata}
 use Rattle.changes_tables.specs.declared.columns.TableOptions.{TableOptions}
-use Rattle.changes_lines.specs.Origins.{IsGtidJson, header_members, origin_members}
+use Rattle.changes_lines.specs.Origins.{header_members, origin_members}
+use Rattle.changes_origins.specs.GtidJson.{IsGtidJson}
 use Rattle.changes_lines.specs.RowJson.{AreRowsJson}
-use Rattle.changes_lines.specs.ToldMembers.{TransactionFacts, numbered_if, query_member, row_member_if, transaction_members}
-use Rattle.changes_lines.specs.declared.told.AddedMembers.{AddedMembers}
+use Rattle.changes_lines.specs.FactMembers.{TransactionFacts, numbered_if, query_member, row_member_if, transaction_members}
+use Rattle.changes_origins.specs.declared.added_members.AddedMembers.{AddedMembers}
 
 -- the parts of a change's lines: what is before the members that all lines of its transaction have, what is between these and the row, and its rows; a statement has one, its text
 pub record ChangeJson : Type 0 where

@@ -6,7 +6,7 @@ pub mod ReadRows
 pub mod ShortMembers
 pub mod Updates
 pub mod Origins
-pub mod ToldMembers
+pub mod FactMembers
 pub mod ChangeLines
 pub mod RecordedParts
 pub mod RecordedLines

@@ -6,7 +6,7 @@ use Rattle.rows_jsonb.specs.Items.{Walked, walk, items_at}
 use Rattle.changes_tables.specs.ShownColumns.{ColumnView}
 use Rattle.changes_lines.specs.RowJson.{IsRowJson, AreRowsJson}
 use Rattle.changes_lines.specs.TextLists.{AddsRows}
-use Rattle.changes_lines.specs.ToldMembers.{numbered, numbered_by}
+use Rattle.changes_lines.specs.FactMembers.{numbered, numbered_by}
 use Rattle.changes_lines.specs.declared.text_list.TextList.{TextList}
 
 -- the row that the bytes begin with has this JSON, and `rest` are the bytes after it

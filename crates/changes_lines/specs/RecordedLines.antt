@@ -24,8 +24,8 @@ use Rattle.changes_lines.specs.ChangeLines.{ChangeJson, AreChangesJson, rows_bac
 use Rattle.changes_lines.specs.RecordedParts.{front_of}
 use Rattle.changes_lines.specs.RowJson.{AreRowsJson}
 use Rattle.changes_lines.specs.TextLists.{HasTexts, ended}
-use Rattle.changes_lines.specs.ToldMembers.{TransactionFacts, facts_of, numbered_if, query_member, told_query, transaction_members}
-use Rattle.changes_lines.specs.declared.told.AddedMembers.{AddedMembers}
+use Rattle.changes_lines.specs.FactMembers.{TransactionFacts, facts_of, numbered_if, query_member, query_in, transaction_members}
+use Rattle.changes_origins.specs.declared.added_members.AddedMembers.{AddedMembers}
 use Rattle.changes_lines.specs.declared.recorder.JsonRecorder.{JsonRecorder}
 
 -- the filter of a recorder, and the options that its tables are shown by
@@ -37,10 +37,10 @@ options_of s = s.tables.options
 
 -- the members that its lines have on request, and their values for its transaction
 abbrev pub added_of : JsonRecorder → AddedMembers
-added_of s = s.told.added
+added_of s = s.facts.added
 
 abbrev pub facts_in : JsonRecorder → TransactionFacts
-facts_in s = facts_of s.told
+facts_in s = facts_of s.facts
 
 abbrev pub members_of : JsonRecorder → List ℕ
 members_of s = transaction_members (added_of s) (facts_in s)
@@ -69,8 +69,8 @@ has_some (x ∷ xs) = true
 pub record IsOpenJson (s : JsonRecorder) (g : Option Gtid) (l : List EventChange) : Type 0 where
   pub gtid : kept_gtid s.gtid ≡ g
   pub changes : List ChangeJson
-  pub rows : s.told.rows ≡ rows_of_all l
-  pub are : AreChangesJson s.tables.options s.told.added l (filter (takes_change s.filter) l) changes
+  pub rows : s.facts.rows ≡ rows_of_all l
+  pub are : AreChangesJson s.tables.options s.facts.added l (filter (takes_change s.filter) l) changes
   pub has : HasChanges s changes
 
 -- it has this committed transaction, with those of its changes that its filter takes
@@ -82,20 +82,20 @@ pub record IsDoneJson (s : JsonRecorder) (t : Committed) : Type 0 where
 pub record IsLikeJson (made s : JsonRecorder) : Type 0 where
   pub filter : s.filter ≡ made.filter
   pub options : s.tables.options ≡ made.tables.options
-  pub added : s.told.added ≡ made.told.added
+  pub added : s.facts.added ≡ made.facts.added
 
 -- these and the GTID are unchanged
 pub record KeepsOptions (old new : JsonRecorder) : Type 0 where
   pub filter : new.filter ≡ old.filter
   pub options : new.tables.options ≡ old.tables.options
-  pub added : new.told.added ≡ old.told.added
+  pub added : new.facts.added ≡ old.facts.added
   pub gtid : new.gtid ≡ old.gtid
 
 -- the changes are unchanged
 pub record KeepsTexts (old new : JsonRecorder) : Type 0 where
   pub texts : new.texts ≡ old.texts
   pub changes : new.changes ≡ old.changes
-  pub rows : new.told.rows ≡ old.told.rows
+  pub rows : new.facts.rows ≡ old.facts.rows
 
 -- a change was added, if it has a row
 abbrev pub AddsJson : JsonRecorder → JsonRecorder → ChangeJson → Type 0
@@ -105,8 +105,8 @@ AddsJson old new x = (xs : List ChangeJson) → 0 < length x.rows → HasChanges
 pub record AddsRowsOf (old new : JsonRecorder) (images : RowImages) (h : Header) (shapes : List ImageShape) (bytes : List ℕ) (table : ShownTable) : Type 0 where
   pub rows : List (List ℕ)
   pub are : AreRowsJson (map column_view table.columns.items) shapes (items_at (row_at shapes) bytes).items rows
-  pub counts : (xs : List ChangeJson) → HasChanges old xs → new.told.rows ≡ old.told.rows + length rows
-  pub adds : AddsJson old new (record { front = front_of images table h; back = rows_back table.key.items (query_member old.told.added.query (told_query old.told)); rows = numbered_if old.told.added.row old.told.rows rows })
+  pub counts : (xs : List ChangeJson) → HasChanges old xs → new.facts.rows ≡ old.facts.rows + length rows
+  pub adds : AddsJson old new (record { front = front_of images table h; back = rows_back table.key.items (query_member old.facts.added.query (query_in old.facts)); rows = numbered_if old.facts.added.row old.facts.rows rows })
 
 -- the rows of the newest table were added
 abbrev pub AddsRowsJson : JsonRecorder → JsonRecorder → RowImages → Header → List ImageShape → List ℕ → Type 0

@@ -7,7 +7,8 @@ use Rattle.feed_transactions.specs.Waiting.{WritesSome}
 use Rattle.feed_text.specs.Buffers.{text_in}
 use Rattle.feed_transactions.specs.Changes.{Committed}
 use Rattle.changes_lines.specs.ChangeLines.{ChangeJson, change_objects}
-use Rattle.changes_lines.specs.Origins.{IsGtidJson, header_members, origin_members}
+use Rattle.changes_lines.specs.Origins.{header_members, origin_members}
+use Rattle.changes_origins.specs.GtidJson.{IsGtidJson}
 use Rattle.changes_lines.specs.declared.lines.Lines.{Lines}
 use Rattle.changes_lines.specs.declared.lines.Ends.{Ends}
 use Rattle.changes_lines.specs.declared.lines.Head.{Head}

@@ -2,6 +2,7 @@
 #![tactic(auto)]
 
 mod columns;
+mod event_facts;
 mod header_text;
 mod images;
 mod lines;
@@ -11,14 +12,8 @@ mod origin;
 mod recorder;
 mod rows;
 mod short_rows;
-mod tagged_gtid;
 mod text_list;
-mod told;
 mod updates;
-mod utf8;
 
 pub use lines::Lines;
-pub use origin::put_gtid;
 pub use recorder::JsonRecorder;
-pub use told::AddedMembers;
-pub use utf8::put_utf8;

@@ -8,7 +8,7 @@ ghost use Rattle.feed_transactions.specs.RowLines.{IsRowsError, rows_texts_at};
 ghost use Rattle.changes_lines.specs.ReadRows.{AddsAllRows};
 ghost use Rattle.changes_lines.specs.TableColumns.{columns_in};
 ghost use Rattle.changes_lines.specs.TextLists.{HasTexts, ended};
-ghost use Rattle.changes_lines.specs.ToldMembers.{row_member, row_member_if};
+ghost use Rattle.changes_lines.specs.FactMembers.{row_member, row_member_if};
 
 use crate::columns::Columns;
 use crate::rows::{end_row, put_row, put_rows};

@@ -16,10 +16,10 @@ use Rattle.feed_change_log.specs.declared.filter.Filter.{Filter}
 use Rattle.changes_commands.specs.declared.output.Failure.{Failure}
 use Rattle.changes_commands.specs.declared.output.Failure.TheVariants as failed
 use Rattle.changes_lines.specs.ChangeLines.{ChangeJson, AreLines, with_ends, transaction_lines}
-use Rattle.changes_lines.specs.Origins.{IsGtidJson, tagged_json}
+use Rattle.changes_origins.specs.GtidJson.{IsGtidJson, tagged_json}
 use Rattle.changes_lines.specs.RecordedLines.{IsDoneJson, IsLikeJson, added_of, facts_in, filter_of, has_some, members_of, options_of}
 use Rattle.changes_lines.specs.WrittenLines.{is_by_transaction}
-use Rattle.changes_lines.specs.declared.told.AddedMembers.{AddedMembers}
+use Rattle.changes_origins.specs.declared.added_members.AddedMembers.{AddedMembers}
 use Rattle.changes_lines.specs.declared.recorder.JsonRecorder.{JsonRecorder}
 use Rattle.changes_lines.proofs.WriteLemmas.{writes_both, fails_then}
 use Rattle.changes_tables.specs.declared.columns.TableOptions.{TableOptions}

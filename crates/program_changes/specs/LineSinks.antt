@@ -9,7 +9,7 @@ use Rattle.changes_commands.specs.declared.output.Failure.TheVariants as failed
 use Rattle.changes_lines.specs.ChangeLines.{AreLines}
 use Rattle.changes_lines.specs.RecordedLines.{added_of, filter_of, options_of}
 use Rattle.changes_lines.specs.declared.recorder.JsonRecorder.{JsonRecorder}
-use Rattle.changes_lines.specs.declared.told.AddedMembers.{AddedMembers}
+use Rattle.changes_origins.specs.declared.added_members.AddedMembers.{AddedMembers}
 use Rattle.feed_change_log.specs.declared.filter.Filter.{Filter}
 use Rattle.changes_lines.specs.WrittenLines.{is_by_transaction}
 use Rattle.changes_tables.specs.declared.columns.TableOptions.{TableOptions}

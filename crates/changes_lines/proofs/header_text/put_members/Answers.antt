@@ -1,7 +1,7 @@
 use Rattle.std.specs.Prelude.{codes}
 use Rattle.std.specs.Fmt.{decimal}
 use Rattle.std.proofs.Common.{◌++◌, [], take}
-use Rattle.changes_lines.proofs.AppendLemmas.{appended_both}
+use Rattle.changes_origins.proofs.AppendLemmas.{appended_both}
 use Rattle.changes_lines.proofs.header_text.put_members.Goals as goal
 
 pub returns-clause-text : goal.returns-clause-text

@@ -4,7 +4,7 @@ use Rattle.std.proofs.Common.{◌++◌}
 use Rattle.std.proofs.lemmas.Result.{on_ok_weaker}
 use Rattle.feed_text.specs.Buffers.{text_in}
 use Rattle.changes_tables.specs.MemberTexts.{utf8_json}
-use Rattle.changes_lines.proofs.AppendLemmas.{appended_both}
+use Rattle.changes_origins.proofs.AppendLemmas.{appended_both}
 use Rattle.changes_lines.proofs.origin.put_origin.Goals as goal
 
 pub returns : goal.returns

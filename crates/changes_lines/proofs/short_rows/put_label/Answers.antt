@@ -1,5 +1,5 @@
 use Rattle.std.proofs.Common.{◌≡◌, ◌≤◌, length, arith, rules}
-use Rattle.changes_lines.proofs.AppendLemmas.{first_written}
+use Rattle.changes_origins.proofs.AppendLemmas.{first_written}
 use Rattle.changes_lines.proofs.short_rows.put_label.Goals as goal
 
 pub returns-clause-text : goal.returns-clause-text

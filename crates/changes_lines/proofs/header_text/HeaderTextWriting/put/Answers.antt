@@ -1,6 +1,6 @@
 use Rattle.std.proofs.Common.{◌≤◌, length, arith, rules}
 use Rattle.changes_lines.specs.Origins.{time_members}
-use Rattle.changes_lines.proofs.AppendLemmas.{first_written}
+use Rattle.changes_origins.proofs.AppendLemmas.{first_written}
 use Rattle.changes_lines.proofs.header_text.HeaderTextWriting.put.Goals as goal
 
 pub returns-clause-text : goal.returns-clause-text

@@ -3,8 +3,8 @@ use Rattle.std.proofs.Common.{◌++◌, ◌∷◌, [], Some, refl}
 use Rattle.std.proofs.lemmas.Result.{on_ok_weaker}
 use Rattle.feed_text.specs.Buffers.{text_in}
 use Rattle.feed_transactions.specs.TransactionTexts.{uuid_text}
-use Rattle.changes_lines.proofs.AppendLemmas.{appended_both}
-use Rattle.changes_lines.proofs.origin.put_tagged.Goals as goal
+use Rattle.changes_origins.proofs.AppendLemmas.{appended_both}
+use Rattle.changes_origins.proofs.gtids.put_tagged.Goals as goal
 
 pub returns : goal.returns
 returns g c =

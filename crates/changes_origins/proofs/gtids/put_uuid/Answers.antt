@@ -1,7 +1,7 @@
 use Rattle.std.proofs.Common.{rules, arith, ◌≡◌, length}
 use Rattle.std.proofs.lemmas.Result.{on_ok_weaker}
 use Rattle.feed_transactions.proofs.TextLemmas.{uuid_put}
-use Rattle.changes_lines.proofs.origin.put_uuid.Goals as goal
+use Rattle.changes_origins.proofs.gtids.put_uuid.Goals as goal
 
 pub returns : goal.returns
 returns g c =

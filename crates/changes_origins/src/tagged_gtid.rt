@@ -94,7 +94,7 @@ impl<'a> TaggedGtid<'a> {
 }
 
 /// The time of the commit in the body of an event, in milliseconds since 1970; None if the body has none, or can't be read.
-pub(crate) fn tagged_commit_time(body: &[u8]) -> Option<u64> {
+pub fn tagged_commit_time(body: &[u8]) -> Option<u64> {
     let (_gtid, rest) = TaggedGtid::split(body)?;
     let (_last_committed, rest) = split_integer(after_integer(rest, 4)?)?;
     let (_sequence_number, rest) = split_integer(after_integer(rest, 5)?)?;

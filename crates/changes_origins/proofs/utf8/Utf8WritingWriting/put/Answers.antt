@@ -2,8 +2,8 @@ use Rattle.std.proofs.Common.{◌≡◌, true, ◌++◌, ap, ◌∙◌}
 use Rattle.std.specs.Str.{is_utf8}
 use Rattle.changes_writers.specs.Base64Texts.{base64_object}
 use Rattle.std.proofs.lemmas.Str.{is_utf8-from_IsUtf8}
-use Rattle.changes_lines.proofs.Utf8Lemmas.{not_utf8}
-use Rattle.changes_lines.proofs.utf8.Utf8WritingWriting.put.Goals as goal
+use Rattle.changes_origins.proofs.Utf8Lemmas.{not_utf8}
+use Rattle.changes_origins.proofs.utf8.Utf8WritingWriting.put.Goals as goal
 
 pub returns-in-Some-clause-text : goal.returns-in-Some-clause-text
 returns-in-Some-clause-text c =

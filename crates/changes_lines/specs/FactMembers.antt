@@ -4,8 +4,8 @@ use Rattle.std.specs.Fmt.{decimal}
 use Rattle.events_frames.specs.Events.{header_size_field}
 use Rattle.events_frames.specs.HeaderFields.{header_field}
 use Rattle.changes_tables.specs.MemberTexts.{utf8_json}
-use Rattle.changes_lines.specs.declared.told.AddedMembers.{AddedMembers}
-use Rattle.changes_lines.specs.declared.told.Told.{Told}
+use Rattle.changes_origins.specs.declared.added_members.AddedMembers.{AddedMembers}
+use Rattle.changes_lines.specs.declared.event_facts.EventFacts.{EventFacts}
 
 -- the position at which an event begins: that after it, less its size; positions have 32 bits
 abbrev pub start_of : List ℕ → ℕ
@@ -72,14 +72,14 @@ abbrev pub numbered_by : Option ℕ → List (List ℕ) → List (List ℕ)
 numbered_by (Some n) rows = numbered n rows
 numbered_by None rows = rows
 
--- ---- what a recorder was told
+-- ---- what a recorder keeps of events
 
--- what it was told of the open transaction
-abbrev pub facts_of : Told → TransactionFacts
+-- what it keeps of the open transaction
+abbrev pub facts_of : EventFacts → TransactionFacts
 facts_of s = record { begin = s.begin; ts_ms = s.ts_ms; xid = s.xid; thread_id = s.thread_id }
 
 -- the same after a transaction began with this event: it begins with its GTID's, or else with this one
-abbrev pub begun_facts : Told → Bool → List ℕ → TransactionFacts
+abbrev pub begun_facts : EventFacts → Bool → List ℕ → TransactionFacts
 begun_facts s true e = record { begin = s.gtid_start; ts_ms = s.gtid_time; xid = None; thread_id = thread_of e }
 begun_facts s false e = record { begin = start_of e; ts_ms = None; xid = None; thread_id = thread_of e }
 
@@ -87,6 +87,6 @@ begun_facts s false e = record { begin = start_of e; ts_ms = None; xid = None; t
 abbrev pub committed_facts : TransactionFacts → List ℕ → TransactionFacts
 committed_facts f e = record { begin = f.begin; ts_ms = f.ts_ms; xid = xid_of e; thread_id = f.thread_id }
 
--- the statement that changes the rows, if it was told one
-abbrev pub told_query : Told → Option (List ℕ)
-told_query s = cond s.has_query (Some s.query.items) None
+-- the statement that changes the rows, if it observed one
+abbrev pub query_in : EventFacts → Option (List ℕ)
+query_in s = cond s.has_query (Some s.query.items) None

@@ -1,0 +1,2 @@
+pub mod AppendLemmas
+mod Utf8Lemmas
