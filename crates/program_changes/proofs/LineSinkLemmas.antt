@@ -23,7 +23,7 @@ use Rattle.changes_origins.specs.declared.added_members.AddedMembers.{AddedMembe
 use Rattle.changes_lines.specs.declared.recorder.JsonRecorder.{JsonRecorder}
 use Rattle.changes_lines.proofs.WriteLemmas.{writes_both, fails_then}
 use Rattle.changes_tables.specs.declared.columns.TableOptions.{TableOptions}
-use Rattle.program_changes.specs.Selections.{Selected, selected, selected_of}
+use Rattle.changes_walks.specs.Selections.{Selected, selected, selected_of}
 use Rattle.program_changes.specs.LineSinks.{AreSelectedLines, AreAllLines, IsRecorderFor, HasLines, HasPrefix, FailsLines}
 use Rattle.program_changes.specs.declared.changes.LineSink.{LineSink}
 

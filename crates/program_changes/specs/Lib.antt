@@ -1,8 +1,1 @@
-pub mod Selections
-pub mod Locations
-pub mod LogWalks
-pub mod Counting
-pub mod Findings
-pub mod WalkedStops
-pub mod AscendingPositions
 pub mod LineSinks

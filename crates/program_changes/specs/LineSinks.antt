@@ -13,7 +13,7 @@ use Rattle.changes_origins.specs.declared.added_members.AddedMembers.{AddedMembe
 use Rattle.feed_change_log.specs.declared.filter.Filter.{Filter}
 use Rattle.changes_lines.specs.WrittenLines.{is_by_transaction}
 use Rattle.changes_tables.specs.declared.columns.TableOptions.{TableOptions}
-use Rattle.program_changes.specs.Selections.{Selected}
+use Rattle.changes_walks.specs.Selections.{Selected}
 use Rattle.program_changes.specs.declared.changes.LineSink.{LineSink}
 
 -- the lines of a transaction's selected changes

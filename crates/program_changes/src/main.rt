@@ -5,15 +5,7 @@
 #![tactic(auto)]
 
 mod changes;
-mod check;
-mod laws;
-mod positions;
 mod run;
-mod selection;
-mod sink;
-mod status;
-mod walk;
-mod words;
 
 use changes_commands::{Refused, parse};
 use std::env;

@@ -1,0 +1,5 @@
+pub mod SelectionLemmas
+pub mod AscendingLemmas
+pub mod PassLemmas
+pub mod WalkLemmas
+pub mod CountingLemmas

@@ -1,0 +1,197 @@
+//! What is said to people about logs and errors.
+
+use crate::status::is_whole;
+use changes_commands::{Explanation, Text, explain, put_type};
+use feed_change_log::Stop;
+use feed_checks::{Verdict, name_of};
+
+/// The transactions of a log that the options select.
+#[derive(Clone, Copy)]
+pub struct Selected {
+    pub count: u64,
+    /// Where the last of them ends, if there is one.
+    pub last: Option<u32>,
+}
+
+/// What is known of a log that was read.
+#[derive(Clone, Copy)]
+pub struct Checked<'l> {
+    pub path: &'l str,
+    pub stop: Stop,
+    pub explanation: Explanation,
+    /// The position up to which it was read, if that isn't its end.
+    pub up_to: Option<u32>,
+    /// The transactions that the options select, if there are such options.
+    pub selected: Option<Selected>,
+}
+
+impl<'l> Checked<'l> {
+    /// What is known of a log that was read to its end or its first fault, and begins with these bytes.
+    pub fn new(path: &'l str, stop: Stop, first: &[u8]) -> Checked<'l> {
+        Checked {
+            path,
+            stop,
+            explanation: explanation_of(stop, first),
+            up_to: None,
+            selected: None,
+        }
+    }
+
+    /// Where the last transaction ends; of those that the options select, if there are such options.
+    fn last_commit(self) -> Option<u32> {
+        match self.selected {
+            Some(selected) => selected.last,
+            None => self.stop.last_commit,
+        }
+    }
+}
+
+/// What the verdict of a log means that ended so, and begins with these bytes.
+fn explanation_of(stop: Stop, first: &[u8]) -> Explanation {
+    let event_type = match stop.header {
+        Some(header) => Some(header.event_type_raw()),
+        None => None,
+    };
+    explain(stop.verdict, event_type, first)
+}
+
+/// Appends why a log ended.
+fn put_cause(stop: Stop, explanation: Explanation, out: &mut Text) {
+    if stop.is_cut {
+        out.words("the log ends within an event, ");
+        out.unsigned(stop.remaining as u64);
+        out.words(" bytes after position ");
+        out.unsigned(stop.offset);
+    } else if stop.verdict == Verdict::End && stop.is_open {
+        out.words("the log ends within a transaction");
+    } else {
+        out.words(explanation.meaning);
+    }
+}
+
+/// Appends where a log ended, and at which event.
+fn put_place(stop: Stop, out: &mut Text) {
+    out.words(", at position ");
+    out.unsigned(stop.offset);
+    if let Some(header) = stop.header {
+        out.words(", ");
+        put_type(header.event_type_raw(), out);
+        out.words(" of ");
+        out.unsigned(u64::from(header.event_size()));
+        out.words(" bytes");
+    }
+}
+
+/// Appends where the last transaction ends, if there is one; if there are options, how many transactions they select.
+fn put_transactions(checked: Checked<'_>, out: &mut Text) {
+    match (checked.selected, checked.last_commit()) {
+        (Some(selected), last) => {
+            out.words("; selected transactions: ");
+            out.unsigned(selected.count);
+            if let Some(position) = last {
+                out.words(", the last ends at ");
+                out.unsigned(u64::from(position));
+            }
+        }
+        (None, Some(position)) => {
+            out.words("; the last transaction ends at ");
+            out.unsigned(u64::from(position));
+        }
+        (None, None) => {}
+    }
+}
+
+/// Appends how a log ended, for people.
+pub fn put_checked(checked: Checked<'_>, out: &mut Text) {
+    let stop = checked.stop;
+    let is_end = stop.verdict == Verdict::End;
+    out.words(checked.path);
+    out.words(": ");
+    put_cause(stop, checked.explanation, out);
+    if let Some(position) = checked.up_to {
+        out.words(" up to ");
+        out.unsigned(u64::from(position));
+        out.words(", and isn't checked after it");
+    }
+    if !is_end && stop.offset > 0 {
+        put_place(stop, out);
+    }
+    put_transactions(checked, out);
+    if stop.is_open && (!is_end || stop.is_cut) {
+        out.words("; a transaction is open");
+    }
+    if !is_end {
+        out.words("; ");
+        out.words(checked.explanation.advice);
+    }
+    out.push(b'\n');
+}
+
+/// Appends that a log before another isn't closed.
+pub fn put_unclosed(path: &str, stop: Stop, out: &mut Text) {
+    out.words("binlog-changes: ");
+    out.words(path);
+    out.words(": the log ends at ");
+    out.unsigned(stop.offset);
+    out.words(
+        " without a rotate or stop event, so transactions may be missing; compare its size with SHOW BINARY LOGS, \
+and give the logs after it in a run of their own\n",
+    );
+}
+
+/// Appends the event at which a log ended, as members of an object.
+fn put_event_json(stop: Stop, out: &mut Text) {
+    if let Some(header) = stop.header {
+        out.key("event_type");
+        out.push(b'"');
+        put_type(header.event_type_raw(), out);
+        out.push(b'"');
+        out.key("event_size");
+        out.unsigned(u64::from(header.event_size()));
+    }
+}
+
+/// Appends a number, or null.
+fn put_number(number: Option<u64>, out: &mut Text) {
+    match number {
+        Some(number) => out.unsigned(number),
+        None => out.null(),
+    }
+}
+
+/// Appends what the options select of a log, as members of an object.
+fn put_selected_json(checked: Checked<'_>, out: &mut Text) {
+    if let Some(selected) = checked.selected {
+        out.key("transactions");
+        out.unsigned(selected.count);
+        out.key("checked_up_to");
+        put_number(checked.up_to.map(u64::from), out);
+    }
+}
+
+/// Appends how a log ended, as JSON.
+pub fn put_checked_json(checked: Checked<'_>, out: &mut Text) {
+    let stop = checked.stop;
+    out.push(b'{');
+    out.key("file");
+    out.string(checked.path);
+    out.key("verdict");
+    out.string(name_of(&stop.verdict));
+    out.key("is_whole");
+    out.boolean(is_whole(stop));
+    out.key("offset");
+    out.unsigned(stop.offset);
+    put_event_json(stop, out);
+    out.key("last_commit");
+    put_number(checked.last_commit().map(u64::from), out);
+    out.key("is_open");
+    out.boolean(stop.is_open);
+    out.key("is_cut");
+    out.boolean(stop.is_cut);
+    out.key("remaining");
+    out.unsigned(stop.remaining as u64);
+    out.key("next_offset");
+    put_number(stop.next_offset(), out);
+    put_selected_json(checked, out);
+    out.words("}\n");
+}
