@@ -1,19 +1,18 @@
 -- The lines of one more transaction.
-use Rattle.std.proofs.Common.{◌≡◌, ◌<◌, ℕ, Bool, true, false, true≢false, List, [], ◌∷◌, ◌++◌, length, Option, Some, None, Result, Ok, Err, refl, sym, ap, subst, ◌∙◌, append_assoc, arith}
+use Rattle.std.proofs.Common.{◌≡◌, ℕ, Bool, true, false, true≢false, List, [], ◌∷◌, ◌++◌, Option, Some, None, refl, sym, ap, subst, ◌∙◌}
 use Rattle.std.specs.Prelude.{◌&&◌, codes}
 use Rattle.std.specs.List.{AllZip, filter, flat_map}
 use Rattle.std.proofs.lemmas.List.{append-nil}
 use Rattle.std.proofs.lemmas.Grind.{flat_map-append}
-use Rattle.wire_buf.specs.Watched.{inner_of, has_failed}
+use Rattle.wire_buf.specs.Watched.{inner_of}
 use Rattle.feed_checks.specs.Kinds.{Gtid, Anonymous, Numbered, Tagged}
 use Rattle.feed_checks.specs.declared.verdict.Verdict.{Verdict}
-use Rattle.feed_transactions.specs.Changes.{EventChange, Committed}
-use Rattle.feed_transactions.specs.InterruptedWrites.{IsInterruptedWrite, WritesPrefix}
+use Rattle.feed_transactions.specs.Changes.{Committed}
+use Rattle.feed_transactions.specs.InterruptedWrites.{IsInterruptedWrite}
 use Rattle.feed_transactions.specs.Waiting.{bytes_of, WritesSome}
 use Rattle.feed_transactions.proofs.WaitingLemmas.{writes_none}
 use Rattle.feed_change_log.specs.Filters.{takes_change, takes_transaction}
 use Rattle.feed_change_log.specs.declared.filter.Filter.{Filter}
-use Rattle.changes_commands.specs.declared.output.Failure.{Failure}
 use Rattle.changes_commands.specs.declared.output.Failure.TheVariants as failed
 use Rattle.changes_lines.specs.ChangeLines.{ChangeJson, AreLines, with_ends, transaction_lines}
 use Rattle.changes_origins.specs.GtidJson.{IsGtidJson, tagged_json}
