@@ -1,0 +1,3 @@
+pub mod JsonGrammar
+pub mod JsonNames
+pub mod JsonLines
