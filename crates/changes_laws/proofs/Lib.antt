@@ -17,3 +17,11 @@ pub mod NamedMembers
 pub mod LineGrammarLemmas
 pub mod ValueLemmas
 pub mod LineLawLemmas
+pub mod ValueEnds
+pub mod ObjectReadLemmas
+pub mod LineReadLemmas
+pub mod CellReadLemmas
+pub mod DateReadLemmas
+pub mod InstantReadLemmas
+pub mod MemberReadLemmas
+pub mod CellLawLemmas

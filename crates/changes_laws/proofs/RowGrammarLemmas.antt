@@ -21,7 +21,7 @@ use Rattle.changes_laws.proofs.PlannedColumnLemmas.{AreRising, AreRisingShapes}
 abbrev pub name_at : List (List ℕ) → ℕ → List ℕ
 name_at names i = slice_index_or names i []
 
-named_at : (P : Type 0) (names : List (List ℕ)) (table : List ColumnView) (i : ℕ) → AreNamed P names table → i < length names → IsNamed P (name_at names i) (column_at table i)
+pub named_at : (P : Type 0) (names : List (List ℕ)) (table : List ColumnView) (i : ℕ) → AreNamed P names table → i < length names → IsNamed P (name_at names i) (column_at table i)
 named_at P [] [] i a lt = absurd (omega (arith, lt))
 named_at P [] (c ∷ cs) i a lt = absurd a
 named_at P (n ∷ ns) [] i a lt = absurd a
@@ -87,7 +87,7 @@ record ObjectOf (P : Type 0) (names : List (List ℕ)) (table : List ColumnView)
   has : HasMoreMembers P members (more_members table cells)
   named : names_of members ≡ map (λ (x : CellJson). name_at names x.column) cells
 
-member_text : (n key json : List ℕ) → key ≡ json_string n ++ 58 ∷ [] → key ++ json ≡ json_string n ++ 58 ∷ json
+pub member_text : (n key json : List ℕ) → key ≡ json_string n ++ 58 ∷ [] → key ++ json ≡ json_string n ++ 58 ∷ json
 member_text n key json e = ap (λ (t : List ℕ). t ++ json) e ∙ append_assoc (json_string n) (58 ∷ []) json
 
 members_of : (P : Type 0) (names : List (List ℕ)) (table : List ColumnView) (least : ℕ) (cells : List CellJson) → AreNamed P names table → AreCellsOf P least (length names) cells → ObjectOf P names table cells
@@ -104,7 +104,7 @@ members_of P names table least (x ∷ xs) t a =
       named = ap (λ (ns : List (List ℕ)). name ∷ ns) more.named;
     }
 
-other_names : (names : List (List ℕ)) (i j : ℕ) → AreDistinct names → i < j → j < length names → name_at names j ≢ name_at names i
+pub other_names : (names : List (List ℕ)) (i j : ℕ) → AreDistinct names → i < j → j < length names → name_at names j ≢ name_at names i
 other_names [] i j d lt le = absurd (omega (arith, le))
 other_names (n ∷ ns) zero zero d lt le = absurd (omega (arith, lt))
 other_names (n ∷ ns) (suc i) zero d lt le = absurd (omega (arith, lt))

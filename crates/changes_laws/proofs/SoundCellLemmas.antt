@@ -100,7 +100,7 @@ BothBytes p = AreBytes p.0 × AreBytes p.1
 pub width_gives : (n : ℕ) (b : List ℕ) → AreBytes b → Gives BothBytes (at_width n b)
 width_gives n b h = either BothBytes (nat_le n (length b)) (Ok (take n b, drop n b)) (Err EndOfBody) (given BothBytes (take n b, drop n b) (take_bytes n b h, drop_bytes n b h)) (fails BothBytes EndOfBody)
 
-size_gives : (s : Size) (b : List ℕ) → AreBytes b → Gives BothBytes (content_at s b)
+pub size_gives : (s : Size) (b : List ℕ) → AreBytes b → Gives BothBytes (content_at s b)
 size_gives (exactly n) b h = width_gives n b h
 size_gives (after_length w) b h = next BothBytes BothBytes (at_width w b) (λ size. at_width (little_number w size.0) size.1) (width_gives w b h) (λ p q. width_gives (little_number w p.0) p.1 q.1)
 size_gives (unreadable e) b h = fails BothBytes e

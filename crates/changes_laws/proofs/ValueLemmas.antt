@@ -17,7 +17,7 @@ use Rattle.changes_laws.proofs.SoundDocumentLemmas.{document_tree_sound}
 use Rattle.changes_laws.proofs.SoundCellLemmas.{cell_gives}
 use Rattle.changes_laws.proofs.CellGrammarLemmas.{cell_json}
 
-of_json : (x : List ℕ) → IsJson (Unit {0}) x → IsJsonValue x
+pub of_json : (x : List ℕ) → IsJson (Unit {0}) x → IsJsonValue x
 of_json x j = record { value = j.value; text_is = j.is; printable = λ k d lt. Each1-get_or (λ b. 32 ≤ b) x k d lt j.printable; distinct = j.distinct tt }
 
 to_json : (x : List ℕ) → IsJsonValue x → IsJson (Unit {0}) x

@@ -190,3 +190,8 @@ pub record IsJsonText (v : Json) (text : List ℕ) : Type 0 where
   pub own_is : IsValue v own
   pub after_is : IsWhitespace after
   pub is : text ≡ before ++ (own ++ after)
+
+-- nothing, or what may follow a value within others: a comma or a closing bracket
+abbrev pub IsAfterValue : List ℕ → Type 0
+IsAfterValue [] = ⊤
+IsAfterValue (b ∷ bs) = IsTrue (b == 44 || b == 93 || b == 125)

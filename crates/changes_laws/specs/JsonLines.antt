@@ -6,6 +6,7 @@ use Rattle.events_frames.specs.Headers.{Header}
 use Rattle.feed_checks.specs.Kinds.{Gtid, Anonymous, Numbered, Tagged}
 use Rattle.feed_transactions.specs.Changes.{Content, OfRows, OfStatement, EventChange}
 use Rattle.changes_lines.specs.Origins.{TaggedGtid}
+use Rattle.changes_lines.specs.RowJson.{CellJson}
 use Rattle.changes_laws.specs.JsonGrammar.{Json, Members, object, IsValue, IsJsonText}
 use Rattle.changes_laws.specs.JsonNames.{HasDistinctNames}
 
@@ -58,3 +59,7 @@ is_of_tag b = list_any (λ c. c == b) tag_characters
 abbrev pub IsTagRead : Option TaggedGtid → Type 0
 IsTagRead None = ⊤
 IsTagRead (Some g) = AreBytes g.uuid × All (λ b. IsTrue (is_of_tag b)) g.tag
+
+-- a cell of one of n columns
+abbrev pub IsCellShown : ℕ → CellJson → Type 0
+IsCellShown n x = (x.column < n) × IsJsonValue x.json
