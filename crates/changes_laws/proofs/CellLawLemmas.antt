@@ -31,6 +31,7 @@ use Rattle.changes_laws.specs.SameCells.{IsSameCell, equal, floats, doubles, Are
 use Rattle.changes_laws.proofs.ReadingGives.{Gives, given, fails, next, little_below, signed_below}
 use Rattle.changes_laws.proofs.SoundCellLemmas.{BothBytes, size_gives}
 use Rattle.changes_laws.proofs.DateReadLemmas.{IsSmallDay, IsSmallClock, datetimes_read, dates_read, durations_read}
+use Rattle.changes_laws.proofs.TimestampReadLemmas.{timestamps_read, timestamp_small}
 use Rattle.changes_laws.proofs.CellReadLemmas.{eight_below, integers_read, any_numbers_read, decimals_read, years_read, bytes_read}
 
 -- ---- what values the cells of a format have
@@ -55,6 +56,13 @@ pub record IsSpanValue (v : CellValue) : Type 0 where
   pub few_micros : micros < 2 ^ 64
   pub is : v ≡ time negative days hours minutes seconds micros
 
+pub record IsTimestampValue (v : CellValue) : Type 0 where
+  pub seconds : ℤ
+  pub micros : ℤ
+  pub few_seconds : mag seconds < 2 ^ 31
+  pub few_micros : mag micros < 2 ^ 63
+  pub is : v ≡ bytes (timestamp_text (seconds, micros))
+
 abbrev pub IsKnown : CellFormat → CellValue → Type 0
 IsKnown (format.Signed w) v = (z : ℤ) × (v ≡ int z) × (mag z < 2 ^ 63)
 IsKnown (format.Unsigned width.Eight) v = (n : ℕ) × (v ≡ uint n) × (n < 2 ^ 64)
@@ -65,7 +73,7 @@ IsKnown format.Year v = (n : ℕ) × (n < 256) × (v ≡ bytes (decimal (1900 + 
 IsKnown format.NewDate v = (d : Day) × IsSmallDay d × (v ≡ date d.year d.month d.day 0 0 0 0)
 IsKnown format.OldTime v = IsSpanValue v
 IsKnown format.OldDatetime v = IsDateValue v
-IsKnown (format.Timestamp2 digits) v = Unit {0}
+IsKnown (format.Timestamp2 digits) v = IsTimestampValue v
 IsKnown (format.Datetime2 digits) v = IsDateValue v
 IsKnown (format.Time2 digits) v = IsSpanValue v
 IsKnown (format.Decimal precision scale) v = (b : List ℕ) × (v ≡ bytes b)
@@ -160,7 +168,8 @@ content_known format.NewDate b h =
     given (IsKnown format.NewDate) (new_date n) (record { year = n / 2 ^ 9 % 2 ^ 16; month = n / 2 ^ 5 % 2 ^ 4; day = n % 2 ^ 5 }, record { year = omega arith; month = omega arith; day = omega arith }, refl)
 content_known format.OldTime b h = given (IsKnown format.OldTime) (old_time (little_signed 3 b)) (old_span (little_signed 3 b) (abs_small (little_signed 3 b) (omega (arith, signed_below 3 b h))))
 content_known format.OldDatetime b h = given (IsKnown format.OldDatetime) (old_datetime (little_number 8 b)) (old_date (little_number 8 b))
-content_known (format.Timestamp2 digits) b h = given (IsKnown (format.Timestamp2 digits)) (bytes (timestamp_text (timestamp2 (fraction_len digits) b))) tt
+content_known (format.Timestamp2 digits) b h = given (IsKnown (format.Timestamp2 digits)) (bytes (timestamp_text (timestamp2 (fraction_len digits) b)))
+    (let t = timestamp2 (fraction_len digits) b in let small = timestamp_small digits b h in record { seconds = t.0; micros = t.1; few_seconds = small.0; few_micros = small.1; is = refl })
 content_known (format.Datetime2 digits) b h =
     let z = datetime2 (fraction_len digits) b in
     given (IsKnown (format.Datetime2 digits)) (cell_date z) (packed_small z (abs_wrapped z (SFits-int_wrap w64 _)))
@@ -173,10 +182,10 @@ content_known format.JsonDiffs b h = record { each = λ x e. tt }
 content_known format.NoMetadata b h = fails (IsKnown format.NoMetadata) Metadata
 content_known format.NoCells b h = fails (IsKnown format.NoCells) Cell
 
-abbrev KnownThen : CellFormat → CellValue × List ℕ → Type 0
+abbrev pub KnownThen : CellFormat → CellValue × List ℕ → Type 0
 KnownThen f x = IsKnown f x.0
 
-cell_known : (f : CellFormat) (b : List ℕ) → AreBytes b → Gives (KnownThen f) (cell_at f b)
+pub cell_known : (f : CellFormat) (b : List ℕ) → AreBytes b → Gives (KnownThen f) (cell_at f b)
 unfolding cell_at
 cell_known f b h =
     next BothBytes (KnownThen f) (content_at (cell_size f) b) _ (size_gives (cell_size f) b h)
@@ -193,7 +202,7 @@ dates_same : (s : Shown) (digits : ℕ) (v w : CellValue) (x : List ℕ) (a : Is
 dates_same s digits v w x a b e f =
     from_equal s v w (a.is ∙ date_of a.day b.day a.clock b.clock (datetimes_read digits a.day b.day a.clock b.clock a.small_day b.small_day a.small_clock b.small_clock (sym e ∙ f)) ∙ sym b.is)
 
-abbrev clock_in : ℕ → ℕ → ℕ → ℕ → ℕ → Clock
+abbrev pub clock_in : ℕ → ℕ → ℕ → ℕ → ℕ → Clock
 clock_in days hours minutes seconds micros = record { hour = 24 * days + hours; minute = minutes; second = seconds; micros = micros }
 
 time_of : (m n : Bool) (d e h k i j s t u v : ℕ) → h < 24 → k < 24 → m ≡ n → clock_in d h i s u ≡ clock_in e k j t v → time m d h i s u ≡ time n e k j t v
@@ -222,7 +231,7 @@ unfolding IsIntegerJson
 small_numbers c v w x m n a p q lm ln e f =
     from_equal c.shown v w (p ∙ ap (λ (k : ℕ). int (pos k)) (any_numbers_read c.shown c.members m n x a (omega (arith, lm)) (omega (arith, ln)) (λ t. (lm, ln)) e f) ∙ sym q)
 
-by_format : (c : ColumnView) (f : CellFormat) (v w : CellValue) (x : List ℕ) → IsFormatOf c.shown f → AreMembers c.members → IsKnown f v → IsKnown f w → IsCellJson c f v x → IsCellJson c f w x → IsSameCell c.shown v w
+pub by_format : (c : ColumnView) (f : CellFormat) (v w : CellValue) (x : List ℕ) → IsFormatOf c.shown f → AreMembers c.members → IsKnown f v → IsKnown f w → IsCellJson c f v x → IsCellJson c f w x → IsSameCell c.shown v w
 unfolding IsCellJson IsBytesJson date_shown
 by_format c (format.Signed w) u v x p a k l e f =
     from_equal c.shown u v (k.1 ∙ ap int (integers_read c k.0 l.0 x p k.2 l.2 (subst (λ (y : CellValue). IsCellJson c (format.Signed w) y x) k.1 e) (subst (λ (y : CellValue). IsCellJson c (format.Signed w) y x) l.1 f)) ∙ sym l.1)
@@ -243,7 +252,10 @@ by_format c format.NewDate u v x p a k l e f =
     from_equal c.shown u v (k.2 ∙ ap (λ (d : Day). date d.year d.month d.day 0 0 0 0) day ∙ sym l.2)
 by_format c format.OldTime u v x p a k l e f = spans_same c.shown 0 u v x k l (subst (λ (y : CellValue). IsCellJson c format.OldTime y x) k.is e) (subst (λ (y : CellValue). IsCellJson c format.OldTime y x) l.is f)
 by_format c format.OldDatetime u v x p a k l e f = dates_same c.shown 0 u v x k l (subst (λ (y : CellValue). IsCellJson c format.OldDatetime y x) k.is e) (subst (λ (y : CellValue). IsCellJson c format.OldDatetime y x) l.is f)
-by_format c (format.Timestamp2 digits) u v x p a k l e f = absurd p
+by_format c (format.Timestamp2 digits) u v x p a k l e f =
+    let same = timestamps_read digits k.seconds k.micros l.seconds l.micros (timestamp_text (k.seconds, k.micros)) (timestamp_text (l.seconds, l.micros)) x k.few_seconds k.few_micros l.few_seconds l.few_micros refl refl
+    (subst (λ (y : CellValue). IsCellJson c (format.Timestamp2 digits) y x) k.is e) (subst (λ (y : CellValue). IsCellJson c (format.Timestamp2 digits) y x) l.is f) in
+    from_equal c.shown u v (k.is ∙ ap bytes same ∙ sym l.is)
 by_format c (format.Datetime2 digits) u v x p a k l e f = dates_same c.shown digits u v x k l (subst (λ (y : CellValue). IsCellJson c (format.Datetime2 digits) y x) k.is e) (subst (λ (y : CellValue). IsCellJson c (format.Datetime2 digits) y x) l.is f)
 by_format c (format.Time2 digits) u v x p a k l e f = spans_same c.shown digits u v x k l (subst (λ (y : CellValue). IsCellJson c (format.Time2 digits) y x) k.is e) (subst (λ (y : CellValue). IsCellJson c (format.Time2 digits) y x) l.is f)
 by_format c (format.Decimal i j) u v x p a k l e f =

@@ -31,7 +31,7 @@ use Rattle.changes_laws.proofs.InstantReadLemmas.{instants_read}
 use Rattle.changes_laws.proofs.MemberReadLemmas.{first, first_digit, enums_read, sets_read}
 
 -- ---- signed numbers of bytes
-mag_negative : (x y : ℕ) (z : ℤ) → x < y → z ≡ pos x -ℤ pos y → mag z + x < y
+pub mag_negative : (x y : ℕ) (z : ℤ) → x < y → z ≡ pos x -ℤ pos y → mag z + x < y
 mag_negative x y (pos n) lt e = absurd (omega (arith, ints, e, lt))
 mag_negative x y (negsuc n) lt e = omega (arith, ints, e)
 
@@ -142,28 +142,28 @@ no_brace : (n : ℕ) (b : List ℕ) → n < 2 ^ 64 → decimal n ≡ base64_obje
 unfolding base64_object
 no_brace n b lt e = let no : true ≡ false = sym (first_digit n lt) ∙ ap (λ (l : List ℕ). is_digit (first l)) e in false≢true (sym no)
 
+few_bound : (j v : ℕ) → j ≤ 8 → v < 256 ^ j → v < 2 ^ 64
+few_bound zero v le lt = omega (arith, lt)
+few_bound (suc zero) v le lt = omega (arith, lt)
+few_bound (suc (suc zero)) v le lt = omega (arith, lt)
+few_bound (suc (suc (suc zero))) v le lt = omega (arith, lt)
+few_bound (suc (suc (suc (suc zero)))) v le lt = omega (arith, lt)
+few_bound (suc (suc (suc (suc (suc zero))))) v le lt = omega (arith, lt)
+few_bound (suc (suc (suc (suc (suc (suc zero)))))) v le lt = omega (arith, lt)
+few_bound (suc (suc (suc (suc (suc (suc (suc zero))))))) v le lt = omega (arith, lt)
+few_bound (suc (suc (suc (suc (suc (suc (suc (suc zero)))))))) v le lt = omega (arith, lt)
+few_bound (suc (suc (suc (suc (suc (suc (suc (suc (suc i))))))))) v le lt = absurd (omega (arith, le))
+
+pub few_small : (l : List ℕ) → AreBytes l → nat_le (length l) 8 ≡ true → big_number (length l) l < 2 ^ 64
+few_small l r k = few_bound (length l) (big_number (length l) l) (leb_yes (subst T (sym k) tt)) (big_from-lt 0 (length l) l r)
+
 few_read : (s : Shown) (a b x : List ℕ) → s ≡ shown.Bit → AreBytes a → AreBytes b → x ≡ of_few a (decimal (big_number (length a) a)) → x ≡ of_few b (decimal (big_number (length b) b)) → IsTold s a b
 few_read s a b x h p q e f = go (nat_le (length a) 8) (nat_le (length b) 8) refl refl (sym e ∙ f)
   where
-    small : (l : List ℕ) → AreBytes l → nat_le (length l) 8 ≡ true → big_number (length l) l < 2 ^ 64
-    small l r k = below (length l) (big_number (length l) l) (leb_yes (subst T (sym k) tt)) (big_from-lt 0 (length l) l r)
-      where
-        below : (j v : ℕ) → j ≤ 8 → v < 256 ^ j → v < 2 ^ 64
-        below zero v le lt = omega (arith, lt)
-        below (suc zero) v le lt = omega (arith, lt)
-        below (suc (suc zero)) v le lt = omega (arith, lt)
-        below (suc (suc (suc zero))) v le lt = omega (arith, lt)
-        below (suc (suc (suc (suc zero)))) v le lt = omega (arith, lt)
-        below (suc (suc (suc (suc (suc zero))))) v le lt = omega (arith, lt)
-        below (suc (suc (suc (suc (suc (suc zero)))))) v le lt = omega (arith, lt)
-        below (suc (suc (suc (suc (suc (suc (suc zero))))))) v le lt = omega (arith, lt)
-        below (suc (suc (suc (suc (suc (suc (suc (suc zero)))))))) v le lt = omega (arith, lt)
-        below (suc (suc (suc (suc (suc (suc (suc (suc (suc i))))))))) v le lt = absurd (omega (arith, le))
-
     go : (k l : Bool) → nat_le (length a) 8 ≡ k → nat_le (length b) 8 ≡ l → (if k then decimal (big_number (length a) a) else base64_object a) ≡ (if l then decimal (big_number (length b) b) else base64_object b) → IsTold s a b
-    go true true i j g = bits h (decimal_injective (big_number (length a) a) (big_number (length b) b) (small a p i) (small b q j) g)
-    go true false i j g = absurd (no_brace (big_number (length a) a) b (small a p i) g)
-    go false true i j g = absurd (no_brace (big_number (length b) b) a (small b q j) (sym g))
+    go true true i j g = bits h (decimal_injective (big_number (length a) a) (big_number (length b) b) (few_small a p i) (few_small b q j) g)
+    go true false i j g = absurd (no_brace (big_number (length a) a) b (few_small a p i) g)
+    go false true i j g = absurd (no_brace (big_number (length b) b) a (few_small b q j) (sym g))
     go false false i j g = same_bytes s a b (base64_whole a b (base64_object a) p q refl g)
 
 pub bytes_read : (s : Shown) (members : List (List ℕ)) (a b x : List ℕ) → IsNoMember s → AreBytes a → AreBytes b → IsBytesShown s members a x → IsBytesShown s members b x → IsTold s a b

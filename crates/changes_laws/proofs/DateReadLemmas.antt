@@ -57,7 +57,7 @@ zeros_digits : (k : ℕ) → Digits (replicate k 48)
 zeros_digits zero = tt
 zeros_digits (suc k) = (refl, zeros_digits k)
 
-padded_digits : (w n : ℕ) → Digits (padded_decimal w n)
+pub padded_digits : (w n : ℕ) → Digits (padded_decimal w n)
 unfolding padded_decimal
 padded_digits w n = digits_append (replicate (w - length (decimal n)) 48) (decimal n) (zeros_digits (w - length (decimal n))) (decimal_digits n)
 
@@ -73,7 +73,7 @@ others (x ∷ xs) = xs
 abbrev pub Ends : List ℕ → Type 0
 Ends s = is_digit (first s) ≡ false
 
-digits_end : (x y s t : List ℕ) → Digits x → Digits y → Ends s → Ends t → x ++ s ≡ y ++ t → (x ≡ y) × (s ≡ t)
+pub digits_end : (x y s t : List ℕ) → Digits x → Digits y → Ends s → Ends t → x ++ s ≡ y ++ t → (x ≡ y) × (s ≡ t)
 digits_end [] [] s t p q a b e = (refl, e)
 digits_end [] (d ∷ y) s t p q a b e = absurd (false≢true (sym a ∙ ap (λ (l : List ℕ). is_digit (first l)) e ∙ q.0))
 digits_end (c ∷ x) [] s t p q a b e = absurd (false≢true (sym b ∙ ap (λ (l : List ℕ). is_digit (first l)) (sym e) ∙ p.0))
@@ -82,7 +82,7 @@ digits_end (c ∷ x) (d ∷ y) s t p q a b e =
     (ap₂ (λ (i : ℕ) (l : List ℕ). i ∷ l) (ap first e) f.0, f.1)
 
 -- ---- padded numbers
-zeros_value : (k : ℕ) (ds : List ℕ) → digits_value 10 (replicate k 48 ++ ds) ≡ digits_value 10 ds
+pub zeros_value : (k : ℕ) (ds : List ℕ) → digits_value 10 (replicate k 48 ++ ds) ≡ digits_value 10 ds
 zeros_value zero ds = refl
 zeros_value (suc k) ds = zeros_value k ds
 
@@ -367,7 +367,7 @@ dates_read d e p q h =
     let f = quotes_read (day_text d) (day_text e) (sym (plain_string (day_text d) (day_plain d)) ∙ h ∙ plain_string (day_text e) (day_plain e)) in
     (day_read d e [] [] p q refl refl (append-nil (day_text d) ∙ f ∙ sym (append-nil (day_text e)))).0
 
-duration_text : (digits : ℕ) (negative : Bool) (c : Clock) → shown_duration digits negative c ≡ in_quotes (sign_text negative ++ clock3 c (fraction_of digits c.micros))
+pub duration_text : (digits : ℕ) (negative : Bool) (c : Clock) → shown_duration digits negative c ≡ in_quotes (sign_text negative ++ clock3 c (fraction_of digits c.micros))
 unfolding shown_duration duration_json time_digits time_and_number
 duration_text digits negative c = go (is_small c.micros)
   where

@@ -25,7 +25,7 @@ tail_ends : (digits : ℕ) (z : ℤ) → Ends (tail_of digits z)
 tail_ends digits (pos n) = fraction_ends digits n
 tail_ends digits (negsuc n) = refl
 
-no_sign : (l r : List ℕ) → Digits l → l ≡ 45 ∷ r → ⊥
+pub no_sign : (l r : List ℕ) → Digits l → l ≡ 45 ∷ r → ⊥
 no_sign [] r d e = absurd (let no = ap length e in omega (arith, no))
 no_sign (x ∷ l) r d e = false≢true (subst (λ (b : List ℕ). first_digit b ≡ true) e d.0)
   where
@@ -117,3 +117,10 @@ instants_read digits s t y z x p q m n a b = go (instant_of digits s y x a) (ins
     go (nothing e f g) (something u) = absurd (no_zero digits t z x q u g)
     go (something u) (nothing e f g) = absurd (no_zero digits s y x p u g)
     go (something u) (something v) = utc_read digits s t y z x p q m n u v
+
+pub instant_quoted : (digits s : ℕ) (z : ℤ) (x : List ℕ) → IsInstant digits s z x → (t : List ℕ) × (x ≡ 34 ∷ t)
+instant_quoted digits s z x h = go (instant_of digits s z x h)
+  where
+    go : Instant digits s z x → (t : List ℕ) × (x ≡ 34 ∷ t)
+    go (nothing e f g) = (_, g ∙ datetime_text digits (record { year = 0; month = 0; day = 0 }) (record { hour = 0; minute = 0; second = 0; micros = 0 }))
+    go (something u) = (_, text_with digits u.day u.clock z x u.text)

@@ -25,3 +25,6 @@ pub mod DateReadLemmas
 pub mod InstantReadLemmas
 pub mod MemberReadLemmas
 pub mod CellLawLemmas
+pub mod NullReadLemmas
+pub mod ImageReadLemmas
+pub mod TimestampReadLemmas

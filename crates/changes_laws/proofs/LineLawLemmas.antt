@@ -83,7 +83,7 @@ changes_objects P options (c ∷ cs) (x ∷ xs) origin g l e =
     ∥∥₁_map₂ (content_objects P options c.header c.content x origin g (l.0).0 (l.0).1 e.0) (changes_objects P options cs xs origin g l.1 e.1) (λ a b. each_append (IsOpenLine P) (change_objects origin x) (objects origin xs) a b)
 
 -- ---- an object and a line feed
-all_of : {A : Type 0} (Holds : A → Type 0) (xs : List A) → EachHolds Holds xs → All Holds xs
+pub all_of : {A : Type 0} (Holds : A → Type 0) (xs : List A) → EachHolds Holds xs → All Holds xs
 all_of Holds xs h k d lt = Each1-get_or Holds xs k d lt h
 
 pub each_of : {A : Type 0} (Holds : A → Type 0) (xs : List A) → All Holds xs → EachHolds Holds xs

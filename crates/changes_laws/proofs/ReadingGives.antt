@@ -37,7 +37,7 @@ mag_difference : (x y : ℕ) (z : ℤ) → z ≡ pos x -ℤ pos y → mag z ≤ 
 mag_difference x y (pos n) e = omega (arith, ints, e)
 mag_difference x y (negsuc n) e = omega (arith, ints, e)
 
-mag_signed : (n x : ℕ) → mag (twos_complement n x) ≤ x + 2 ^ (8 * n)
+pub mag_signed : (n x : ℕ) → mag (twos_complement n x) ≤ x + 2 ^ (8 * n)
 mag_signed n x = go (nat_lt x (2 ^ (8 * n - 1)))
   where
     go : (b : Bool) → mag (if b then pos x else pos x -ℤ pos (2 ^ (8 * n))) ≤ x + 2 ^ (8 * n)

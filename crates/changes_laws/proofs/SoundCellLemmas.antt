@@ -154,7 +154,7 @@ cells_give bits nulls k (c ∷ cs) b h =
     (λ first s. next (WithBytes (AreSoundCells cs)) (WithBytes (AreSoundCells (c ∷ cs))) (cells_at bits nulls (k + 1) cs first.1) _ (cells_give bits nulls (k + 1) cs first.1 s.1)
     (λ more m. given (WithBytes (AreSoundCells (c ∷ cs))) (record { column = c.column; value = first.0 } ∷ more.0, more.1) (((refl, by_format partial c.format first.0 s.0), m.0), m.1)))
 
-abbrev RestIsBytes : {A : Type 0} → A × List ℕ → Type 0
+abbrev pub RestIsBytes : {A : Type 0} → A × List ℕ → Type 0
 RestIsBytes x = AreBytes x.1
 
 number_rest : (n : ℕ) (r : List ℕ) → AreBytes r → RestAreBytes (split_number n r)
@@ -188,7 +188,7 @@ lenenc_gives b h = go (split_lenenc b) (lenenc_rest b h)
     go None r = fails (RestIsBytes {A = ℕ}) (lenenc_error b)
     go (Some x) r = given (RestIsBytes {A = ℕ}) x r
 
-shared_gives : (j : Option ℕ) (b : List ℕ) → AreBytes b → Gives (RestIsBytes {A = List ℕ}) (shared_at j b)
+pub shared_gives : (j : Option ℕ) (b : List ℕ) → AreBytes b → Gives (RestIsBytes {A = List ℕ}) (shared_at j b)
 shared_gives None b h = given (RestIsBytes {A = List ℕ}) ([], b) h
 shared_gives (Some j) b h = next (RestIsBytes {A = ℕ}) (RestIsBytes {A = List ℕ}) (lenenc_at b) (bits_at j) (lenenc_gives b h)
     (λ options o. either (RestIsBytes {A = List ℕ}) (options.0 % 2 == 1) (at_width ((j + 7) / 8) options.1) (Ok ([], options.1)) (record { each = λ x e. ((width_gives ((j + 7) / 8) options.1 o).each x e).1 }) (given (RestIsBytes {A = List ℕ}) ([], options.1) o))

@@ -23,7 +23,7 @@ of_json x j = record { value = j.value; text_is = j.is; printable = λ k d lt. E
 to_json : (x : List ℕ) → IsJsonValue x → IsJson (Unit {0}) x
 to_json x j = record { value = j.value; is = j.text_is; printable = Each1-from_get_or (λ b. 32 ≤ b) x 0 (λ i lt. j.printable i 0 lt); distinct = λ p. j.distinct }
 
-all_json : (xs : List (List ℕ)) → All IsJsonValue xs → AllJson (Unit {0}) xs
+pub all_json : (xs : List (List ℕ)) → All IsJsonValue xs → AllJson (Unit {0}) xs
 all_json [] h = tt
 all_json (x ∷ xs) h = (to_json x (h 0 x (omega arith)), all_json xs (λ k d lt. h (suc k) d (omega (arith, lt))))
 

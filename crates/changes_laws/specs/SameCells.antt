@@ -1,5 +1,5 @@
 -- Which values of a column have the same JSON, and what a line shows of a change.
-use Rattle.std.specs.Prelude.{◌≡◌, ◌==◌, ◌||◌, ⊤, All, Bool, false, IsTrue, ℕ, List, [], ◌∷◌, length, from_bits}
+use Rattle.std.specs.Prelude.{◌≡◌, ◌<◌, ◌==◌, ◌||◌, ⊤, All, Bool, false, IsTrue, ℕ, List, [], ◌∷◌, length, from_bits}
 use Rattle.std.specs.Float.{binary32, binary64}
 use Rattle.byteorder.specs.Endian.{big_number}
 use Rattle.events_frames.specs.Headers.{Header}
@@ -7,10 +7,14 @@ use Rattle.rows_cells.specs.CellValues.{CellValue, bytes, float, double}
 use Rattle.rows_cells.specs.declared.format.CellFormat.{CellFormat}
 use Rattle.rows_cells.specs.declared.format.CellFormat.TheVariants as format
 use Rattle.rows_cells.specs.declared.format.Width.TheVariants as width
+use Rattle.rows_cells.specs.Images.{ColumnValue}
+use Rattle.rows_cells.specs.declared.image.ImageColumn.{ImageColumn}
 use Rattle.rows_event_body.specs.declared.rows_event_type.RowImages.{RowImages}
 use Rattle.feed_transactions.specs.MappedRows.{change_by}
 use Rattle.changes_character_sets.specs.Texts.{IsTextOf}
 use Rattle.changes_character_sets.specs.declared.character_set.CharacterSet.{CharacterSet}
+use Rattle.changes_lines.specs.RowJson.{column_at}
+use Rattle.changes_tables.specs.ShownColumns.{ColumnView}
 use Rattle.changes_tables.specs.declared.columns.Shown.{Shown}
 use Rattle.changes_tables.specs.declared.columns.Shown.TheVariants as shown
 use Rattle.changes_laws.specs.JsonLines.{IsJsonValue}
@@ -62,11 +66,10 @@ IsNoMember shown.Enum = ⊥
 IsNoMember shown.Set = ⊥
 IsNoMember _ = ⊤
 
--- the formats of the columns that are shown in a way; none of JSON documents, and none of TIMESTAMPs with a fraction
+-- the formats of the columns that are shown in a way; not that of JSON documents
 abbrev pub IsFormatOf : Shown → CellFormat → Type 0
 IsFormatOf s (format.Signed w) = IsNumberAlone s
 IsFormatOf s (format.Unsigned width.Eight) = IsNoInstant s
-IsFormatOf s (format.Timestamp2 digits) = ⊥
 IsFormatOf s (format.Plain n) = IsNoMember s
 IsFormatOf s (format.Counted w) = IsNoMember s
 IsFormatOf s format.Json = ⊥
@@ -74,3 +77,11 @@ IsFormatOf s format.JsonDiffs = ⊥
 IsFormatOf s format.NoMetadata = ⊥
 IsFormatOf s format.NoCells = ⊥
 IsFormatOf s _ = ⊤
+
+-- one of the n columns of a table, in an image: its cells are of a format as above, and its members are different
+abbrev pub IsToldColumn : ℕ → List ColumnView → ImageColumn → Type 0
+IsToldColumn n table c = (c.column < n) × IsFormatOf (column_at table c.column).shown c.format × AreMembers (column_at table c.column).members
+
+-- the same value of the same column
+abbrev pub IsSameValue : List ColumnView → ColumnValue → ColumnValue → Type 0
+IsSameValue table v w = (v.column ≡ w.column) × IsSameCell (column_at table v.column).shown v.value w.value

@@ -7,6 +7,7 @@ ghost use Rattle.events_frames.specs.Headers.{Header};
 ghost use Rattle.rows_table_map.specs.TableMaps.{TableMap};
 ghost use Rattle.rows_event_body.specs.declared.rows_event_type.RowImages.{RowImages};
 ghost use Rattle.rows_cells.specs.Cells.{cell_at};
+ghost use Rattle.rows_cells.specs.Images.{ColumnValue, ImageShape, image_at};
 ghost use Rattle.rows_cells.specs.CellValues.{CellValue};
 ghost use Rattle.rows_cells.specs.declared.format.CellFormat.{CellFormat};
 ghost use Rattle.feed_transactions.specs.Changes.{Committed, EventChange};
@@ -18,10 +19,10 @@ ghost use Rattle.changes_writers.specs.JsonStrings.{json_string};
 ghost use Rattle.changes_cells.specs.CellJson.{AreUpdatesJson, IsCellJson, IsDocumentJson};
 ghost use Rattle.changes_lines.specs.ChangeLines.{AreChangesJson, AreLines, ChangeJson, key_of, rows_back, rows_front, transaction_lines};
 ghost use Rattle.changes_lines.specs.Origins.{TaggedGtid, origin_members, tagged_json};
-ghost use Rattle.changes_lines.specs.RowJson.{CellJson, object_json};
+ghost use Rattle.changes_lines.specs.RowJson.{AreCellsJson, CellJson, object_json};
 ghost use Rattle.changes_laws.specs.JsonGrammar.{IsAfterValue, IsString, IsValue, Json};
 ghost use Rattle.changes_laws.specs.JsonLines.{AreObjectLines, IsCellShown, IsJsonValue, IsLoggedChange, IsLoggedHeader, IsTagRead, IsUntaggedGtid};
-ghost use Rattle.changes_laws.specs.SameCells.{AreMembers, IsFormatOf, IsSameCell, ShowsOrigin};
+ghost use Rattle.changes_laws.specs.SameCells.{AreMembers, IsFormatOf, IsSameCell, IsSameValue, IsToldColumn, ShowsOrigin};
 
 /// The string of a text in UTF-8 is a string of RFC 8259, and its characters are those of the text.
 pub fn strings_have_their_characters()
@@ -72,8 +73,15 @@ pub fn lines_show_their_origin()
 
 /// Cells of one column that have the same JSON have the same value: the same number, decimal, date, time, member or members, the same
 /// bytes, or bytes with the same text in the column's character set. Floats are the same by their bits, NaNs count as one. This isn't
-/// stated of documents and of a TIMESTAMP with a fraction.
+/// stated of documents.
 pub fn cells_show_their_values()
     ensures { (c : ColumnView) (f : CellFormat) (a b r s x : List ℕ) (v w : CellValue) → IsFormatOf c.shown f → AreMembers c.members → AreBytes a → AreBytes b → cell_at f a ≡ Ok (v, r) → cell_at f b ≡ Ok (w, s)
         → IsCellJson c f v x → IsCellJson c f w x → IsSameCell c.shown v w }
+{}
+
+/// Images of one shape with equal objects have the same values, NULLs among them. Tables with documents are left out.
+pub fn images_show_their_values()
+    ensures { (options : TableOptions) (m : TableMap) (columns : List ColumnView) (shape : ImageShape) (a b r q : List ℕ) (vs ws : List ColumnValue) (xs ys : List CellJson) (s t : List ℕ) → length m.column_types < 2 ^ 64
+        → AllZip (IsColumn options) (column_parts m) columns → All (IsToldColumn (length m.column_types) columns) shape.columns → AreBytes a → AreBytes b → image_at shape a ≡ Ok (vs, r) → image_at shape b ≡ Ok (ws, q)
+        → AreCellsJson columns shape.columns vs xs → AreCellsJson columns shape.columns ws ys → object_json columns xs ++ s ≡ object_json columns ys ++ t → AllZip (IsSameValue columns) vs ws × (s ≡ t) }
 {}
