@@ -1,0 +1,65 @@
+-- Lines of JSON, and the changes of a transaction as binary logs have them: numbers of at most 64 bits, and bytes.
+use Rattle.std.specs.Prelude.{◌≡◌, ◌≤◌, ◌<◌, ◌^◌, ◌==◌, ⊤, All, Bool, IsTrue, ℕ, codes, List, [], ◌∷◌, ◌++◌, length, Option, Some, None}
+use Rattle.std.specs.List.{flat_map, list_any}
+use Rattle.wire_buf.specs.Encoding.{AreBytes}
+use Rattle.events_frames.specs.Headers.{Header}
+use Rattle.feed_checks.specs.Kinds.{Gtid, Anonymous, Numbered, Tagged}
+use Rattle.feed_transactions.specs.Changes.{Content, OfRows, OfStatement, EventChange}
+use Rattle.changes_origins.specs.GtidJson.{TaggedGtid}
+use Rattle.changes_lines.specs.RowJson.{CellJson}
+use Rattle.changes_laws.specs.JsonGrammar.{Json, Members, object, IsValue, IsJsonText}
+use Rattle.changes_laws.specs.JsonNames.{HasDistinctNames}
+
+-- a value without control characters, in which no object has a name twice
+pub record IsJsonValue (text : List ℕ) : Type 0 where
+  pub value : Json
+  pub text_is : IsValue value text
+  pub printable : All (λ b. 32 ≤ b) text
+  pub distinct : HasDistinctNames value
+
+-- an object without control characters, and so without line feeds; neither it nor an object in it has a name twice
+pub record IsObjectLine (line : List ℕ) : Type 0 where
+  pub members : Members
+  pub text : IsJsonText (object members) line
+  pub printable : All (λ b. 32 ≤ b) line
+  pub distinct : HasDistinctNames (object members)
+
+-- such lines, each with a line feed after it
+pub record AreObjectLines (text : List ℕ) : Type 0 where
+  pub lines : List (List ℕ)
+  pub are : All IsObjectLine lines
+  pub is : text ≡ flat_map (λ line. line ++ 10 ∷ []) lines
+
+-- the time, the server and the position
+abbrev pub IsLoggedHeader : Header → Type 0
+IsLoggedHeader h = (h.timestamp < 2 ^ 64) × (h.server_id < 2 ^ 64) × (h.log_pos < 2 ^ 64)
+
+abbrev pub IsLoggedContent : Content → Type 0
+IsLoggedContent (OfRows m r) = AreBytes r.rows_data × (length m.column_types < 2 ^ 64)
+IsLoggedContent (OfStatement q) = ⊤
+
+abbrev pub IsLoggedChange : EventChange → Type 0
+IsLoggedChange c = IsLoggedHeader c.header × IsLoggedContent c.content
+
+-- a GTID without a tag
+abbrev pub IsUntaggedGtid : Option Gtid → Type 0
+IsUntaggedGtid None = ⊤
+IsUntaggedGtid (Some Anonymous) = ⊤
+IsUntaggedGtid (Some (Numbered uuid number)) = AreBytes uuid
+IsUntaggedGtid (Some (Tagged body)) = ⊥
+
+-- letters, digits and underscore
+abbrev pub tag_characters : List ℕ
+tag_characters = codes "ABCDEFGHIJKLMNOPQRSTUVWXYZabcdefghijklmnopqrstuvwxyz0123456789_"
+
+abbrev pub is_of_tag : ℕ → Bool
+is_of_tag b = list_any (λ c. c == b) tag_characters
+
+-- a tagged GTID that was read, or none
+abbrev pub IsTagRead : Option TaggedGtid → Type 0
+IsTagRead None = ⊤
+IsTagRead (Some g) = AreBytes g.uuid × All (λ b. IsTrue (is_of_tag b)) g.tag
+
+-- a cell of one of n columns
+abbrev pub IsCellShown : ℕ → CellJson → Type 0
+IsCellShown n x = (x.column < n) × IsJsonValue x.json

@@ -1,0 +1,4 @@
+pub mod JsonGrammar
+pub mod JsonNames
+pub mod JsonLines
+pub mod SameCells

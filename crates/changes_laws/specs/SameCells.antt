@@ -1,0 +1,87 @@
+-- Which values of a column have the same JSON, and what a line shows of a change.
+use Rattle.std.specs.Prelude.{◌≡◌, ◌<◌, ◌==◌, ◌||◌, ⊤, All, Bool, false, IsTrue, ℕ, List, [], ◌∷◌, length, from_bits}
+use Rattle.std.specs.Float.{binary32, binary64}
+use Rattle.byteorder.specs.Endian.{big_number}
+use Rattle.events_frames.specs.Headers.{Header}
+use Rattle.rows_cells.specs.CellValues.{CellValue, bytes, float, double}
+use Rattle.rows_cells.specs.declared.format.CellFormat.{CellFormat}
+use Rattle.rows_cells.specs.declared.format.CellFormat.TheVariants as format
+use Rattle.rows_cells.specs.declared.format.Width.TheVariants as width
+use Rattle.rows_cells.specs.Images.{ColumnValue}
+use Rattle.rows_cells.specs.declared.image.ImageColumn.{ImageColumn}
+use Rattle.rows_event_body.specs.declared.rows_event_type.RowImages.{RowImages}
+use Rattle.feed_transactions.specs.MappedRows.{change_by}
+use Rattle.changes_character_sets.specs.Texts.{IsTextOf}
+use Rattle.changes_character_sets.specs.declared.character_set.CharacterSet.{CharacterSet}
+use Rattle.changes_lines.specs.RowJson.{column_at}
+use Rattle.changes_tables.specs.ShownColumns.{ColumnView}
+use Rattle.changes_tables.specs.declared.columns.Shown.{Shown}
+use Rattle.changes_tables.specs.declared.columns.Shown.TheVariants as shown
+use Rattle.changes_laws.specs.JsonLines.{IsJsonValue}
+use Rattle.changes_laws.specs.JsonNames.{AreDistinct}
+
+-- equal values; floats that are equal, NaNs counted as one; bytes with the same text in the column's character set; the same bits of a BIT
+pub data IsSameCell (s : Shown) : CellValue → CellValue → Type 0 where
+  equal : {v : CellValue} → IsSameCell s v v
+  floats : {a b : ℕ} → from_bits binary32 a ≡ from_bits binary32 b → IsSameCell s (float a) (float b)
+  doubles : {a b : ℕ} → from_bits binary64 a ≡ from_bits binary64 b → IsSameCell s (double a) (double b)
+  texts : {a b : List ℕ} (set : CharacterSet) (text : List ℕ) → s ≡ shown.Text set → IsTextOf set a text → IsTextOf set b text → IsSameCell s (bytes a) (bytes b)
+  bits : {a b : List ℕ} → s ≡ shown.Bit → big_number (length a) a ≡ big_number (length b) b → IsSameCell s (bytes a) (bytes b)
+
+-- what the lines of two changes of a table show before their rows: what happened, the time and the server, the GTID, the file and the position
+pub record ShowsOrigin (a b : RowImages) (h k : Header) (gtid other file name : List ℕ) (position place : ℕ) : Type 0 where
+  pub change : change_by a ≡ change_by b
+  pub time : h.timestamp ≡ k.timestamp
+  pub server : h.server_id ≡ k.server_id
+  pub gtid_is : gtid ≡ other
+  pub file_is : file ≡ name
+  pub position_is : position ≡ place
+
+-- a string or an object
+abbrev pub begins_as_member : List ℕ → Bool
+begins_as_member [] = false
+begins_as_member (b ∷ bs) = b == 34 || b == 123
+
+-- the members of an ENUM or a SET: strings and objects, all different
+pub record AreMembers (members : List (List ℕ)) : Type 0 where
+  pub json : All IsJsonValue members
+  pub begin : All (λ m. IsTrue (begins_as_member m)) members
+  pub distinct : AreDistinct members
+
+-- numbers that aren't members, and no seconds
+abbrev pub IsNumberAlone : Shown → Type 0
+IsNumberAlone shown.Timestamp = ⊥
+IsNumberAlone shown.Enum = ⊥
+IsNumberAlone shown.Set = ⊥
+IsNumberAlone _ = ⊤
+
+-- no seconds
+abbrev pub IsNoInstant : Shown → Type 0
+IsNoInstant shown.Timestamp = ⊥
+IsNoInstant _ = ⊤
+
+-- bytes that aren't those of members
+abbrev pub IsNoMember : Shown → Type 0
+IsNoMember shown.Enum = ⊥
+IsNoMember shown.Set = ⊥
+IsNoMember _ = ⊤
+
+-- the formats of the columns that are shown in a way; not that of JSON documents
+abbrev pub IsFormatOf : Shown → CellFormat → Type 0
+IsFormatOf s (format.Signed w) = IsNumberAlone s
+IsFormatOf s (format.Unsigned width.Eight) = IsNoInstant s
+IsFormatOf s (format.Plain n) = IsNoMember s
+IsFormatOf s (format.Counted w) = IsNoMember s
+IsFormatOf s format.Json = ⊥
+IsFormatOf s format.JsonDiffs = ⊥
+IsFormatOf s format.NoMetadata = ⊥
+IsFormatOf s format.NoCells = ⊥
+IsFormatOf s _ = ⊤
+
+-- one of the n columns of a table, in an image: its cells are of a format as above, and its members are different
+abbrev pub IsToldColumn : ℕ → List ColumnView → ImageColumn → Type 0
+IsToldColumn n table c = (c.column < n) × IsFormatOf (column_at table c.column).shown c.format × AreMembers (column_at table c.column).members
+
+-- the same value of the same column
+abbrev pub IsSameValue : List ColumnView → ColumnValue → ColumnValue → Type 0
+IsSameValue table v w = (v.column ≡ w.column) × IsSameCell (column_at table v.column).shown v.value w.value

@@ -1,0 +1,88 @@
+//! Laws, each stated as the contract of a function that does nothing.
+
+ghost use Rattle.std.specs.Prelude.{◌≡◌, ◌<◌, ◌^◌, ◌++◌, All, Bool, IsUtf8, List, Ok, Option, length, ℕ};
+ghost use Rattle.std.specs.List.{AllZip};
+ghost use Rattle.wire_buf.specs.Encoding.{AreBytes};
+ghost use Rattle.events_frames.specs.Headers.{Header};
+ghost use Rattle.rows_table_map.specs.TableMaps.{TableMap};
+ghost use Rattle.rows_event_body.specs.declared.rows_event_type.RowImages.{RowImages};
+ghost use Rattle.rows_cells.specs.Cells.{cell_at};
+ghost use Rattle.rows_cells.specs.Images.{ColumnValue, ImageShape, image_at};
+ghost use Rattle.rows_cells.specs.CellValues.{CellValue};
+ghost use Rattle.rows_cells.specs.declared.format.CellFormat.{CellFormat};
+ghost use Rattle.feed_transactions.specs.Changes.{Committed, EventChange};
+ghost use Rattle.changes_tables.specs.ColumnParts.{column_parts};
+ghost use Rattle.changes_tables.specs.ColumnsShown.{IsColumn};
+ghost use Rattle.changes_tables.specs.ShownColumns.{ColumnView};
+ghost use Rattle.changes_tables.specs.declared.columns.TableOptions.{TableOptions};
+ghost use Rattle.changes_writers.specs.JsonStrings.{json_string};
+ghost use Rattle.changes_cells.specs.CellJson.{AreUpdatesJson, IsCellJson, IsDocumentJson};
+ghost use Rattle.changes_lines.specs.ChangeLines.{AreChangesJson, AreLines, ChangeJson, key_of, rows_back, rows_front, transaction_lines};
+ghost use Rattle.changes_lines.specs.Origins.{origin_members};
+ghost use Rattle.changes_origins.specs.GtidJson.{TaggedGtid, tagged_json};
+ghost use Rattle.changes_lines.specs.RowJson.{AreCellsJson, CellJson, object_json};
+ghost use Rattle.changes_laws.specs.JsonGrammar.{IsAfterValue, IsString, IsValue, Json};
+ghost use Rattle.changes_laws.specs.JsonLines.{AreObjectLines, IsCellShown, IsJsonValue, IsLoggedChange, IsLoggedHeader, IsTagRead, IsUntaggedGtid};
+ghost use Rattle.changes_laws.specs.SameCells.{AreMembers, IsFormatOf, IsSameCell, IsSameValue, IsToldColumn, ShowsOrigin};
+
+/// The string of a text in UTF-8 is a string of RFC 8259, and its characters are those of the text.
+pub fn strings_have_their_characters()
+    ensures { (s : List ℕ) → IsUtf8 s → IsString s (json_string s) }
+{}
+
+/// The JSON of a document, and that of partial updates, is a value of RFC 8259 without control characters, and no object in it has a member
+/// twice.
+pub fn documents_are_json()
+    ensures documents { (b x : List ℕ) → AreBytes b → IsDocumentJson b x → IsJsonValue x }
+    ensures updates { (b x : List ℕ) → AreBytes b → AreUpdatesJson b x → IsJsonValue x }
+{}
+
+/// The JSON of a cell that bytes begin with is such a value, if the members of its column are.
+pub fn cells_are_json()
+    ensures { (c : ColumnView) (f : CellFormat) (bytes rest x : List ℕ) (v : CellValue) → AreBytes bytes → cell_at f bytes ≡ Ok (v, rest) → All IsJsonValue c.members → IsCellJson c f v x → IsJsonValue x }
+{}
+
+/// Each line of a transaction is an object of RFC 8259 without control characters. It has no member twice, nor has an object in it. A
+/// GTID with a tag is a string by the second clause, for each tag of letters, digits and underscores.
+pub fn lines_are_json()
+    ensures lines { (options : TableOptions) (by_transaction : Bool) (file : List ℕ) (t : Committed) (changes : List EventChange) (text : List ℕ) → IsUntaggedGtid t.gtid → IsLoggedHeader t.commit → All IsLoggedChange changes
+        → AreLines options by_transaction file t changes text → ∥ AreObjectLines text ∥₁ }
+    ensures tagged { (options : TableOptions) (by_transaction : Bool) (file body : List ℕ) (g : Option TaggedGtid) (t : Committed) (changes : List EventChange) (xs : List ChangeJson) → IsTagRead g → IsLoggedHeader t.commit → All IsLoggedChange changes
+        → AreChangesJson options changes xs → ∥ AreObjectLines (transaction_lines by_transaction file t (tagged_json body g) xs) ∥₁ }
+{}
+
+/// A value shows where it ends, whatever follows it that may: texts that begin with a value, and then nothing, a comma or a closing bracket,
+/// are equal only if the values' texts and what follows are.
+pub fn values_show_where_they_end()
+    ensures { (v w : Json) (x y s t : List ℕ) → IsValue v x → IsValue w y → IsAfterValue s → IsAfterValue t → x ++ s ≡ y ++ t → (x ≡ y) × (s ≡ t) }
+{}
+
+/// An object of columns of one table shows its cells: their columns, the JSON of each, and where it ends.
+pub fn objects_show_their_cells()
+    ensures { (options : TableOptions) (m : TableMap) (columns : List ColumnView) (a b : List CellJson) (s t : List ℕ) → length m.column_types < 2 ^ 64 → AllZip (IsColumn options) (column_parts m) columns
+        → All (IsCellShown (length m.column_types)) a → All (IsCellShown (length m.column_types)) b → object_json columns a ++ s ≡ object_json columns b ++ t → (a ≡ b) × (s ≡ t) }
+{}
+
+/// The line of a changed row of a table shows what happened, the time, the server, the JSON of the GTID, the file and the position; and then
+/// what follows `"data":`.
+pub fn lines_show_their_origin()
+    ensures { (a b : RowImages) (m : TableMap) (h k : Header) (gtid other file name : List ℕ) (position place : ℕ) (s t : List ℕ) → IsLoggedHeader h → IsLoggedHeader k → IsJsonValue gtid → IsJsonValue other
+        → AreBytes file → AreBytes name → position < 2 ^ 64 → place < 2 ^ 64
+        → rows_front a m h ++ (origin_members gtid file position ++ (rows_back (key_of m) ++ s)) ≡ rows_front b m k ++ (origin_members other name place ++ (rows_back (key_of m) ++ t))
+        → ShowsOrigin a b h k gtid other file name position place × (s ≡ t) }
+{}
+
+/// Cells of one column that have the same JSON have the same value: the same number, decimal, date, time, member or members, the same
+/// bytes, or bytes with the same text in the column's character set. Floats are the same by their bits, NaNs count as one. This isn't
+/// stated of documents.
+pub fn cells_show_their_values()
+    ensures { (c : ColumnView) (f : CellFormat) (a b r s x : List ℕ) (v w : CellValue) → IsFormatOf c.shown f → AreMembers c.members → AreBytes a → AreBytes b → cell_at f a ≡ Ok (v, r) → cell_at f b ≡ Ok (w, s)
+        → IsCellJson c f v x → IsCellJson c f w x → IsSameCell c.shown v w }
+{}
+
+/// Images of one shape with equal objects have the same values, NULLs among them. Tables with documents are left out.
+pub fn images_show_their_values()
+    ensures { (options : TableOptions) (m : TableMap) (columns : List ColumnView) (shape : ImageShape) (a b r q : List ℕ) (vs ws : List ColumnValue) (xs ys : List CellJson) (s t : List ℕ) → length m.column_types < 2 ^ 64
+        → AllZip (IsColumn options) (column_parts m) columns → All (IsToldColumn (length m.column_types) columns) shape.columns → AreBytes a → AreBytes b → image_at shape a ≡ Ok (vs, r) → image_at shape b ≡ Ok (ws, q)
+        → AreCellsJson columns shape.columns vs xs → AreCellsJson columns shape.columns ws ys → object_json columns xs ++ s ≡ object_json columns ys ++ t → AllZip (IsSameValue columns) vs ws × (s ≡ t) }
+{}
