@@ -89,7 +89,7 @@ key_names_json P names (c ∷ cs) h = (string_json P (unwrap_or (slice_get names
 
 -- the primary key, if there is one, and the members of the row
 pub key_and_row : (P : Type 0) (names : List (List ℕ)) (columns : List ℕ) (row : List ℕ) (ks : List (List ℕ)) → EachHolds IsUtf8 names → HasNamed P ks (codes ",\"data\":" ++ row)
-    → HasNamed P ks (rows_back (key_member names columns) ++ row) ⊎ HasNamed P (codes "primary_key" ∷ ks) (rows_back (key_member names columns) ++ row)
+    → HasNamed P ks (rows_back (key_member names columns) [] ++ row) ⊎ HasNamed P (codes "primary_key" ∷ ks) (rows_back (key_member names columns) [] ++ row)
 unfolding json_string
 key_and_row P names [] row ks h m = inl m
 key_and_row P names (c ∷ cs) row ks h m =

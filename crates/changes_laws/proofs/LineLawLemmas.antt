@@ -24,10 +24,10 @@ use Rattle.changes_tables.specs.MemberTexts.{utf8_json}
 use Rattle.changes_tables.specs.PrimaryKeys.{key_columns}
 use Rattle.changes_tables.specs.UsedMetadata.{used_metadata}
 use Rattle.changes_tables.specs.declared.columns.TableOptions.{TableOptions}
-use Rattle.changes_lines.specs.ChangeLines.{ChangeJson, IsContentJson, AreChangesJson, change_objects, objects, end_by, with_ends, lines_of, transaction_line, transaction_lines, AreLines}
+use Rattle.changes_lines.specs.ChangeLines.{ChangeJson, IsContentJson, AreChangesJson, rows_of_all, change_objects, objects, end_by, with_ends, lines_of, transaction_line, transaction_lines, AreLines}
 use Rattle.changes_lines.specs.Origins.{header_members, origin_members}
 use Rattle.changes_origins.specs.GtidJson.{IsGtidJson, TaggedGtid, tagged_json}
-use Rattle.changes_laws.specs.JsonLines.{IsObjectLine, AreObjectLines, IsLoggedHeader, IsLoggedContent, IsLoggedChange, IsUntaggedGtid, IsTagRead, is_of_tag, tag_characters}
+use Rattle.changes_laws.specs.JsonLines.{IsObjectLine, AreObjectLines, IsLoggedHeader, IsLoggedContent, IsLoggedChange, IsUntaggedGtid, IsTagRead, no_members, is_of_tag, tag_characters}
 use Rattle.changes_laws.proofs.WrittenJson.{IsJson, IsObject, AllJson, joined_array, null_json, boolean_json, object_value}
 use Rattle.changes_laws.proofs.NumberGrammarLemmas.{decimal_json}
 use Rattle.changes_laws.proofs.PlainGrammarLemmas.{Plain, all_plain, base64_object_json, plain_append, decimal_plain, quoted_json, utf8_or_object}
@@ -58,30 +58,30 @@ statement_line P schema query origin h l (inr g) = record {
   with_commit = tt;
 }
 
-content_objects : (P : Type 0) (options : TableOptions) (h : Header) (content : Content) (x : ChangeJson) (origin : List ℕ) → HasOrigin P origin → IsLoggedHeader h → IsLoggedContent content → IsContentJson options h content x
+content_objects : (P : Type 0) (options : TableOptions) (before : ℕ) (h : Header) (content : Content) (x : ChangeJson) (origin : List ℕ) → HasOrigin P origin → IsLoggedHeader h → IsLoggedContent content → IsContentJson options no_members before h content x
     → ∥ EachHolds (IsOpenLine P) (change_objects origin x) ∥₁
-content_objects P options h (OfRows m r) x origin g l c e =
+content_objects P options before h (OfRows m r) x origin g l c e =
     let names = column_names m in
     let rising : AreRisingShapes (length names) e.shapes = subst (λ (n : ℕ). AreRisingShapes n e.shapes) (length-shown_columns m) (shapes_rising m r e.shapes e.shapes_are) in
     let opens : Opens P (codes "type") front_names x.front = subst (Opens P (codes "type") front_names) (sym e.front) (front_opens P (images_of r.event_type) m h l) in
     let keys = λ (row : List ℕ) (ks : List (List ℕ)) (n : HasNamed P ks (codes ",\"data\":" ++ row)).
     subst (λ (b : List ℕ). HasNamed P ks (b ++ row) ⊎ HasNamed P (codes "primary_key" ∷ ks) (b ++ row)) (sym e.back) (key_and_row P names (key_columns (length m.column_types) (used_metadata m).key) row ks (column_names_utf8 m) n) in
-    ∥∥₁_map e.shown (λ s. row_lines P x.front origin x.back names e.columns e.shapes (event_rows r (plan_by m)).items x.rows opens g keys (λ p. column_names_distinct m c.1) (columns_named P options m e.columns s) rising (rows_sound m r e.shapes c.0 e.shapes_are) e.rows)
-content_objects P options h (OfStatement q) x origin g l c e =
+    ∥∥₁_map e.shown (λ s. subst (λ (rows : List (List ℕ)). EachHolds (IsOpenLine P) (map (λ row. x.front ++ (origin ++ (x.back ++ row))) rows)) (sym e.numbered) (row_lines P x.front origin x.back names e.columns e.shapes (event_rows r (plan_by m)).items e.plain opens g keys (λ p. column_names_distinct m c.1) (columns_named P options m e.columns s) rising (rows_sound m r e.shapes c.0 e.shapes_are) e.rows))
+content_objects P options before h (OfStatement q) x origin g l c e =
     let line : IsOpenLine P (x.front ++ (origin ++ (x.back ++ utf8_json q.query))) = subst (λ (f : List ℕ). IsOpenLine P (f ++ (origin ++ (x.back ++ utf8_json q.query)))) (sym e.front)
     (subst (λ (b : List ℕ). IsOpenLine P ((codes "{\"type\":\"statement\",\"database\":" ++ (utf8_json q.schema ++ header_members h)) ++ (origin ++ (b ++ utf8_json q.query)))) (sym e.back) (statement_line P q.schema q.query origin h l g)) in
-    ∣ subst (λ (rows : List (List ℕ)). EachHolds (IsOpenLine P) (map (λ row. x.front ++ (origin ++ (x.back ++ row))) rows)) (sym e.rows) (line, tt) ∣₁
+    ∣ subst (λ (rows : List (List ℕ)). EachHolds (IsOpenLine P) (map (λ row. x.front ++ (origin ++ (x.back ++ row))) rows)) (sym (e.rows ∙ ap (λ (row : List ℕ). row ∷ []) (append-nil (utf8_json q.query)))) (line, tt) ∣₁
 
 each_append : {A : Type 0} (Holds : A → Type 0) (xs ys : List A) → EachHolds Holds xs → EachHolds Holds ys → EachHolds Holds (xs ++ ys)
 each_append Holds [] ys p q = q
 each_append Holds (x ∷ xs) ys p q = (p.0, each_append Holds xs ys p.1 q)
 
-pub changes_objects : (P : Type 0) (options : TableOptions) (cs : List EventChange) (xs : List ChangeJson) (origin : List ℕ) → HasOrigin P origin → EachHolds IsLoggedChange cs → AreChangesJson options cs xs → ∥ EachHolds (IsOpenLine P) (objects origin xs) ∥₁
-changes_objects P options [] [] origin g l e = ∣ tt ∣₁
-changes_objects P options [] (x ∷ xs) origin g l e = absurd e
-changes_objects P options (c ∷ cs) [] origin g l e = absurd e
-changes_objects P options (c ∷ cs) (x ∷ xs) origin g l e =
-    ∥∥₁_map₂ (content_objects P options c.header c.content x origin g (l.0).0 (l.0).1 e.0) (changes_objects P options cs xs origin g l.1 e.1) (λ a b. each_append (IsOpenLine P) (change_objects origin x) (objects origin xs) a b)
+pub changes_objects : (P : Type 0) (options : TableOptions) (all cs : List EventChange) (xs : List ChangeJson) (origin : List ℕ) → HasOrigin P origin → EachHolds IsLoggedChange cs → AreChangesJson options no_members all cs xs → ∥ EachHolds (IsOpenLine P) (objects origin xs) ∥₁
+changes_objects P options all [] [] origin g l e = ∣ tt ∣₁
+changes_objects P options all [] (x ∷ xs) origin g l e = absurd e
+changes_objects P options all (c ∷ cs) [] origin g l e = absurd e
+changes_objects P options all (c ∷ cs) (x ∷ xs) origin g l e =
+    ∥∥₁_map₂ (content_objects P options (rows_of_all (e.0).before) c.header c.content x origin g (l.0).0 (l.0).1 (e.0).is) (changes_objects P options all cs xs origin g l.1 e.1) (λ a b. each_append (IsOpenLine P) (change_objects origin x) (objects origin xs) a b)
 
 -- ---- an object and a line feed
 pub all_of : {A : Type 0} (Holds : A → Type 0) (xs : List A) → EachHolds Holds xs → All Holds xs
@@ -240,20 +240,22 @@ tagged_is_json P body (Some g) h =
 
 -- ---- the law
 pub lines_law : (options : TableOptions) (by_transaction : Bool) (file gtid : List ℕ) (t : Committed) (changes : List EventChange) (xs : List ChangeJson) → IsJson (Unit {0}) gtid → IsLoggedHeader t.commit → All IsLoggedChange changes
-    → AreChangesJson options changes xs → ∥ AreObjectLines (transaction_lines by_transaction file t gtid xs) ∥₁
+    → AreChangesJson options no_members t.changes changes xs → ∥ AreObjectLines (transaction_lines by_transaction file t gtid [] xs) ∥₁
 lines_law options true file gtid t changes xs g l c e =
-    ∥∥₁_map (changes_objects (Unit {0}) options changes xs [] (inr (none_named (Unit {0}))) (each_of IsLoggedChange changes c) e)
-    (λ all. transaction_object (Unit {0}) t.commit gtid file t.commit.log_pos (objects [] xs) tt l g l.2 all)
+    let origin = origin_members gtid file t.commit.log_pos in
+    ∥∥₁_map (changes_objects (Unit {0}) options t.changes changes xs [] (inr (none_named (Unit {0}))) (each_of IsLoggedChange changes c) e)
+    (λ all. subst (λ (o : List ℕ). AreObjectLines (transaction_line (header_members t.commit ++ o) (objects [] xs))) (sym (append-nil origin)) (transaction_object (Unit {0}) t.commit gtid file t.commit.log_pos (objects [] xs) tt l g l.2 all))
 lines_law options false file gtid t changes xs g l c e =
-    ∥∥₁_map (changes_objects (Unit {0}) options changes xs (origin_members gtid file t.commit.log_pos) (inl (origin_named (Unit {0}) gtid file t.commit.log_pos g l.2)) (each_of IsLoggedChange changes c) e)
-    (λ all. object_lines (Unit {0}) (objects (origin_members gtid file t.commit.log_pos) xs) tt all)
+    let origin = origin_members gtid file t.commit.log_pos in
+    ∥∥₁_map (changes_objects (Unit {0}) options t.changes changes xs origin (inl (origin_named (Unit {0}) gtid file t.commit.log_pos g l.2)) (each_of IsLoggedChange changes c) e)
+    (λ all. subst (λ (o : List ℕ). AreObjectLines (lines_of (objects o xs))) (sym (append-nil origin)) (object_lines (Unit {0}) (objects origin xs) tt all))
 
 pub untagged_law : (options : TableOptions) (by_transaction : Bool) (file : List ℕ) (t : Committed) (changes : List EventChange) (text : List ℕ) → IsUntaggedGtid t.gtid → IsLoggedHeader t.commit → All IsLoggedChange changes
-    → AreLines options by_transaction file t changes text → ∥ AreObjectLines text ∥₁
+    → AreLines options no_members by_transaction file t changes text → ∥ AreObjectLines text ∥₁
 untagged_law options by_transaction file t changes text u l c e =
     let g = e.2 in
-    subst (λ (x : List ℕ). ∥ AreObjectLines x ∥₁) (sym g.2) (lines_law options by_transaction file g.0 t changes e.0 (untagged_json (Unit {0}) t.gtid g.0 u g.1) l c e.1)
+    subst (λ (x : List ℕ). ∥ AreObjectLines x ∥₁) (sym (g.2).1) (lines_law options by_transaction file g.0 t changes e.0 (untagged_json (Unit {0}) t.gtid g.0 u g.1) l c e.1)
 
 pub tagged_law : (options : TableOptions) (by_transaction : Bool) (file body : List ℕ) (g : Option TaggedGtid) (t : Committed) (changes : List EventChange) (xs : List ChangeJson) → IsTagRead g → IsLoggedHeader t.commit → All IsLoggedChange changes
-    → AreChangesJson options changes xs → ∥ AreObjectLines (transaction_lines by_transaction file t (tagged_json body g) xs) ∥₁
+    → AreChangesJson options no_members t.changes changes xs → ∥ AreObjectLines (transaction_lines by_transaction file t (tagged_json body g) [] xs) ∥₁
 tagged_law options by_transaction file body g t changes xs h l c e = lines_law options by_transaction file (tagged_json body g) t changes xs (tagged_is_json (Unit {0}) body g h) l c e

@@ -96,14 +96,14 @@ front_read a b m h k s t p q u v e =
     let i = header_read h k s t p q u v (append_cancel_left (44 ∷ names_member m) (header_members h ++ s) (header_members k ++ t) g.1) in
     (g.0, i.0, i.1, i.2)
 
-back_follows : (key rest : List ℕ) → IsAfterValue (rows_back key ++ rest)
+back_follows : (key rest : List ℕ) → IsAfterValue (rows_back key [] ++ rest)
 back_follows [] rest = refl
 back_follows (b ∷ bs) rest = refl
 
 pub line_read : (a b : RowImages) (m : TableMap) (h k : Header) (g i file name : List ℕ) (p q : ℕ) (s t : List ℕ) → IsLoggedHeader h → IsLoggedHeader k → IsJsonValue g → IsJsonValue i → IsBytes file → IsBytes name → p < 2 ^ 64 → q < 2 ^ 64
-    → rows_front a m h ++ (origin_members g file p ++ (rows_back (key_of m) ++ s)) ≡ rows_front b m k ++ (origin_members i name q ++ (rows_back (key_of m) ++ t)) → ShowsOrigin a b h k g i file name p q × (s ≡ t)
+    → rows_front a m h ++ (origin_members g file p ++ (rows_back (key_of m) [] ++ s)) ≡ rows_front b m k ++ (origin_members i name q ++ (rows_back (key_of m) [] ++ t)) → ShowsOrigin a b h k g i file name p q × (s ≡ t)
 line_read a b m h k g i file name p q s t lh lk jg ji bf bn lp lq e =
-    let back = rows_back (key_of m) in
+    let back = rows_back (key_of m) [] in
     let f = front_read a b m h k (origin_members g file p ++ (back ++ s)) (origin_members i name q ++ (back ++ t)) lh lk refl refl e in
     let o = origin_read g i file name p q (back ++ s) (back ++ t) jg ji bf bn lp lq (back_follows (key_of m) s) (back_follows (key_of m) t) f.3 in
     (record { change = f.0; time = f.1; server = f.2; gtid_is = o.0; file_is = o.1; position_is = o.2 }, append_cancel_left back s t o.3)

@@ -1,5 +1,5 @@
 -- Lines of JSON, and the changes of a transaction as binary logs have them: numbers of at most 64 bits, and bytes.
-use Rattle.std.specs.Prelude.{◌≡◌, ◌≤◌, ◌<◌, ◌^◌, ◌==◌, ⊤, All, Bool, IsTrue, ℕ, codes, List, [], ◌∷◌, ◌++◌, length, Option, Some, None}
+use Rattle.std.specs.Prelude.{◌≡◌, ◌≤◌, ◌<◌, ◌^◌, ◌==◌, ⊤, All, Bool, false, IsTrue, ℕ, codes, List, [], ◌∷◌, ◌++◌, length, Option, Some, None}
 use Rattle.std.specs.List.{flat_map, list_any}
 use Rattle.wire_buf.specs.Encoding.{AreBytes}
 use Rattle.events_frames.specs.Headers.{Header}
@@ -7,6 +7,7 @@ use Rattle.feed_checks.specs.Kinds.{Gtid, Anonymous, Numbered, Tagged}
 use Rattle.feed_transactions.specs.Changes.{Content, OfRows, OfStatement, EventChange}
 use Rattle.changes_origins.specs.GtidJson.{TaggedGtid}
 use Rattle.changes_lines.specs.RowJson.{CellJson}
+use Rattle.changes_origins.specs.declared.added_members.AddedMembers.{AddedMembers}
 use Rattle.changes_laws.specs.JsonGrammar.{Json, Members, object, IsValue, IsJsonText}
 use Rattle.changes_laws.specs.JsonNames.{HasDistinctNames}
 
@@ -29,6 +30,10 @@ pub record AreObjectLines (text : List ℕ) : Type 0 where
   pub lines : List (List ℕ)
   pub are : All IsObjectLine lines
   pub is : text ≡ flat_map (λ line. line ++ 10 ∷ []) lines
+
+-- no members on request
+abbrev pub no_members : AddedMembers
+no_members = record { begin = false; ts_ms = false; xid = false; thread_id = false; query = false; row = false }
 
 -- the time, the server and the position
 abbrev pub IsLoggedHeader : Header → Type 0

@@ -1,6 +1,6 @@
 //! Laws, each stated as the contract of a function that does nothing.
 
-ghost use Rattle.std.specs.Prelude.{◌≡◌, ◌<◌, ◌^◌, ◌++◌, All, Bool, IsUtf8, List, Ok, Option, length, ℕ};
+ghost use Rattle.std.specs.Prelude.{◌≡◌, ◌<◌, ◌^◌, ◌++◌, [], All, Bool, IsUtf8, List, Ok, Option, length, ℕ};
 ghost use Rattle.std.specs.List.{AllZip};
 ghost use Rattle.wire_buf.specs.Encoding.{AreBytes};
 ghost use Rattle.events_frames.specs.Headers.{Header};
@@ -22,7 +22,7 @@ ghost use Rattle.changes_lines.specs.Origins.{origin_members};
 ghost use Rattle.changes_origins.specs.GtidJson.{TaggedGtid, tagged_json};
 ghost use Rattle.changes_lines.specs.RowJson.{AreCellsJson, CellJson, object_json};
 ghost use Rattle.changes_laws.specs.JsonGrammar.{IsAfterValue, IsString, IsValue, Json};
-ghost use Rattle.changes_laws.specs.JsonLines.{AreObjectLines, IsCellShown, IsJsonValue, IsLoggedChange, IsLoggedHeader, IsTagRead, IsUntaggedGtid};
+ghost use Rattle.changes_laws.specs.JsonLines.{AreObjectLines, IsCellShown, IsJsonValue, IsLoggedChange, IsLoggedHeader, IsTagRead, IsUntaggedGtid, no_members};
 ghost use Rattle.changes_laws.specs.SameCells.{AreMembers, IsFormatOf, IsSameCell, IsSameValue, IsToldColumn, ShowsOrigin};
 
 /// The string of a text in UTF-8 is a string of RFC 8259, and its characters are those of the text.
@@ -42,13 +42,13 @@ pub fn cells_are_json()
     ensures { (c : ColumnView) (f : CellFormat) (bytes rest x : List ℕ) (v : CellValue) → AreBytes bytes → cell_at f bytes ≡ Ok (v, rest) → All IsJsonValue c.members → IsCellJson c f v x → IsJsonValue x }
 {}
 
-/// Each line of a transaction is an object of RFC 8259 without control characters. It has no member twice, nor has an object in it. A
-/// GTID with a tag is a string by the second clause, for each tag of letters, digits and underscores.
+/// Each line of a transaction, without members on request, is an object of RFC 8259 without control characters. It has no member twice,
+/// nor has an object in it. A GTID with a tag is a string by the second clause, for each tag of letters, digits and underscores.
 pub fn lines_are_json()
     ensures lines { (options : TableOptions) (by_transaction : Bool) (file : List ℕ) (t : Committed) (changes : List EventChange) (text : List ℕ) → IsUntaggedGtid t.gtid → IsLoggedHeader t.commit → All IsLoggedChange changes
-        → AreLines options by_transaction file t changes text → ∥ AreObjectLines text ∥₁ }
+        → AreLines options no_members by_transaction file t changes text → ∥ AreObjectLines text ∥₁ }
     ensures tagged { (options : TableOptions) (by_transaction : Bool) (file body : List ℕ) (g : Option TaggedGtid) (t : Committed) (changes : List EventChange) (xs : List ChangeJson) → IsTagRead g → IsLoggedHeader t.commit → All IsLoggedChange changes
-        → AreChangesJson options changes xs → ∥ AreObjectLines (transaction_lines by_transaction file t (tagged_json body g) xs) ∥₁ }
+        → AreChangesJson options no_members t.changes changes xs → ∥ AreObjectLines (transaction_lines by_transaction file t (tagged_json body g) [] xs) ∥₁ }
 {}
 
 /// A value shows where it ends, whatever follows it that may: texts that begin with a value, and then nothing, a comma or a closing bracket,
@@ -68,7 +68,7 @@ pub fn objects_show_their_cells()
 pub fn lines_show_their_origin()
     ensures { (a b : RowImages) (m : TableMap) (h k : Header) (gtid other file name : List ℕ) (position place : ℕ) (s t : List ℕ) → IsLoggedHeader h → IsLoggedHeader k → IsJsonValue gtid → IsJsonValue other
         → AreBytes file → AreBytes name → position < 2 ^ 64 → place < 2 ^ 64
-        → rows_front a m h ++ (origin_members gtid file position ++ (rows_back (key_of m) ++ s)) ≡ rows_front b m k ++ (origin_members other name place ++ (rows_back (key_of m) ++ t))
+        → rows_front a m h ++ (origin_members gtid file position ++ (rows_back (key_of m) [] ++ s)) ≡ rows_front b m k ++ (origin_members other name place ++ (rows_back (key_of m) [] ++ t))
         → ShowsOrigin a b h k gtid other file name position place × (s ≡ t) }
 {}
 
