@@ -1,7 +1,7 @@
 //! Walks of logs: which transactions and changes positions and options select, how a log ended, and what `binlog-changes check` says of it.
 #![tactic(auto)]
 
-mod check;
+mod checking;
 mod laws;
 mod positions;
 mod selection;
@@ -10,7 +10,7 @@ mod status;
 mod walk;
 mod words;
 
-pub use check::check;
+pub use checking::check;
 pub use laws::filters_select_by_the_same_positions;
 pub use positions::PositionRange;
 pub use selection::{FilteredNames, filter_of, selection_of};
