@@ -79,6 +79,7 @@ pub record IsStatementJson (added : AddedMembers) (before : ℕ) (h : Header) (q
   pub back : x.back ≡ codes ",\"sql\":"
   pub rows : x.rows ≡ (utf8_json q.query ++ row_member_if added.row (before + 1)) ∷ []
 
+-- a change's content, after so many rows of its transaction
 abbrev pub IsContentJson : TableOptions → AddedMembers → ℕ → Header → Content → ChangeJson → Type 0
 IsContentJson options added before h (OfRows m r) x = IsRowsJson options added before h m r x
 IsContentJson options added before h (OfStatement q) x = IsStatementJson added before h q x
@@ -100,6 +101,7 @@ AreChangesJson options added all cs xs = AllZip (IsChangeJson options added all)
 abbrev pub change_objects : List ℕ → ChangeJson → List (List ℕ)
 change_objects origin x = map (λ row. x.front ++ (origin ++ (x.back ++ row))) x.rows
 
+-- those of changes, in their order
 abbrev pub objects : List ℕ → List ChangeJson → List (List ℕ)
 objects origin xs = flat_map (change_objects origin) xs
 

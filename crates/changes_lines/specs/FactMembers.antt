@@ -1,5 +1,5 @@
 -- The members that lines have on request: what the events of a transaction say of it besides its changes. MySQL's pages of the classes Gtid_event, Query_event, Xid_event and Rows_query_event.
-use Rattle.std.specs.Prelude.{◌+◌, ◌-◌, ◌/◌, ◌%◌, ◌^◌, ◌==◌, ℕ, Bool, true, false, List, [], ◌∷◌, ◌++◌, length, codes, Option, Some, None, cond, nat_lt, if◌then◌else◌}
+use Rattle.std.specs.Prelude.{◌&&◌, ◌≡◌, ◌||◌, ◌+◌, ◌-◌, ◌/◌, ◌%◌, ◌^◌, ◌==◌, ℕ, Bool, true, false, List, [], ◌∷◌, ◌++◌, length, drop, codes, Option, Some, None, cond, nat_lt, if◌then◌else◌}
 use Rattle.std.specs.Fmt.{decimal}
 use Rattle.events_frames.specs.Events.{header_size_field}
 use Rattle.events_frames.specs.HeaderFields.{header_field}
@@ -78,6 +78,21 @@ numbered_by None rows = rows
 abbrev pub facts_of : EventFacts → TransactionFacts
 facts_of s = record { begin = s.begin; ts_ms = s.ts_ms; xid = s.xid; thread_id = s.thread_id }
 
+-- the statement that changes the rows, if it observed one
+abbrev pub query_in : EventFacts → Option (List ℕ)
+query_in s = cond s.has_query (Some s.query.items) None
+
+-- What it has after it observed an event of this type and body. It isn't stated which time a tagged GTID has.
+pub record ObservesType (type : ℕ) (old : EventFacts) (e body : List ℕ) (new : EventFacts) : Type 0 where
+  pub gtid : (type == 33 || type == 34) ≡ true → (new.gtid_start ≡ start_of e) × (new.gtid_time ≡ commit_time body)
+  pub tagged : (type == 42) ≡ true → new.gtid_start ≡ start_of e
+  pub no_gtid : (type == 33 || (type == 34 || type == 42)) ≡ false → (new.gtid_start ≡ old.gtid_start) × (new.gtid_time ≡ old.gtid_time)
+  pub query : (type == 29 && old.added.query) ≡ true → query_in new ≡ Some (drop 1 body)
+  pub no_query : (type == 29 && old.added.query) ≡ false → query_in new ≡ query_in old
+
+abbrev pub Observes : EventFacts → List ℕ → List ℕ → EventFacts → Type 0
+Observes old e body new = ObservesType (header_field 4 1 e) old e body new
+
 -- the same after a transaction began with this event: it begins with its GTID's, or else with this one
 abbrev pub begun_facts : EventFacts → Bool → List ℕ → TransactionFacts
 begun_facts s true e = record { begin = s.gtid_start; ts_ms = s.gtid_time; xid = None; thread_id = thread_of e }
@@ -86,7 +101,3 @@ begun_facts s false e = record { begin = start_of e; ts_ms = None; xid = None; t
 -- the same after it was committed by this event
 abbrev pub committed_facts : TransactionFacts → List ℕ → TransactionFacts
 committed_facts f e = record { begin = f.begin; ts_ms = f.ts_ms; xid = xid_of e; thread_id = f.thread_id }
-
--- the statement that changes the rows, if it observed one
-abbrev pub query_in : EventFacts → Option (List ℕ)
-query_in s = cond s.has_query (Some s.query.items) None
