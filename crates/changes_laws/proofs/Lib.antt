@@ -28,3 +28,4 @@ pub mod CellLawLemmas
 pub mod NullReadLemmas
 pub mod ImageReadLemmas
 pub mod TimestampReadLemmas
+pub mod WorkedJsonLemmas

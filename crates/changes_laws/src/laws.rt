@@ -1,6 +1,6 @@
 //! Laws, each stated as the contract of a function that does nothing.
 
-ghost use Rattle.std.specs.Prelude.{◌≡◌, ◌<◌, ◌^◌, ◌++◌, All, Bool, IsUtf8, List, Ok, Option, length, ℕ};
+ghost use Rattle.std.specs.Prelude.{◌≡◌, ◌<◌, ◌^◌, ◌++◌, ◌∷◌, [], All, Bool, IsUtf8, List, Ok, Option, codes, length, true, ℕ};
 ghost use Rattle.std.specs.List.{AllZip};
 ghost use Rattle.wire_buf.specs.Encoding.{AreBytes};
 ghost use Rattle.events_frames.specs.Headers.{Header};
@@ -20,7 +20,8 @@ ghost use Rattle.changes_cells.specs.CellJson.{AreUpdatesJson, IsCellJson, IsDoc
 ghost use Rattle.changes_lines.specs.ChangeLines.{AreChangesJson, AreLines, ChangeJson, key_of, rows_back, rows_front, transaction_lines};
 ghost use Rattle.changes_lines.specs.Origins.{TaggedGtid, origin_members, tagged_json};
 ghost use Rattle.changes_lines.specs.RowJson.{AreCellsJson, CellJson, object_json};
-ghost use Rattle.changes_laws.specs.JsonGrammar.{IsAfterValue, IsString, IsValue, Json};
+ghost use Rattle.changes_laws.specs.JsonGrammar.{IsAfterValue, IsChar, IsJsonText, IsNumber, IsString, IsValue, Json, array, boolean, element, member, no_elements, no_members, null, number, object};
+ghost use Rattle.changes_laws.specs.JsonNames.{HasDistinctNames};
 ghost use Rattle.changes_laws.specs.JsonLines.{AreObjectLines, IsCellShown, IsJsonValue, IsLoggedChange, IsLoggedHeader, IsTagRead, IsUntaggedGtid};
 ghost use Rattle.changes_laws.specs.SameCells.{AreMembers, IsFormatOf, IsSameCell, IsSameValue, IsToldColumn, ShowsOrigin};
 
@@ -84,4 +85,15 @@ pub fn images_show_their_values()
     ensures { (options : TableOptions) (m : TableMap) (columns : List ColumnView) (shape : ImageShape) (a b r q : List ℕ) (vs ws : List ColumnValue) (xs ys : List CellJson) (s t : List ℕ) → length m.column_types < 2 ^ 64
         → AllZip (IsColumn options) (column_parts m) columns → All (IsToldColumn (length m.column_types) columns) shape.columns → AreBytes a → AreBytes b → image_at shape a ≡ Ok (vs, r) → image_at shape b ≡ Ok (ws, q)
         → AreCellsJson columns shape.columns vs xs → AreCellsJson columns shape.columns ws ys → object_json columns xs ++ s ≡ object_json columns ys ++ t → AllZip (IsSameValue columns) vs ws × (s ≡ t) }
+{}
+
+/// `{ "a" : [true , -1.5E+2]}` and a line feed are JSON, and a string with a solidus, a code and a surrogate pair has their characters; a
+/// number doesn't begin with a plus, nor with a zero before another digit, no character is a line feed, and equal names aren't distinct.
+pub fn worked_texts()
+    ensures text { IsJsonText (object (member (codes "a") (array (element (boolean true) (element (number (codes "-1.5E+2")) no_elements))) no_members)) (codes "{ \"a\" : [true , -1.5E+2]}\n") }
+    ensures escapes { IsString (47 ∷ 195 ∷ 169 ∷ 240 ∷ 159 ∷ 152 ∷ 128 ∷ []) (codes "\"\\/\\u00E9\\ud83d\\ude00\"") }
+    ensures leading_zero { ¬ (IsNumber (codes "01")) }
+    ensures plus { ¬ (IsNumber (codes "+1")) }
+    ensures line_feed { (c : ℕ) → ¬ (IsChar c (10 ∷ [])) }
+    ensures equal_names { ¬ (HasDistinctNames (object (member (codes "a") null (member (codes "b") null (member (codes "a") null no_members))))) }
 {}
