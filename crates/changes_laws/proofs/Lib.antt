@@ -29,3 +29,4 @@ pub mod NullReadLemmas
 pub mod ImageReadLemmas
 pub mod TimestampReadLemmas
 pub mod WorkedJsonLemmas
+pub mod GtidReadLemmas
