@@ -28,3 +28,5 @@ pub mod CellLawLemmas
 pub mod NullReadLemmas
 pub mod ImageReadLemmas
 pub mod TimestampReadLemmas
+pub mod WorkedJsonLemmas
+pub mod GtidReadLemmas

@@ -27,7 +27,7 @@ use Rattle.changes_tables.specs.declared.columns.TableOptions.{TableOptions}
 use Rattle.changes_lines.specs.ChangeLines.{ChangeJson, IsContentJson, AreChangesJson, rows_of_all, change_objects, objects, end_by, with_ends, lines_of, transaction_line, transaction_lines, AreLines}
 use Rattle.changes_lines.specs.Origins.{header_members, origin_members}
 use Rattle.changes_origins.specs.GtidJson.{IsGtidJson, TaggedGtid, tagged_json}
-use Rattle.changes_laws.specs.JsonLines.{IsObjectLine, AreObjectLines, IsLoggedHeader, IsLoggedContent, IsLoggedChange, IsUntaggedGtid, IsTagRead, no_members, is_of_tag, tag_characters}
+use Rattle.changes_laws.specs.JsonLines.{IsObjectLine, AreObjectLines, IsLoggedHeader, IsLoggedContent, IsLoggedChange, IsUntaggedGtid, IsTagRead, none_added, is_of_tag, tag_characters}
 use Rattle.changes_laws.proofs.WrittenJson.{IsJson, IsObject, AllJson, joined_array, null_json, boolean_json, object_value}
 use Rattle.changes_laws.proofs.NumberGrammarLemmas.{decimal_json}
 use Rattle.changes_laws.proofs.PlainGrammarLemmas.{Plain, all_plain, base64_object_json, plain_append, decimal_plain, quoted_json, utf8_or_object}
@@ -58,7 +58,7 @@ statement_line P schema query origin h l (inr g) = record {
   with_commit = tt;
 }
 
-content_objects : (P : Type 0) (options : TableOptions) (before : ℕ) (h : Header) (content : Content) (x : ChangeJson) (origin : List ℕ) → HasOrigin P origin → IsLoggedHeader h → IsLoggedContent content → IsContentJson options no_members before h content x
+content_objects : (P : Type 0) (options : TableOptions) (before : ℕ) (h : Header) (content : Content) (x : ChangeJson) (origin : List ℕ) → HasOrigin P origin → IsLoggedHeader h → IsLoggedContent content → IsContentJson options none_added before h content x
     → ∥ EachHolds (IsOpenLine P) (change_objects origin x) ∥₁
 content_objects P options before h (OfRows m r) x origin g l c e =
     let names = column_names m in
@@ -76,7 +76,7 @@ each_append : {A : Type 0} (Holds : A → Type 0) (xs ys : List A) → EachHolds
 each_append Holds [] ys p q = q
 each_append Holds (x ∷ xs) ys p q = (p.0, each_append Holds xs ys p.1 q)
 
-pub changes_objects : (P : Type 0) (options : TableOptions) (all cs : List EventChange) (xs : List ChangeJson) (origin : List ℕ) → HasOrigin P origin → EachHolds IsLoggedChange cs → AreChangesJson options no_members all cs xs → ∥ EachHolds (IsOpenLine P) (objects origin xs) ∥₁
+pub changes_objects : (P : Type 0) (options : TableOptions) (all cs : List EventChange) (xs : List ChangeJson) (origin : List ℕ) → HasOrigin P origin → EachHolds IsLoggedChange cs → AreChangesJson options none_added all cs xs → ∥ EachHolds (IsOpenLine P) (objects origin xs) ∥₁
 changes_objects P options all [] [] origin g l e = ∣ tt ∣₁
 changes_objects P options all [] (x ∷ xs) origin g l e = absurd e
 changes_objects P options all (c ∷ cs) [] origin g l e = absurd e
@@ -240,7 +240,7 @@ tagged_is_json P body (Some g) h =
 
 -- ---- the law
 pub lines_law : (options : TableOptions) (by_transaction : Bool) (file gtid : List ℕ) (t : Committed) (changes : List EventChange) (xs : List ChangeJson) → IsJson (Unit {0}) gtid → IsLoggedHeader t.commit → All IsLoggedChange changes
-    → AreChangesJson options no_members t.changes changes xs → ∥ AreObjectLines (transaction_lines by_transaction file t gtid [] xs) ∥₁
+    → AreChangesJson options none_added t.changes changes xs → ∥ AreObjectLines (transaction_lines by_transaction file t gtid [] xs) ∥₁
 lines_law options true file gtid t changes xs g l c e =
     let origin = origin_members gtid file t.commit.log_pos in
     ∥∥₁_map (changes_objects (Unit {0}) options t.changes changes xs [] (inr (none_named (Unit {0}))) (each_of IsLoggedChange changes c) e)
@@ -251,11 +251,11 @@ lines_law options false file gtid t changes xs g l c e =
     (λ all. subst (λ (o : List ℕ). AreObjectLines (lines_of (objects o xs))) (sym (append-nil origin)) (object_lines (Unit {0}) (objects origin xs) tt all))
 
 pub untagged_law : (options : TableOptions) (by_transaction : Bool) (file : List ℕ) (t : Committed) (changes : List EventChange) (text : List ℕ) → IsUntaggedGtid t.gtid → IsLoggedHeader t.commit → All IsLoggedChange changes
-    → AreLines options no_members by_transaction file t changes text → ∥ AreObjectLines text ∥₁
+    → AreLines options none_added by_transaction file t changes text → ∥ AreObjectLines text ∥₁
 untagged_law options by_transaction file t changes text u l c e =
     let g = e.2 in
     subst (λ (x : List ℕ). ∥ AreObjectLines x ∥₁) (sym (g.2).1) (lines_law options by_transaction file g.0 t changes e.0 (untagged_json (Unit {0}) t.gtid g.0 u g.1) l c e.1)
 
 pub tagged_law : (options : TableOptions) (by_transaction : Bool) (file body : List ℕ) (g : Option TaggedGtid) (t : Committed) (changes : List EventChange) (xs : List ChangeJson) → IsTagRead g → IsLoggedHeader t.commit → All IsLoggedChange changes
-    → AreChangesJson options no_members t.changes changes xs → ∥ AreObjectLines (transaction_lines by_transaction file t (tagged_json body g) [] xs) ∥₁
+    → AreChangesJson options none_added t.changes changes xs → ∥ AreObjectLines (transaction_lines by_transaction file t (tagged_json body g) [] xs) ∥₁
 tagged_law options by_transaction file body g t changes xs h l c e = lines_law options by_transaction file (tagged_json body g) t changes xs (tagged_is_json (Unit {0}) body g h) l c e

@@ -107,3 +107,23 @@ line_read a b m h k g i file name p q s t lh lk jg ji bf bn lp lq e =
     let f = front_read a b m h k (origin_members g file p ++ (back ++ s)) (origin_members i name q ++ (back ++ t)) lh lk refl refl e in
     let o = origin_read g i file name p q (back ++ s) (back ++ t) jg ji bf bn lp lq (back_follows (key_of m) s) (back_follows (key_of m) t) f.3 in
     (record { change = f.0; time = f.1; server = f.2; gtid_is = o.0; file_is = o.1; position_is = o.2 }, append_cancel_left back s t o.3)
+
+-- ---- statements
+statement_text : (schema : List ℕ) (h : Header) (s : List ℕ) → (codes "{\"type\":\"statement\",\"database\":" ++ (utf8_json schema ++ header_members h)) ++ s ≡ codes "{\"type\":\"statement\",\"database\":" ++ (utf8_json schema ++ (header_members h ++ s))
+statement_text schema h s = ap (λ (y : List ℕ). codes "{\"type\":\"statement\",\"database\":" ++ y) (append_assoc (utf8_json schema) (header_members h) s)
+
+pub statement_read : (schema other query text : List ℕ) (h k : Header) (g i file name : List ℕ) (p q : ℕ) (s t : List ℕ) → IsLoggedHeader h → IsLoggedHeader k → IsJsonValue g → IsJsonValue i → IsBytes schema → IsBytes other → IsBytes query → IsBytes text
+    → IsBytes file → IsBytes name → p < 2 ^ 64 → q < 2 ^ 64
+    → (codes "{\"type\":\"statement\",\"database\":" ++ (utf8_json schema ++ header_members h)) ++ (origin_members g file p ++ (codes ",\"sql\":" ++ (utf8_json query ++ s)))
+    ≡ (codes "{\"type\":\"statement\",\"database\":" ++ (utf8_json other ++ header_members k)) ++ (origin_members i name q ++ (codes ",\"sql\":" ++ (utf8_json text ++ t)))
+    → (schema ≡ other) × (h.timestamp ≡ k.timestamp) × (h.server_id ≡ k.server_id) × (g ≡ i) × (file ≡ name) × (p ≡ q) × (query ≡ text) × (s ≡ t)
+statement_read schema other query text h k g i file name p q s t lh lk jg ji bs bo bq bt bf bn lp lq e =
+    let left = codes ",\"sql\":" ++ (utf8_json query ++ s) in
+    let right = codes ",\"sql\":" ++ (utf8_json text ++ t) in
+    let start = codes "{\"type\":\"statement\",\"database\":" in
+    let whole = sym (statement_text schema h (origin_members g file p ++ left)) ∙ e ∙ statement_text other k (origin_members i name q ++ right) in
+    let a = utf8_read schema other (header_members h ++ (origin_members g file p ++ left)) (header_members k ++ (origin_members i name q ++ right)) bs bo (append_cancel_left start _ _ whole) in
+    let b = header_read h k (origin_members g file p ++ left) (origin_members i name q ++ right) lh lk refl refl a.1 in
+    let c = origin_read g i file name p q left right jg ji bf bn lp lq refl refl b.2 in
+    let d = utf8_read query text s t bq bt (append_cancel_left (codes ",\"sql\":") (utf8_json query ++ s) (utf8_json text ++ t) c.3) in
+    (a.0, b.0, b.1, c.0, c.1, c.2, d.0, d.1)

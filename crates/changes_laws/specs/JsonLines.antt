@@ -32,8 +32,8 @@ pub record AreObjectLines (text : List ℕ) : Type 0 where
   pub is : text ≡ flat_map (λ line. line ++ 10 ∷ []) lines
 
 -- no members on request
-abbrev pub no_members : AddedMembers
-no_members = record { begin = false; ts_ms = false; xid = false; thread_id = false; query = false; row = false }
+abbrev pub none_added : AddedMembers
+none_added = record { begin = false; ts_ms = false; xid = false; thread_id = false; query = false; row = false }
 
 -- the time, the server and the position
 abbrev pub IsLoggedHeader : Header → Type 0

@@ -1,6 +1,6 @@
 //! Laws, each stated as the contract of a function that does nothing.
 
-ghost use Rattle.std.specs.Prelude.{◌≡◌, ◌<◌, ◌^◌, ◌++◌, [], All, Bool, IsUtf8, List, Ok, Option, length, ℕ};
+ghost use Rattle.std.specs.Prelude.{◌≡◌, ◌<◌, ◌^◌, ◌++◌, ◌∷◌, [], All, Bool, IsUtf8, List, Ok, Option, Some, codes, length, true, ℕ};
 ghost use Rattle.std.specs.List.{AllZip};
 ghost use Rattle.wire_buf.specs.Encoding.{AreBytes};
 ghost use Rattle.events_frames.specs.Headers.{Header};
@@ -10,19 +10,22 @@ ghost use Rattle.rows_cells.specs.Cells.{cell_at};
 ghost use Rattle.rows_cells.specs.Images.{ColumnValue, ImageShape, image_at};
 ghost use Rattle.rows_cells.specs.CellValues.{CellValue};
 ghost use Rattle.rows_cells.specs.declared.format.CellFormat.{CellFormat};
+ghost use Rattle.feed_checks.specs.Kinds.{Numbered};
 ghost use Rattle.feed_transactions.specs.Changes.{Committed, EventChange};
 ghost use Rattle.changes_tables.specs.ColumnParts.{column_parts};
 ghost use Rattle.changes_tables.specs.ColumnsShown.{IsColumn};
+ghost use Rattle.changes_tables.specs.MemberTexts.{utf8_json};
 ghost use Rattle.changes_tables.specs.ShownColumns.{ColumnView};
 ghost use Rattle.changes_tables.specs.declared.columns.TableOptions.{TableOptions};
 ghost use Rattle.changes_writers.specs.JsonStrings.{json_string};
 ghost use Rattle.changes_cells.specs.CellJson.{AreUpdatesJson, IsCellJson, IsDocumentJson};
 ghost use Rattle.changes_lines.specs.ChangeLines.{AreChangesJson, AreLines, ChangeJson, key_of, rows_back, rows_front, transaction_lines};
-ghost use Rattle.changes_lines.specs.Origins.{origin_members};
-ghost use Rattle.changes_origins.specs.GtidJson.{TaggedGtid, tagged_json};
+ghost use Rattle.changes_lines.specs.Origins.{header_members, origin_members};
+ghost use Rattle.changes_origins.specs.GtidJson.{IsGtidJson, TaggedGtid, tagged_json};
 ghost use Rattle.changes_lines.specs.RowJson.{AreCellsJson, CellJson, object_json};
-ghost use Rattle.changes_laws.specs.JsonGrammar.{IsAfterValue, IsString, IsValue, Json};
-ghost use Rattle.changes_laws.specs.JsonLines.{AreObjectLines, IsCellShown, IsJsonValue, IsLoggedChange, IsLoggedHeader, IsTagRead, IsUntaggedGtid, no_members};
+ghost use Rattle.changes_laws.specs.JsonGrammar.{IsAfterValue, IsChar, IsJsonText, IsNumber, IsString, IsValue, Json, array, boolean, element, member, no_elements, no_members, null, number, object};
+ghost use Rattle.changes_laws.specs.JsonNames.{HasDistinctNames};
+ghost use Rattle.changes_laws.specs.JsonLines.{AreObjectLines, IsCellShown, IsJsonValue, IsLoggedChange, IsLoggedHeader, IsTagRead, IsUntaggedGtid, none_added};
 ghost use Rattle.changes_laws.specs.SameCells.{AreMembers, IsFormatOf, IsSameCell, IsSameValue, IsToldColumn, ShowsOrigin};
 
 /// The string of a text in UTF-8 is a string of RFC 8259, and its characters are those of the text.
@@ -43,24 +46,19 @@ pub fn cells_are_json()
 {}
 
 /// Each line of a transaction, without members on request, is an object of RFC 8259 without control characters. It has no member twice,
-/// nor has an object in it. A GTID with a tag is a string by the second clause, for each tag of letters, digits and underscores.
+/// nor has an object in it. A GTID with a tag is a string by the second clause, for each tag of letters, digits and underscores. `∥ ∥₁`
+/// means that there are such lines.
 pub fn lines_are_json()
     ensures lines { (options : TableOptions) (by_transaction : Bool) (file : List ℕ) (t : Committed) (changes : List EventChange) (text : List ℕ) → IsUntaggedGtid t.gtid → IsLoggedHeader t.commit → All IsLoggedChange changes
-        → AreLines options no_members by_transaction file t changes text → ∥ AreObjectLines text ∥₁ }
+        → AreLines options none_added by_transaction file t changes text → ∥ AreObjectLines text ∥₁ }
     ensures tagged { (options : TableOptions) (by_transaction : Bool) (file body : List ℕ) (g : Option TaggedGtid) (t : Committed) (changes : List EventChange) (xs : List ChangeJson) → IsTagRead g → IsLoggedHeader t.commit → All IsLoggedChange changes
-        → AreChangesJson options no_members t.changes changes xs → ∥ AreObjectLines (transaction_lines by_transaction file t (tagged_json body g) [] xs) ∥₁ }
+        → AreChangesJson options none_added t.changes changes xs → ∥ AreObjectLines (transaction_lines by_transaction file t (tagged_json body g) [] xs) ∥₁ }
 {}
 
 /// A value shows where it ends, whatever follows it that may: texts that begin with a value, and then nothing, a comma or a closing bracket,
 /// are equal only if the values' texts and what follows are.
 pub fn values_show_where_they_end()
     ensures { (v w : Json) (x y s t : List ℕ) → IsValue v x → IsValue w y → IsAfterValue s → IsAfterValue t → x ++ s ≡ y ++ t → (x ≡ y) × (s ≡ t) }
-{}
-
-/// An object of columns of one table shows its cells: their columns, the JSON of each, and where it ends.
-pub fn objects_show_their_cells()
-    ensures { (options : TableOptions) (m : TableMap) (columns : List ColumnView) (a b : List CellJson) (s t : List ℕ) → length m.column_types < 2 ^ 64 → AllZip (IsColumn options) (column_parts m) columns
-        → All (IsCellShown (length m.column_types)) a → All (IsCellShown (length m.column_types)) b → object_json columns a ++ s ≡ object_json columns b ++ t → (a ≡ b) × (s ≡ t) }
 {}
 
 /// The line of a changed row of a table shows what happened, the time, the server, the JSON of the GTID, the file and the position; and then
@@ -70,6 +68,26 @@ pub fn lines_show_their_origin()
         → AreBytes file → AreBytes name → position < 2 ^ 64 → place < 2 ^ 64
         → rows_front a m h ++ (origin_members gtid file position ++ (rows_back (key_of m) [] ++ s)) ≡ rows_front b m k ++ (origin_members other name place ++ (rows_back (key_of m) [] ++ t))
         → ShowsOrigin a b h k gtid other file name position place × (s ≡ t) }
+{}
+
+/// The line of a statement shows its schema, time and server, the JSON of the GTID, the file and the position, and its text.
+pub fn statements_show_their_parts()
+    ensures { (schema other query text : List ℕ) (h k : Header) (gtid next file name : List ℕ) (position place : ℕ) (s t : List ℕ) → IsLoggedHeader h → IsLoggedHeader k → IsJsonValue gtid → IsJsonValue next
+        → AreBytes schema → AreBytes other → AreBytes query → AreBytes text → AreBytes file → AreBytes name → position < 2 ^ 64 → place < 2 ^ 64
+        → (codes "{\"type\":\"statement\",\"database\":" ++ (utf8_json schema ++ header_members h)) ++ (origin_members gtid file position ++ (codes ",\"sql\":" ++ (utf8_json query ++ s)))
+        ≡ (codes "{\"type\":\"statement\",\"database\":" ++ (utf8_json other ++ header_members k)) ++ (origin_members next name place ++ (codes ",\"sql\":" ++ (utf8_json text ++ t)))
+        → (schema ≡ other) × (h.timestamp ≡ k.timestamp) × (h.server_id ≡ k.server_id) × (gtid ≡ next) × (file ≡ name) × (position ≡ place) × (query ≡ text) × (s ≡ t) }
+{}
+
+/// Equal JSON of two GTIDs without tags comes from equal UUIDs and equal numbers.
+pub fn gtids_show_their_numbers()
+    ensures { (u v : List ℕ) (m n : ℕ) (x : List ℕ) → AreBytes u → AreBytes v → length u ≡ 16 → length v ≡ 16 → m < 2 ^ 64 → IsGtidJson (Some (Numbered u m)) x → IsGtidJson (Some (Numbered v n)) x → (u ≡ v) × (m ≡ n) }
+{}
+
+/// An object of columns of one table shows its cells: their columns, the JSON of each, and where it ends.
+pub fn objects_show_their_cells()
+    ensures { (options : TableOptions) (m : TableMap) (columns : List ColumnView) (a b : List CellJson) (s t : List ℕ) → length m.column_types < 2 ^ 64 → AllZip (IsColumn options) (column_parts m) columns
+        → All (IsCellShown (length m.column_types)) a → All (IsCellShown (length m.column_types)) b → object_json columns a ++ s ≡ object_json columns b ++ t → (a ≡ b) × (s ≡ t) }
 {}
 
 /// Cells of one column that have the same JSON have the same value: the same number, decimal, date, time, member or members, the same
@@ -85,4 +103,15 @@ pub fn images_show_their_values()
     ensures { (options : TableOptions) (m : TableMap) (columns : List ColumnView) (shape : ImageShape) (a b r q : List ℕ) (vs ws : List ColumnValue) (xs ys : List CellJson) (s t : List ℕ) → length m.column_types < 2 ^ 64
         → AllZip (IsColumn options) (column_parts m) columns → All (IsToldColumn (length m.column_types) columns) shape.columns → AreBytes a → AreBytes b → image_at shape a ≡ Ok (vs, r) → image_at shape b ≡ Ok (ws, q)
         → AreCellsJson columns shape.columns vs xs → AreCellsJson columns shape.columns ws ys → object_json columns xs ++ s ≡ object_json columns ys ++ t → AllZip (IsSameValue columns) vs ws × (s ≡ t) }
+{}
+
+/// `{ "a" : [true , -1.5E+2]}` and a line feed are JSON, and a string with a solidus, a code and a surrogate pair has their characters; a
+/// number doesn't begin with a plus, nor with a zero before another digit, no character is a line feed, and equal names aren't distinct.
+pub fn worked_texts()
+    ensures text { IsJsonText (object (member (codes "a") (array (element (boolean true) (element (number (codes "-1.5E+2")) no_elements))) no_members)) (codes "{ \"a\" : [true , -1.5E+2]}\n") }
+    ensures escapes { IsString (47 ∷ 195 ∷ 169 ∷ 240 ∷ 159 ∷ 152 ∷ 128 ∷ []) (codes "\"\\/\\u00E9\\ud83d\\ude00\"") }
+    ensures leading_zero { ¬ (IsNumber (codes "01")) }
+    ensures plus { ¬ (IsNumber (codes "+1")) }
+    ensures line_feed { (c : ℕ) → ¬ (IsChar c (10 ∷ [])) }
+    ensures equal_names { ¬ (HasDistinctNames (object (member (codes "a") null (member (codes "b") null (member (codes "a") null no_members))))) }
 {}
