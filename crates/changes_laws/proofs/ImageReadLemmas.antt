@@ -1,6 +1,6 @@
 -- Equal objects of images come from the same values.
-use Rattle.std.proofs.Common.{◌≡◌, ◌⊎◌, ℕ, ◌+◌, ◌/◌, ◌<◌, ◌^◌, Bool, true, false, List, [], ◌∷◌, ◌++◌, length, refl, sym, ap, ◌∙◌, subst, arith, inl, inr}
-use Rattle.std.specs.Prelude.{All}
+use Rattle.std.proofs.Common.{Bool, List, [], ap, arith, false, inl, inr, length, refl, subst, suc, sym, true, zero, ℕ, ◌++◌, ◌+◌, ◌/◌, ◌<◌, ◌^◌, ◌∙◌, ◌∷◌, ◌≡◌, ◌⊎◌}
+use Rattle.std.specs.Prelude.{All, IsTrue}
 use Rattle.std.specs.List.{AllZip}
 use Rattle.std.specs.declared.result.Result.TheVariants.{Ok}
 use Rattle.wire_buf.specs.Encoding.{AreBytes}
@@ -12,23 +12,91 @@ use Rattle.rows_cells.specs.CellFields.{at_width}
 use Rattle.rows_cells.specs.CellValues.{CellValue, null}
 use Rattle.rows_cells.specs.ColumnFormats.{format_by}
 use Rattle.rows_cells.specs.Images.{ColumnValue, ImageShape, bit, format_in, field_at, cells_at, shared_at, image_at}
-use Rattle.changes_tables.specs.ColumnParts.{column_parts}
+use Rattle.base64.specs.Engines.{standard}
+use Rattle.base64.specs.GeneralPurpose.{encode_of}
+use Rattle.changes_writers.specs.Base64Texts.{base64_object, base64_string}
+use Rattle.changes_writers.specs.JsonStrings.{json_string}
+use Rattle.changes_tables.specs.MemberTexts.{IsMemberJson}
+use Rattle.changes_tables.specs.MemberTexts as members
+use Rattle.changes_tables.specs.declared.columns.Shown.TheVariants as shown
+use Rattle.changes_tables.specs.ColumnParts.{ColumnPart, column_parts}
 use Rattle.changes_tables.specs.ColumnsShown.{IsColumn}
 use Rattle.changes_tables.specs.ShownColumns.{ColumnView}
 use Rattle.changes_tables.specs.declared.columns.Shown.{Shown}
 use Rattle.changes_tables.specs.declared.columns.TableOptions.{TableOptions}
 use Rattle.changes_cells.specs.CellJson.{IsCellJson}
 use Rattle.changes_lines.specs.RowJson.{CellJson, column_at, AreCellsJson, object_json}
-use Rattle.changes_laws.specs.JsonLines.{IsCellShown}
-use Rattle.changes_laws.specs.SameCells.{IsSameCell, equal, AreMembers, IsFormatOf, IsToldColumn, IsSameValue}
+use Rattle.changes_laws.specs.JsonLines.{IsCellShown, IsJsonValue}
+use Rattle.changes_laws.specs.SameCells.{IsSameCell, equal, AreMembers, IsFormatOf, IsToldColumn, IsSameValue, begins_as_member}
 use Rattle.changes_laws.proofs.ReadingGives.{Gives, given, next}
 use Rattle.changes_laws.proofs.SoundCellLemmas.{BothBytes, WithBytes, RestIsBytes, EachHolds, IsSoundCell, width_gives, shared_gives, cell_gives}
 use Rattle.changes_laws.proofs.CellLawLemmas.{IsKnown, cell_known, by_format}
+use Rattle.changes_laws.proofs.TableGrammarLemmas.{member_is_json}
 use Rattle.changes_laws.proofs.CellGrammarLemmas.{cell_json}
 use Rattle.changes_laws.proofs.LineLawLemmas.{each_of, all_of}
 use Rattle.changes_laws.proofs.NullReadLemmas.{not_null}
 use Rattle.changes_laws.proofs.ObjectReadLemmas.{objects_read}
 use Rattle.changes_laws.proofs.ValueLemmas.{of_json, all_json}
+
+-- ---- the columns of an image
+abbrev IsReadColumn : ℕ → List ColumnView → ImageColumn → Type 0
+IsReadColumn n table c = (c.column < n) × IsFormatOf (column_at table c.column).shown c.format × AreMembers (column_at table c.column).members
+
+string_begins : (s : List ℕ) → begins_as_member (json_string s) ≡ true
+unfolding json_string
+string_begins s = refl
+
+base64_begins : (b : List ℕ) → begins_as_member (base64_string b) ≡ true
+unfolding base64_string
+base64_begins b = string_begins (encode_of standard b)
+
+object_begins : (b : List ℕ) → begins_as_member (base64_object b) ≡ true
+unfolding base64_object
+object_begins b = refl
+
+member_begins : (text : Shown) (bytes json : List ℕ) → IsMemberJson text bytes json → begins_as_member json ≡ true
+member_begins (shown.Text set) bytes json (members.string t is e) = ap begins_as_member e ∙ string_begins t
+member_begins (shown.Text set) bytes json (members.object bad e) = ap begins_as_member e ∙ object_begins bytes
+member_begins shown.Binary bytes json e = ap begins_as_member e ∙ base64_begins bytes
+member_begins shown.Plain bytes json e = ap begins_as_member e ∙ object_begins bytes
+member_begins shown.Quoted bytes json e = ap begins_as_member e ∙ object_begins bytes
+member_begins shown.Unknown bytes json e = ap begins_as_member e ∙ object_begins bytes
+member_begins shown.Timestamp bytes json e = ap begins_as_member e ∙ object_begins bytes
+member_begins shown.Bit bytes json e = ap begins_as_member e ∙ object_begins bytes
+member_begins shown.Enum bytes json e = ap begins_as_member e ∙ object_begins bytes
+member_begins shown.Set bytes json e = ap begins_as_member e ∙ object_begins bytes
+
+-- members that are JSON and begin as such
+abbrev AreShown : List (List ℕ) → Type 0
+AreShown jsons = EachHolds (λ (m : List ℕ). IsJsonValue m × (begins_as_member m ≡ true)) jsons
+
+members_shown : (text : Shown) (names jsons : List (List ℕ)) → AllZip (IsMemberJson text) names jsons → AreShown jsons
+members_shown text [] [] h = tt
+members_shown text [] (y ∷ ys) h = absurd h
+members_shown text (x ∷ xs) [] h = absurd h
+members_shown text (x ∷ xs) (y ∷ ys) h = ((of_json y (member_is_json (Unit {0}) text x y h.0), member_begins text x y h.0), members_shown text xs ys h.1)
+
+columns_shown : (options : TableOptions) (parts : List ColumnPart) (columns : List ColumnView) → AllZip (IsColumn options) parts columns → EachHolds (λ (c : ColumnView). AreShown c.members) columns
+columns_shown options [] [] h = tt
+columns_shown options [] (c ∷ cs) h = absurd h
+columns_shown options (p ∷ ps) [] h = absurd h
+columns_shown options (p ∷ ps) (c ∷ cs) h = (members_shown (h.0).text p.members c.members (h.0).members, columns_shown options ps cs h.1)
+
+column_shown : (columns : List ColumnView) (i : ℕ) → EachHolds (λ (c : ColumnView). AreShown c.members) columns → AreShown (column_at columns i).members
+column_shown [] i h = tt
+column_shown (c ∷ cs) zero h = h.0
+column_shown (c ∷ cs) (suc i) h = column_shown cs i h.1
+
+both_of : (jsons : List (List ℕ)) → AreShown jsons → EachHolds IsJsonValue jsons × EachHolds (λ (m : List ℕ). IsTrue (begins_as_member m)) jsons
+both_of [] h = (tt, tt)
+both_of (m ∷ ms) h = let more = both_of ms h.1 in (((h.0).0, more.0), ((h.0).1, more.1))
+
+read_columns : (n : ℕ) (columns : List ColumnView) (cs : List ImageColumn) → EachHolds (λ (c : ColumnView). AreShown c.members) columns → EachHolds (IsToldColumn n columns) cs → EachHolds (IsReadColumn n columns) cs
+read_columns n columns [] h t = tt
+read_columns n columns (c ∷ cs) h t =
+    let ms = (column_at columns c.column).members in
+    let both = both_of ms (column_shown columns c.column h) in
+    (((t.0).0, (t.0).1, record { json = all_of IsJsonValue ms both.0; begin = all_of (λ m. IsTrue (begins_as_member m)) ms both.1; distinct = (t.0).2 }), read_columns n columns cs h t.1)
 
 -- ---- the values of an image
 -- NULL, or a value of the format
@@ -67,7 +135,7 @@ IsOf c v = (v.column ≡ c.column) × IsField c.format v.value
 abbrev AreOf : List ImageColumn → List ColumnValue → Type 0
 AreOf columns values = AllZip IsOf columns values
 
-cells_known : (n : ℕ) (table : List ColumnView) (bits nulls : List ℕ) (k : ℕ) (columns : List ImageColumn) (b : List ℕ) → EachHolds (IsToldColumn n table) columns → AreBytes b → Gives (WithBytes (AreOf columns)) (cells_at bits nulls k columns b)
+cells_known : (n : ℕ) (table : List ColumnView) (bits nulls : List ℕ) (k : ℕ) (columns : List ImageColumn) (b : List ℕ) → EachHolds (IsReadColumn n table) columns → AreBytes b → Gives (WithBytes (AreOf columns)) (cells_at bits nulls k columns b)
 unfolding cells_at
 cells_known n table bits nulls k [] b t h = given (WithBytes (AreOf [])) ([], b) (tt, h)
 cells_known n table bits nulls k (c ∷ cs) b t h =
@@ -76,7 +144,7 @@ cells_known n table bits nulls k (c ∷ cs) b t h =
     (λ first s. next (WithBytes (AreOf cs)) (WithBytes (AreOf (c ∷ cs))) (cells_at bits nulls (k + 1) cs first.1) _ (cells_known n table bits nulls (k + 1) cs first.1 t.1 s.1)
     (λ more m. given (WithBytes (AreOf (c ∷ cs))) (record { column = c.column; value = first.0 } ∷ more.0, more.1) (((refl, subst (λ (f : CellFormat). IsField f first.0) same s.0), m.0), m.1)))
 
-image_known : (n : ℕ) (table : List ColumnView) (s : ImageShape) (b : List ℕ) → EachHolds (IsToldColumn n table) s.columns → AreBytes b → Gives (WithBytes (AreOf s.columns)) (image_at s b)
+image_known : (n : ℕ) (table : List ColumnView) (s : ImageShape) (b : List ℕ) → EachHolds (IsReadColumn n table) s.columns → AreBytes b → Gives (WithBytes (AreOf s.columns)) (image_at s b)
 unfolding image_at
 image_known n table s b t h =
     next (RestIsBytes {A = List ℕ}) (WithBytes (AreOf s.columns)) (shared_at s.json_columns b) _ (shared_gives s.json_columns b h)
@@ -88,7 +156,7 @@ field_json : (c : ColumnView) (f : CellFormat) (v : CellValue) (x : List ℕ) �
 field_json c f v x a (inl e) j = subst (IsSoundCell f) (sym e) tt
 field_json c f v x a (inr k) j = k.1
 
-cells_shown : (n : ℕ) (table : List ColumnView) (columns : List ImageColumn) (values : List ColumnValue) (cells : List CellJson) → EachHolds (IsToldColumn n table) columns → AreOf columns values → AreCellsJson table columns values cells → EachHolds (IsCellShown n) cells
+cells_shown : (n : ℕ) (table : List ColumnView) (columns : List ImageColumn) (values : List ColumnValue) (cells : List CellJson) → EachHolds (IsReadColumn n table) columns → AreOf columns values → AreCellsJson table columns values cells → EachHolds (IsCellShown n) cells
 unfolding AreCellsJson
 cells_shown n table [] [] [] t o a = tt
 cells_shown n table [] [] (x ∷ xs) t o a = absurd a
@@ -115,7 +183,7 @@ fields_read c f v w x p a (inl e) (inr k) i j = absurd (not_null c f w x p a k.0
 fields_read c f v w x p a (inr k) (inl e) i j = absurd (not_null c f v x p a k.0 i (ap first (subst (λ (u : CellValue). IsCellJson c f u x) e j)))
 fields_read c f v w x p a (inr k) (inr l) i j = by_format c f v w x p a k.0 l.0 i j
 
-same_values : (n : ℕ) (table : List ColumnView) (columns : List ImageColumn) (vs ws : List ColumnValue) (cells : List CellJson) → EachHolds (IsToldColumn n table) columns → AreOf columns vs → AreOf columns ws
+same_values : (n : ℕ) (table : List ColumnView) (columns : List ImageColumn) (vs ws : List ColumnValue) (cells : List CellJson) → EachHolds (IsReadColumn n table) columns → AreOf columns vs → AreOf columns ws
     → AreCellsJson table columns vs cells → AreCellsJson table columns ws cells → AllZip (IsSameValue table) vs ws
 unfolding AreCellsJson
 same_values n table [] [] [] cells t o p a b = tt
@@ -137,7 +205,7 @@ pub images_read : (options : TableOptions) (m : TableMap) (columns : List Column
     → AreCellsJson columns s.columns vs xs → AreCellsJson columns s.columns ws ys → object_json columns xs ++ l ≡ object_json columns ys ++ k → AllZip (IsSameValue columns) vs ws × (l ≡ k)
 images_read options m columns s a b r q vs ws xs ys l k lt shown told h i read found j g e =
     let n = length m.column_types in
-    let t = each_of (IsToldColumn n columns) s.columns told in
+    let t = read_columns n columns s.columns (columns_shown options (column_parts m) columns shown) (each_of (IsToldColumn n columns) s.columns told) in
     let o = ((image_known n columns s a t h).each (vs, r) read).0 in
     let p = ((image_known n columns s b t i).each (ws, q) found).0 in
     let f = objects_read options m columns xs ys l k lt shown (all_of (IsCellShown n) xs (cells_shown n columns s.columns vs xs t o j)) (all_of (IsCellShown n) ys (cells_shown n columns s.columns ws ys t p g)) e in

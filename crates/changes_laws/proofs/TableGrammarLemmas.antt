@@ -72,7 +72,7 @@ pub length-column_names : (m : TableMap) → length (column_names m) ≡ length 
 length-column_names m = (are_names_of (used_metadata m).names (length m.column_types)).long
 
 -- ---- members of ENUM and SET
-member_is_json : (P : Type 0) (text : Shown) (bytes json : List ℕ) → IsMemberJson text bytes json → IsJson P json
+pub member_is_json : (P : Type 0) (text : Shown) (bytes json : List ℕ) → IsMemberJson text bytes json → IsJson P json
 member_is_json P (shown.Text set) bytes json (members.string t is e) = subst (IsJson P) (sym e) (string_json P t (text_is_utf8 set bytes t is))
 member_is_json P (shown.Text set) bytes json (members.object bad e) = subst (IsJson P) (sym e) (base64_object_json P bytes)
 member_is_json P shown.Binary bytes json e = subst (IsJson P) (sym e) (base64_string_json P bytes)

@@ -78,9 +78,9 @@ IsFormatOf s format.NoMetadata = ⊥
 IsFormatOf s format.NoCells = ⊥
 IsFormatOf s _ = ⊤
 
--- one of the n columns of a table, in an image: its cells are of a format as above, and its members are different
+-- one of the n columns of a table, in an image: its cells are of a format as above, and its members have different JSON
 abbrev pub IsToldColumn : ℕ → List ColumnView → ImageColumn → Type 0
-IsToldColumn n table c = (c.column < n) × IsFormatOf (column_at table c.column).shown c.format × AreMembers (column_at table c.column).members
+IsToldColumn n table c = (c.column < n) × IsFormatOf (column_at table c.column).shown c.format × AreDistinct (column_at table c.column).members
 
 -- the same value of the same column
 abbrev pub IsSameValue : List ColumnView → ColumnValue → ColumnValue → Type 0
