@@ -11,9 +11,9 @@ pub mod UpdateGrammarLemmas
 pub mod CellGrammarLemmas
 pub mod TableGrammarLemmas
 pub mod PlannedColumnLemmas
+pub mod NamedMembers
 pub mod RowGrammarLemmas
 pub mod DistinctNameLemmas
-pub mod NamedMembers
 pub mod LineGrammarLemmas
 pub mod ValueLemmas
 pub mod LineLawLemmas

@@ -1,5 +1,5 @@
 -- The lines of a transaction are objects, each in a line.
-use Rattle.std.proofs.Common.{◌≡◌, ◌⊎◌, ℕ, suc, ◌/◌, ◌%◌, ◌<◌, ◌≤◌, ◌^◌, Bool, true, false, ◌&&◌, ◌||◌, eqb→eq, T, List, [], ◌∷◌, ◌++◌, map, length, drop, take, refl, sym, ap, ap₂, ◌∙◌, subst, append_assoc, arith, inl, inr, Option, Some, None}
+use Rattle.std.proofs.Common.{◌≡◌, ℕ, suc, ◌+◌, ◌/◌, ◌%◌, ◌<◌, ◌≤◌, Bool, true, false, ◌&&◌, ◌||◌, eqb→eq, T, List, [], ◌∷◌, ◌++◌, map, length, drop, take, refl, sym, ap, ap₂, ◌∙◌, subst, append_assoc, arith, Option, Some, None}
 use Rattle.std.specs.Prelude.{All, IsTrue, codes, slice_index, ◌==◌}
 use Rattle.std.specs.List.{flat_map, join_with_byte, list_any}
 use Rattle.std.specs.Fmt.{decimal}
@@ -24,64 +24,65 @@ use Rattle.changes_tables.specs.MemberTexts.{utf8_json}
 use Rattle.changes_tables.specs.PrimaryKeys.{key_columns}
 use Rattle.changes_tables.specs.UsedMetadata.{used_metadata}
 use Rattle.changes_tables.specs.declared.columns.TableOptions.{TableOptions}
-use Rattle.changes_lines.specs.ChangeLines.{ChangeJson, IsContentJson, AreChangesJson, rows_of_all, change_objects, objects, end_by, with_ends, lines_of, transaction_line, transaction_lines, AreLines}
+use Rattle.changes_lines.specs.ChangeLines.{ChangeJson, IsContentJson, AreChangesJson, rows_of, rows_of_all, change_objects, objects, end_by, with_ends, lines_of, transaction_line, transaction_lines, AreLines}
 use Rattle.changes_lines.specs.Origins.{header_members, origin_members}
+use Rattle.changes_lines.specs.FactMembers.{TransactionFacts, transaction_members, row_member_if}
+use Rattle.changes_origins.specs.declared.added_members.AddedMembers.{AddedMembers}
 use Rattle.changes_origins.specs.GtidJson.{IsGtidJson, TaggedGtid, tagged_json}
-use Rattle.changes_laws.specs.JsonLines.{IsObjectLine, AreObjectLines, IsLoggedHeader, IsLoggedContent, IsLoggedChange, IsUntaggedGtid, IsTagRead, none_added, is_of_tag, tag_characters}
+use Rattle.changes_laws.specs.JsonLines.{IsObjectLine, AreObjectLines, IsLoggedHeader, IsLoggedContent, IsLoggedChange, IsLoggedNumber, AreLoggedFacts, AreLoggedRows, IsUntaggedGtid, IsTagRead, is_of_tag, tag_characters}
 use Rattle.changes_laws.proofs.WrittenJson.{IsJson, IsObject, AllJson, joined_array, null_json, boolean_json, object_value}
 use Rattle.changes_laws.proofs.NumberGrammarLemmas.{decimal_json}
-use Rattle.changes_laws.proofs.PlainGrammarLemmas.{Plain, all_plain, base64_object_json, plain_append, decimal_plain, quoted_json, utf8_or_object}
+use Rattle.changes_laws.proofs.PlainGrammarLemmas.{Plain, all_plain, base64_object_json, plain_append, decimal_plain, quoted_json}
 use Rattle.changes_laws.proofs.SoundCellLemmas.{EachHolds}
 use Rattle.changes_laws.proofs.TableGrammarLemmas.{columns_named, column_names_utf8, length-shown_columns}
 use Rattle.changes_laws.proofs.PlannedColumnLemmas.{AreRisingShapes, shapes_rising}
 use Rattle.changes_laws.proofs.DistinctNameLemmas.{column_names_distinct}
-use Rattle.changes_laws.proofs.NamedMembers.{HasNamed, Opens, none_named, last_named, opens_with, opens_then, opens_closed}
-use Rattle.changes_laws.proofs.LineGrammarLemmas.{HasOrigin, IsOpenLine, front_names, front_opens, statement_opens, key_and_row, row_lines, rows_sound, opened, origin_named}
+use Rattle.changes_laws.proofs.RowGrammarLemmas.{HasRow}
+use Rattle.changes_laws.proofs.NamedMembers.{HasNamed, Opens, none_named, last_named, both_named, opens_with, opens_then, opens_closed}
+use Rattle.changes_laws.proofs.LineGrammarLemmas.{IsOpenLine, IsBack, front_names, origin_names, back_names, front_opens, statement_line, back_named, row_lines, rows_named, as_many_rows, rows_sound, origin_named, transaction_named}
+
+-- ---- the numbers of rows
+counted : (before after : List EventChange) (c : EventChange) → rows_of_all before + rows_of c.content ≤ rows_of_all (before ++ c ∷ after)
+counted [] after c = omega arith
+counted (b ∷ before) after c = omega (arith, counted before after c)
+
+fewer : (asked : Bool) (m n : ℕ) → m ≤ n → IsLoggedNumber asked (Some n) → IsLoggedNumber asked (Some m)
+fewer true m n le lt = omega (arith, le, lt)
+fewer false m n le lt = tt
 
 -- ---- the objects of changes
-statement_line : (P : Type 0) (schema query origin : List ℕ) (h : Header) → IsLoggedHeader h → HasOrigin P origin → IsOpenLine P ((codes "{\"type\":\"statement\",\"database\":" ++ (utf8_json schema ++ header_members h)) ++ (origin ++ (codes ",\"sql\":" ++ utf8_json query)))
-unfolding json_string
-statement_line P schema query origin h l (inl g) = record {
-  name = codes "type";
-  names = (codes "database" ∷ codes "ts" ∷ codes "server_id" ∷ []) ++ ((codes "gtid" ∷ codes "file" ∷ codes "position" ∷ []) ++ codes "sql" ∷ []);
-  opens = opened P (codes "type") (codes "database" ∷ codes "ts" ∷ codes "server_id" ∷ []) (codes "gtid" ∷ codes "file" ∷ codes "position" ∷ []) (codes "sql" ∷ []) _ origin (codes ",\"sql\":" ++ utf8_json query) (statement_opens P schema h l) g
-      (last_named P (codes "sql") (utf8_json query) tt (utf8_or_object P query));
-  distinct = tt;
-  with_commit = tt;
-}
-statement_line P schema query origin h l (inr g) = record {
-  name = codes "type";
-  names = (codes "database" ∷ codes "ts" ∷ codes "server_id" ∷ []) ++ ([] ++ codes "sql" ∷ []);
-  opens = opened P (codes "type") (codes "database" ∷ codes "ts" ∷ codes "server_id" ∷ []) [] (codes "sql" ∷ []) _ origin (codes ",\"sql\":" ++ utf8_json query) (statement_opens P schema h l) g
-      (last_named P (codes "sql") (utf8_json query) tt (utf8_or_object P query));
-  distinct = tt;
-  with_commit = tt;
-}
-
-content_objects : (P : Type 0) (options : TableOptions) (before : ℕ) (h : Header) (content : Content) (x : ChangeJson) (origin : List ℕ) → HasOrigin P origin → IsLoggedHeader h → IsLoggedContent content → IsContentJson options none_added before h content x
-    → ∥ EachHolds (IsOpenLine P) (change_objects origin x) ∥₁
-content_objects P options before h (OfRows m r) x origin g l c e =
+content_objects : (P : Type 0) (options : TableOptions) (added : AddedMembers) (before : ℕ) (h : Header) (content : Content) (x : ChangeJson) (origin : List ℕ) → HasNamed P origin_names origin → IsLoggedHeader h → IsLoggedContent content
+    → IsLoggedNumber added.row (Some (before + rows_of content)) → IsContentJson options added before h content x → ∥ EachHolds (IsOpenLine P) (change_objects origin x) ∥₁
+content_objects P options added before h (OfRows m r) x origin g l c lt e =
     let names = column_names m in
+    let key = key_columns (length m.column_types) (used_metadata m).key in
+    let rows = (event_rows r (plan_by m)).items in
     let rising : AreRisingShapes (length names) e.shapes = subst (λ (n : ℕ). AreRisingShapes n e.shapes) (length-shown_columns m) (shapes_rising m r e.shapes e.shapes_are) in
     let opens : Opens P (codes "type") front_names x.front = subst (Opens P (codes "type") front_names) (sym e.front) (front_opens P (images_of r.event_type) m h l) in
-    let keys = λ (row : List ℕ) (ks : List (List ℕ)) (n : HasNamed P ks (codes ",\"data\":" ++ row)).
-    subst (λ (b : List ℕ). HasNamed P ks (b ++ row) ⊎ HasNamed P (codes "primary_key" ∷ ks) (b ++ row)) (sym e.back) (key_and_row P names (key_columns (length m.column_types) (used_metadata m).key) row ks (column_names_utf8 m) n) in
-    ∥∥₁_map e.shown (λ s. subst (λ (rows : List (List ℕ)). EachHolds (IsOpenLine P) (map (λ row. x.front ++ (origin ++ (x.back ++ row))) rows)) (sym e.numbered) (row_lines P x.front origin x.back names e.columns e.shapes (event_rows r (plan_by m)).items e.plain opens g keys (λ p. column_names_distinct m c.1) (columns_named P options m e.columns s) rising (rows_sound m r e.shapes c.0 e.shapes_are) e.rows))
-content_objects P options before h (OfStatement q) x origin g l c e =
-    let line : IsOpenLine P (x.front ++ (origin ++ (x.back ++ utf8_json q.query))) = subst (λ (f : List ℕ). IsOpenLine P (f ++ (origin ++ (x.back ++ utf8_json q.query)))) (sym e.front)
-    (subst (λ (b : List ℕ). IsOpenLine P ((codes "{\"type\":\"statement\",\"database\":" ++ (utf8_json q.schema ++ header_members h)) ++ (origin ++ (b ++ utf8_json q.query)))) (sym e.back) (statement_line P q.schema q.query origin h l g)) in
-    ∣ subst (λ (rows : List (List ℕ)). EachHolds (IsOpenLine P) (map (λ row. x.front ++ (origin ++ (x.back ++ row))) rows)) (sym (e.rows ∙ ap (λ (row : List ℕ). row ∷ []) (append-nil (utf8_json q.query)))) (line, tt) ∣₁
+    let back : IsBack P x.back = subst (IsBack P) (sym e.back) (λ row n. back_named P names key added.query e.query row (column_names_utf8 m) n) in
+    let numbers = subst (λ (n : ℕ). IsLoggedNumber added.row (Some (before + n))) (sym (as_many_rows e.columns e.shapes rows e.plain e.rows)) lt in
+    let lines = λ (texts : EachHolds (HasRow P) e.plain). subst (λ (rows : List (List ℕ)). EachHolds (IsOpenLine P) (map (λ row. x.front ++ (origin ++ (x.back ++ row))) rows)) (sym e.numbered) (row_lines P added.row before x.front origin x.back e.plain opens g back numbers texts) in
+    ∥∥₁_map e.shown (λ s. lines (rows_named P names e.columns e.shapes rows e.plain (λ p. column_names_distinct m c.1) (columns_named P options m e.columns s) rising (rows_sound m r e.shapes c.0 e.shapes_are) e.rows))
+content_objects P options added before h (OfStatement q) x origin g l c lt e =
+    let text = utf8_json q.query ++ row_member_if added.row (before + 1) in
+    let line : IsOpenLine P (x.front ++ (origin ++ (x.back ++ text))) = subst (λ (f : List ℕ). IsOpenLine P (f ++ (origin ++ (x.back ++ text)))) (sym e.front)
+    (subst (λ (b : List ℕ). IsOpenLine P ((codes "{\"type\":\"statement\",\"database\":" ++ (utf8_json q.schema ++ header_members h)) ++ (origin ++ (b ++ text)))) (sym e.back) (statement_line P added.row (before + 1) q.schema q.query origin h l lt g)) in
+    ∣ subst (λ (rows : List (List ℕ)). EachHolds (IsOpenLine P) (map (λ row. x.front ++ (origin ++ (x.back ++ row))) rows)) (sym e.rows) (line, tt) ∣₁
 
 each_append : {A : Type 0} (Holds : A → Type 0) (xs ys : List A) → EachHolds Holds xs → EachHolds Holds ys → EachHolds Holds (xs ++ ys)
 each_append Holds [] ys p q = q
 each_append Holds (x ∷ xs) ys p q = (p.0, each_append Holds xs ys p.1 q)
 
-pub changes_objects : (P : Type 0) (options : TableOptions) (all cs : List EventChange) (xs : List ChangeJson) (origin : List ℕ) → HasOrigin P origin → EachHolds IsLoggedChange cs → AreChangesJson options none_added all cs xs → ∥ EachHolds (IsOpenLine P) (objects origin xs) ∥₁
-changes_objects P options all [] [] origin g l e = ∣ tt ∣₁
-changes_objects P options all [] (x ∷ xs) origin g l e = absurd e
-changes_objects P options all (c ∷ cs) [] origin g l e = absurd e
-changes_objects P options all (c ∷ cs) (x ∷ xs) origin g l e =
-    ∥∥₁_map₂ (content_objects P options (rows_of_all (e.0).before) c.header c.content x origin g (l.0).0 (l.0).1 (e.0).is) (changes_objects P options all cs xs origin g l.1 e.1) (λ a b. each_append (IsOpenLine P) (change_objects origin x) (objects origin xs) a b)
+changes_objects : (P : Type 0) (options : TableOptions) (added : AddedMembers) (all cs : List EventChange) (xs : List ChangeJson) (origin : List ℕ) → HasNamed P origin_names origin → EachHolds IsLoggedChange cs → AreLoggedRows added all
+    → AreChangesJson options added all cs xs → ∥ EachHolds (IsOpenLine P) (objects origin xs) ∥₁
+changes_objects P options added all [] [] origin g l lt e = ∣ tt ∣₁
+changes_objects P options added all [] (x ∷ xs) origin g l lt e = absurd e
+changes_objects P options added all (c ∷ cs) [] origin g l lt e = absurd e
+changes_objects P options added all (c ∷ cs) (x ∷ xs) origin g l lt e =
+    let one = e.0 in
+    let numbers = fewer added.row (rows_of_all one.before + rows_of c.content) (rows_of_all (one.before ++ c ∷ one.after)) (counted one.before one.after c) (subst (AreLoggedRows added) one.among lt) in
+    ∥∥₁_map₂ (content_objects P options added (rows_of_all one.before) c.header c.content x origin g (l.0).0 (l.0).1 numbers one.is) (changes_objects P options added all cs xs origin g l.1 lt e.1)
+    (λ a b. each_append (IsOpenLine P) (change_objects origin x) (objects origin xs) a b)
 
 -- ---- an object and a line feed
 pub all_of : {A : Type 0} (Holds : A → Type 0) (xs : List A) → EachHolds Holds xs → All Holds xs
@@ -99,14 +100,17 @@ object_line P text p o = record {
   distinct = o.distinct p;
 }
 
+abbrev line_names : List (List ℕ)
+line_names = front_names ++ (origin_names ++ back_names)
+
 closed_line : (P : Type 0) (text : List ℕ) → IsOpenLine P text → IsObject P (text ++ codes "}")
-closed_line P text o = opens_closed P o.name o.names text o.distinct o.opens
+closed_line P text o = opens_closed P (codes "type") line_names text tt o
 
 committed_line : (P : Type 0) (text : List ℕ) → IsOpenLine P text → IsObject P (text ++ codes ",\"commit\":true}")
 unfolding json_string
 committed_line P text o =
-    let all = opens_then P o.name o.names (codes "commit" ∷ []) text (codes ",\"commit\":true") o.opens (last_named P (codes "commit") (codes "true") tt (boolean_json P true)) in
-    subst (IsObject P) (append_assoc text (codes ",\"commit\":true") (codes "}")) (opens_closed P o.name (o.names ++ codes "commit" ∷ []) (text ++ codes ",\"commit\":true") o.with_commit all)
+    let all = opens_then P (codes "type") line_names (codes "commit" ∷ []) text (codes ",\"commit\":true") o (last_named P (codes "commit") (codes "true") tt (boolean_json P true)) in
+    subst (IsObject P) (append_assoc text (codes ",\"commit\":true") (codes "}")) (opens_closed P (codes "type") (line_names ++ codes "commit" ∷ []) (text ++ codes ",\"commit\":true") tt all)
 
 -- ---- a line for each object
 abbrev closed : List (List ℕ) → List (List ℕ)
@@ -130,7 +134,7 @@ closed_lines P [] p h = tt
 closed_lines P (o ∷ []) p h = (object_line P _ p (committed_line P o h.0), tt)
 closed_lines P (o ∷ n ∷ os) p h = (object_line P _ p (closed_line P o h.0), closed_lines P (n ∷ os) p h.1)
 
-pub object_lines : (P : Type 0) (os : List (List ℕ)) → P → EachHolds (IsOpenLine P) os → AreObjectLines (lines_of os)
+object_lines : (P : Type 0) (os : List (List ℕ)) → P → EachHolds (IsOpenLine P) os → AreObjectLines (lines_of os)
 object_lines P os p h = record { lines = closed os; are = all_of IsObjectLine (closed os) (closed_lines P os p h); is = lines_are os }
 
 -- ---- one line
@@ -144,16 +148,14 @@ all_closed : (P : Type 0) (os : List (List ℕ)) → EachHolds (IsOpenLine P) os
 all_closed P [] h = tt
 all_closed P (o ∷ os) h = (object_value P (o ++ codes "}") (closed_line P o h.0), all_closed P os h.1)
 
-transaction_opens : (P : Type 0) (h : Header) (gtid file : List ℕ) (position : ℕ) → IsLoggedHeader h → IsJson P gtid → position < 2 ^ 64
-    → Opens P (codes "ts") (codes "server_id" ∷ codes "gtid" ∷ codes "file" ∷ codes "position" ∷ []) (123 ∷ drop 1 (header_members h ++ origin_members gtid file position))
+transaction_opens : (P : Type 0) (h : Header) (origin : List ℕ) → IsLoggedHeader h → HasNamed P origin_names origin → Opens P (codes "ts") (codes "server_id" ∷ origin_names) (123 ∷ drop 1 (header_members h ++ origin))
 unfolding json_string
-transaction_opens P h gtid file position l g lt =
-    opens_then P (codes "ts") (codes "server_id" ∷ []) (codes "gtid" ∷ codes "file" ∷ codes "position" ∷ []) (123 ∷ drop 1 (header_members h)) (origin_members gtid file position)
+transaction_opens P h origin l g =
+    opens_then P (codes "ts") (codes "server_id" ∷ []) origin_names (123 ∷ drop 1 (header_members h)) origin
     (opens_with P (codes "ts") (decimal h.timestamp) (codes ",\"server_id\":" ++ decimal h.server_id) (codes "server_id" ∷ []) tt (decimal_json P h.timestamp (omega (arith, l.0)))
-    (last_named P (codes "server_id") (decimal h.server_id) tt (decimal_json P h.server_id (omega (arith, l.1)))))
-    (origin_named P gtid file position g lt)
+    (last_named P (codes "server_id") (decimal h.server_id) tt (decimal_json P h.server_id (omega (arith, l.1))))) g
 
-whole_line : (P : Type 0) (start : List ℕ) (os : List (List ℕ)) → P → Opens P (codes "ts") (codes "server_id" ∷ codes "gtid" ∷ codes "file" ∷ codes "position" ∷ []) start → EachHolds (IsOpenLine P) os
+whole_line : (P : Type 0) (start : List ℕ) (os : List (List ℕ)) → P → Opens P (codes "ts") (codes "server_id" ∷ origin_names) start → EachHolds (IsOpenLine P) os
     → AreObjectLines (start ++ (codes ",\"changes\":[" ++ (with_ends (codes "},") (codes "}") os ++ codes "]}\n")))
 unfolding json_string
 whole_line P start os p o h =
@@ -161,19 +163,18 @@ whole_line P start os p o h =
     let array = joined_array P texts (all_closed P os h) in
     let joined = join_with_byte 44 texts in
     let changes = codes ",\"changes\":[" ++ (joined ++ codes "]") in
-    let all = opens_then P (codes "ts") (codes "server_id" ∷ codes "gtid" ∷ codes "file" ∷ codes "position" ∷ []) (codes "changes" ∷ []) start changes o (last_named P (codes "changes") (91 ∷ (joined ++ 93 ∷ [])) tt array) in
+    let all = opens_then P (codes "ts") (codes "server_id" ∷ origin_names) (codes "changes" ∷ []) start changes o (last_named P (codes "changes") (91 ∷ (joined ++ 93 ∷ [])) tt array) in
     let line = (start ++ changes) ++ codes "}" in
-    let one : IsObjectLine line = object_line P line p (opens_closed P (codes "ts") (codes "server_id" ∷ codes "gtid" ∷ codes "file" ∷ codes "position" ∷ codes "changes" ∷ []) (start ++ changes) tt all) in
+    let one : IsObjectLine line = object_line P line p (opens_closed P (codes "ts") ((codes "server_id" ∷ origin_names) ++ codes "changes" ∷ []) (start ++ changes) tt all) in
     record {
       lines = line ∷ [];
       are = all_of IsObjectLine (line ∷ []) (one, tt);
       is = ap (λ (t : List ℕ). start ++ (codes ",\"changes\":[" ++ (t ++ codes "]}\n"))) (joined_ends os) ∙ simp append_assoc;
     }
 
-pub transaction_object : (P : Type 0) (h : Header) (gtid file : List ℕ) (position : ℕ) (os : List (List ℕ)) → P → IsLoggedHeader h → IsJson P gtid → position < 2 ^ 64 → EachHolds (IsOpenLine P) os
-    → AreObjectLines (transaction_line (header_members h ++ origin_members gtid file position) os)
-transaction_object P h gtid file position [] p l g lt all = record { lines = []; are = all_of IsObjectLine [] tt; is = refl }
-transaction_object P h gtid file position (o ∷ os) p l g lt all = whole_line P (123 ∷ drop 1 (header_members h ++ origin_members gtid file position)) (o ∷ os) p (transaction_opens P h gtid file position l g lt) all
+transaction_object : (P : Type 0) (h : Header) (origin : List ℕ) (os : List (List ℕ)) → P → IsLoggedHeader h → HasNamed P origin_names origin → EachHolds (IsOpenLine P) os → AreObjectLines (transaction_line (header_members h ++ origin) os)
+transaction_object P h origin [] p l g all = record { lines = []; are = all_of IsObjectLine [] tt; is = refl }
+transaction_object P h origin (o ∷ os) p l g all = whole_line P (123 ∷ drop 1 (header_members h ++ origin)) (o ∷ os) p (transaction_opens P h origin l g) all
 
 -- ---- GTIDs
 abbrev digit_in : ℕ → ℕ
@@ -239,23 +240,31 @@ tagged_is_json P body (Some g) h =
     subst (IsJson P) (simp append_assoc) (quoted_json P text plain)
 
 -- ---- the law
-pub lines_law : (options : TableOptions) (by_transaction : Bool) (file gtid : List ℕ) (t : Committed) (changes : List EventChange) (xs : List ChangeJson) → IsJson (Unit {0}) gtid → IsLoggedHeader t.commit → All IsLoggedChange changes
-    → AreChangesJson options none_added t.changes changes xs → ∥ AreObjectLines (transaction_lines by_transaction file t gtid [] xs) ∥₁
-lines_law options true file gtid t changes xs g l c e =
-    let origin = origin_members gtid file t.commit.log_pos in
-    ∥∥₁_map (changes_objects (Unit {0}) options t.changes changes xs [] (inr (none_named (Unit {0}))) (each_of IsLoggedChange changes c) e)
-    (λ all. subst (λ (o : List ℕ). AreObjectLines (transaction_line (header_members t.commit ++ o) (objects [] xs))) (sym (append-nil origin)) (transaction_object (Unit {0}) t.commit gtid file t.commit.log_pos (objects [] xs) tt l g l.2 all))
-lines_law options false file gtid t changes xs g l c e =
-    let origin = origin_members gtid file t.commit.log_pos in
-    ∥∥₁_map (changes_objects (Unit {0}) options t.changes changes xs origin (inl (origin_named (Unit {0}) gtid file t.commit.log_pos g l.2)) (each_of IsLoggedChange changes c) e)
-    (λ all. subst (λ (o : List ℕ). AreObjectLines (lines_of (objects o xs))) (sym (append-nil origin)) (object_lines (Unit {0}) (objects origin xs) tt all))
+lines_law : (options : TableOptions) (added : AddedMembers) (by_transaction : Bool) (file gtid : List ℕ) (t : Committed) (facts : TransactionFacts) (changes : List EventChange) (xs : List ChangeJson) → IsJson (Unit {0}) gtid → IsLoggedHeader t.commit
+    → All IsLoggedChange changes → AreLoggedRows added t.changes → AreLoggedFacts added facts → AreChangesJson options added t.changes changes xs → ∥ AreObjectLines (transaction_lines by_transaction file t gtid (transaction_members added facts) xs) ∥₁
+lines_law options added by_transaction file gtid t facts changes xs g l c n f e = go by_transaction
+  where
+    origin : List ℕ
+    origin = origin_members gtid file t.commit.log_pos ++ transaction_members added facts
 
-pub untagged_law : (options : TableOptions) (by_transaction : Bool) (file : List ℕ) (t : Committed) (changes : List EventChange) (text : List ℕ) → IsUntaggedGtid t.gtid → IsLoggedHeader t.commit → All IsLoggedChange changes
-    → AreLines options none_added by_transaction file t changes text → ∥ AreObjectLines text ∥₁
-untagged_law options by_transaction file t changes text u l c e =
+    named : HasNamed (Unit {0}) origin_names origin
+    named = both_named (Unit {0}) (codes "gtid" ∷ codes "file" ∷ codes "position" ∷ []) (codes "begin" ∷ codes "ts_ms" ∷ codes "xid" ∷ codes "thread_id" ∷ []) (origin_members gtid file t.commit.log_pos) (transaction_members added facts)
+        (origin_named (Unit {0}) gtid file t.commit.log_pos g l.2) (transaction_named (Unit {0}) added facts f)
+
+    all : (members : List ℕ) → HasNamed (Unit {0}) origin_names members → ∥ EachHolds (IsOpenLine (Unit {0})) (objects members xs) ∥₁
+    all members m = changes_objects (Unit {0}) options added t.changes changes xs members m (each_of IsLoggedChange changes c) n e
+
+    go : (by : Bool) → ∥ AreObjectLines (transaction_lines by file t gtid (transaction_members added facts) xs) ∥₁
+    go true = ∥∥₁_map (all [] (none_named (Unit {0}) origin_names)) (λ h. transaction_object (Unit {0}) t.commit origin (objects [] xs) tt l named h)
+    go false = ∥∥₁_map (all origin named) (λ h. object_lines (Unit {0}) (objects origin xs) tt h)
+
+pub untagged_law : (options : TableOptions) (added : AddedMembers) (by_transaction : Bool) (file : List ℕ) (t : Committed) (changes : List EventChange) (text : List ℕ) (lines : AreLines options added by_transaction file t changes text) → IsUntaggedGtid t.gtid
+    → IsLoggedHeader t.commit → All IsLoggedChange changes → AreLoggedRows added t.changes → AreLoggedFacts added ((lines.2).2).0 → ∥ AreObjectLines text ∥₁
+untagged_law options added by_transaction file t changes text e u l c n f =
     let g = e.2 in
-    subst (λ (x : List ℕ). ∥ AreObjectLines x ∥₁) (sym (g.2).1) (lines_law options by_transaction file g.0 t changes e.0 (untagged_json (Unit {0}) t.gtid g.0 u g.1) l c e.1)
+    subst (λ (x : List ℕ). ∥ AreObjectLines x ∥₁) (sym (g.2).1) (lines_law options added by_transaction file g.0 t (g.2).0 changes e.0 (untagged_json (Unit {0}) t.gtid g.0 u g.1) l c n f e.1)
 
-pub tagged_law : (options : TableOptions) (by_transaction : Bool) (file body : List ℕ) (g : Option TaggedGtid) (t : Committed) (changes : List EventChange) (xs : List ChangeJson) → IsTagRead g → IsLoggedHeader t.commit → All IsLoggedChange changes
-    → AreChangesJson options none_added t.changes changes xs → ∥ AreObjectLines (transaction_lines by_transaction file t (tagged_json body g) [] xs) ∥₁
-tagged_law options by_transaction file body g t changes xs h l c e = lines_law options by_transaction file (tagged_json body g) t changes xs (tagged_is_json (Unit {0}) body g h) l c e
+pub tagged_law : (options : TableOptions) (added : AddedMembers) (by_transaction : Bool) (file body : List ℕ) (g : Option TaggedGtid) (t : Committed) (facts : TransactionFacts) (changes : List EventChange) (xs : List ChangeJson) → IsTagRead g
+    → IsLoggedHeader t.commit → All IsLoggedChange changes → AreLoggedRows added t.changes → AreLoggedFacts added facts → AreChangesJson options added t.changes changes xs
+    → ∥ AreObjectLines (transaction_lines by_transaction file t (tagged_json body g) (transaction_members added facts) xs) ∥₁
+tagged_law options added by_transaction file body g t facts changes xs h l c n f e = lines_law options added by_transaction file (tagged_json body g) t facts changes xs (tagged_is_json (Unit {0}) body g h) l c n f e

@@ -1,6 +1,6 @@
 -- The JSON of a row is JSON of RFC 8259, and its objects have a member for each of some columns.
-use Rattle.std.proofs.Common.{◌≡◌, ℕ, zero, suc, ◌+◌, ◌<◌, ◌≤◌, List, [], ◌∷◌, ◌++◌, map, length, refl, sym, ap, ◌∙◌, subst, append_assoc, arith, inl, inr, ◌⊎◌}
-use Rattle.std.specs.Prelude.{◌≢◌, IsUtf8, codes, slice_index_or}
+use Rattle.std.proofs.Common.{◌≡◌, ℕ, zero, suc, ◌+◌, ◌<◌, ◌≤◌, List, [], ◌∷◌, ◌++◌, map, length, refl, sym, ap, ◌∙◌, subst, append_assoc, arith}
+use Rattle.std.specs.Prelude.{◌≢◌, codes, slice_index_or}
 use Rattle.std.proofs.lemmas.List.{append-nil}
 use Rattle.rows_cells.specs.Images.{ColumnValue, ImageShape}
 use Rattle.rows_cells.specs.declared.image.ImageColumn.{ImageColumn}
@@ -9,13 +9,13 @@ use Rattle.changes_writers.specs.JsonStrings.{json_string}
 use Rattle.changes_lines.specs.RowJson.{CellJson, column_at, AreCellsJson, member_json, more_members, object_json, IsBefore, IsUpdate, none, unset, added, same, changed, IsRowJson}
 use Rattle.changes_laws.specs.JsonGrammar.{Members, no_members, member}
 use Rattle.changes_laws.specs.JsonNames.{names_of, IsOther, AreDistinct}
-use Rattle.changes_laws.proofs.StringGrammarLemmas.{utf8_known}
 use Rattle.changes_laws.proofs.WrittenJson as written
 use Rattle.changes_laws.proofs.WrittenJson.{IsJson, AllJson, HasMembers, HasMoreMembers, first_member, next_members, no_more_members, empty_object}
 use Rattle.changes_laws.proofs.CellGrammarLemmas.{cell_json}
 use Rattle.changes_laws.proofs.SoundCellLemmas.{AreSoundCells, AreSoundImages}
 use Rattle.changes_laws.proofs.TableGrammarLemmas.{IsNamed, AreNamed}
 use Rattle.changes_laws.proofs.PlannedColumnLemmas.{AreRising, AreRisingShapes}
+use Rattle.changes_laws.proofs.NamedMembers.{HasNamed, none_named, next_named, last_named}
 
 -- ---- cells of a table's columns
 abbrev pub name_at : List (List ℕ) → ℕ → List ℕ
@@ -79,9 +79,6 @@ update_cells P least n before after newest old (changed {x = x} {y = y} {before 
     ((a.0, a.1, more.0), (b.0, b.1, subst (λ (k : ℕ). AreCellsOf P (k + 1) n os) (sym e) more.1))
 
 -- ---- objects
-pub next_of : (P : Type 0) (k x y : List ℕ) (ms : Members) → IsUtf8 k → (j : IsJson P x) → HasMoreMembers P ms y → HasMoreMembers P (member k j.value ms) (44 ∷ (json_string k ++ 58 ∷ (x ++ y)))
-next_of P k x y ms h j m = subst (λ (t : List ℕ). HasMoreMembers P (member k j.value ms) (44 ∷ t)) (append_assoc (json_string k) (58 ∷ x) y) (written.next_member P k x y ms h j m)
-
 record ObjectOf (P : Type 0) (names : List (List ℕ)) (table : List ColumnView) (cells : List CellJson) : Type 0 where
   members : Members
   has : HasMoreMembers P members (more_members table cells)
@@ -137,35 +134,19 @@ object_is_json P names table (x ∷ xs) d t a =
 
 -- ---- rows
 -- `data`, and `old` for an update
-pub record RowMembers (P : Type 0) (text : List ℕ) : Type 0 where
-  pub members : Members
-  pub has : HasMoreMembers P members (codes ",\"data\":" ++ text)
-  pub named : (names_of members ≡ codes "data" ∷ []) ⊎ (names_of members ≡ codes "data" ∷ codes "old" ∷ [])
+abbrev pub HasRow : Type 0 → List ℕ → Type 0
+HasRow P row = HasNamed P (codes "data" ∷ codes "old" ∷ []) (codes ",\"data\":" ++ row)
 
-one_object : (P : Type 0) (x y : List ℕ) → IsJson P x → y ≡ x → RowMembers P y
+one_object : (P : Type 0) (x y : List ℕ) → IsJson P x → y ≡ x → HasRow P y
 unfolding json_string
-one_object P x y j e =
-    let m : HasMoreMembers P (member (codes "data") j.value no_members) (codes ",\"data\":" ++ (x ++ [])) = next_of P (codes "data") x [] no_members (utf8_known (codes "data") tt) j (no_more_members P) in
-    record {
-      members = member (codes "data") j.value no_members;
-      has = subst (λ (t : List ℕ). HasMoreMembers P (member (codes "data") j.value no_members) (codes ",\"data\":" ++ t)) (append-nil x ∙ sym e) m;
-      named = inl refl;
-    }
+one_object P x y j e = subst (HasRow P) (append-nil x ∙ sym e) (next_named P (codes "data") x [] (codes "old" ∷ []) tt j (none_named P (codes "old" ∷ [])))
 
-two_objects : (P : Type 0) (x y z : List ℕ) → IsJson P x → IsJson P y → z ≡ x ++ (codes ",\"old\":" ++ y) → RowMembers P z
+two_objects : (P : Type 0) (x y z : List ℕ) → IsJson P x → IsJson P y → z ≡ x ++ (codes ",\"old\":" ++ y) → HasRow P z
 unfolding json_string
-two_objects P x y z j k e =
-    let last : HasMoreMembers P (member (codes "old") k.value no_members) (codes ",\"old\":" ++ (y ++ [])) = next_of P (codes "old") y [] no_members (utf8_known (codes "old") tt) k (no_more_members P) in
-    let m : HasMoreMembers P (member (codes "data") j.value (member (codes "old") k.value no_members)) (codes ",\"data\":" ++ (x ++ (codes ",\"old\":" ++ (y ++ []))))
-    = next_of P (codes "data") x (codes ",\"old\":" ++ (y ++ [])) (member (codes "old") k.value no_members) (utf8_known (codes "data") tt) j last in
-    record {
-      members = member (codes "data") j.value (member (codes "old") k.value no_members);
-      has = subst (λ (t : List ℕ). HasMoreMembers P (member (codes "data") j.value (member (codes "old") k.value no_members)) (codes ",\"data\":" ++ t)) (ap (λ (t : List ℕ). x ++ (codes ",\"old\":" ++ t)) (append-nil y) ∙ sym e) m;
-      named = inr refl;
-    }
+two_objects P x y z j k e = subst (HasRow P) (sym e) (next_named P (codes "data") x (codes ",\"old\":" ++ y) (codes "old" ∷ []) tt j (last_named P (codes "old") y tt k))
 
 pub row_members : (P : Type 0) (names : List (List ℕ)) (table : List ColumnView) (shapes : List ImageShape) (images : List (List ColumnValue)) (x : List ℕ) → (P → AreDistinct names) → AreNamed P names table → AreRisingShapes (length names) shapes
-    → AreSoundImages shapes images → IsRowJson table shapes images x → RowMembers P x
+    → AreSoundImages shapes images → IsRowJson table shapes images x → HasRow P x
 row_members P names table [] images x d t r s h = absurd h
 row_members P names table (s ∷ []) [] x d t r i h = absurd h
 row_members P names table (s ∷ []) (values ∷ []) x d t r i h =

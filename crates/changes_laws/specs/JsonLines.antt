@@ -1,5 +1,5 @@
 -- Lines of JSON, and the changes of a transaction as binary logs have them: numbers of at most 64 bits, and bytes.
-use Rattle.std.specs.Prelude.{◌≡◌, ◌≤◌, ◌<◌, ◌^◌, ◌==◌, ⊤, All, Bool, false, IsTrue, ℕ, codes, List, [], ◌∷◌, ◌++◌, length, Option, Some, None}
+use Rattle.std.specs.Prelude.{◌≡◌, ◌≤◌, ◌<◌, ◌^◌, ◌==◌, ⊤, All, Bool, true, false, IsTrue, ℕ, codes, List, [], ◌∷◌, ◌++◌, length, Option, Some, None}
 use Rattle.std.specs.List.{flat_map, list_any}
 use Rattle.wire_buf.specs.Encoding.{AreBytes}
 use Rattle.events_frames.specs.Headers.{Header}
@@ -7,6 +7,8 @@ use Rattle.feed_checks.specs.Kinds.{Gtid, Anonymous, Numbered, Tagged}
 use Rattle.feed_transactions.specs.Changes.{Content, OfRows, OfStatement, EventChange}
 use Rattle.changes_origins.specs.GtidJson.{TaggedGtid}
 use Rattle.changes_lines.specs.RowJson.{CellJson}
+use Rattle.changes_lines.specs.ChangeLines.{rows_of_all}
+use Rattle.changes_lines.specs.FactMembers.{TransactionFacts}
 use Rattle.changes_origins.specs.declared.added_members.AddedMembers.{AddedMembers}
 use Rattle.changes_laws.specs.JsonGrammar.{Json, Members, object, IsValue, IsJsonText}
 use Rattle.changes_laws.specs.JsonNames.{HasDistinctNames}
@@ -31,10 +33,6 @@ pub record AreObjectLines (text : List ℕ) : Type 0 where
   pub are : All IsObjectLine lines
   pub is : text ≡ flat_map (λ line. line ++ 10 ∷ []) lines
 
--- no members on request
-abbrev pub none_added : AddedMembers
-none_added = record { begin = false; ts_ms = false; xid = false; thread_id = false; query = false; row = false }
-
 -- the time, the server and the position
 abbrev pub IsLoggedHeader : Header → Type 0
 IsLoggedHeader h = (h.timestamp < 2 ^ 64) × (h.server_id < 2 ^ 64) × (h.log_pos < 2 ^ 64)
@@ -45,6 +43,20 @@ IsLoggedContent (OfStatement q) = ⊤
 
 abbrev pub IsLoggedChange : EventChange → Type 0
 IsLoggedChange c = IsLoggedHeader c.header × IsLoggedContent c.content
+
+-- the number of a member on request, if it is asked for and there is one
+abbrev pub IsLoggedNumber : Bool → Option ℕ → Type 0
+IsLoggedNumber true (Some n) = n < 2 ^ 64
+IsLoggedNumber true None = ⊤
+IsLoggedNumber false n = ⊤
+
+-- those of a transaction: where it begins, when it was committed, its XID and its thread
+abbrev pub AreLoggedFacts : AddedMembers → TransactionFacts → Type 0
+AreLoggedFacts a f = IsLoggedNumber a.begin (Some f.begin) × IsLoggedNumber a.ts_ms f.ts_ms × IsLoggedNumber a.xid f.xid × IsLoggedNumber a.thread_id f.thread_id
+
+-- how many rows and statements there are among changes, if their numbers are asked for
+abbrev pub AreLoggedRows : AddedMembers → List EventChange → Type 0
+AreLoggedRows a changes = IsLoggedNumber a.row (Some (rows_of_all changes))
 
 -- a GTID without a tag
 abbrev pub IsUntaggedGtid : Option Gtid → Type 0

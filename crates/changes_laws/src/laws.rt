@@ -21,11 +21,13 @@ ghost use Rattle.changes_writers.specs.JsonStrings.{json_string};
 ghost use Rattle.changes_cells.specs.CellJson.{AreUpdatesJson, IsCellJson, IsDocumentJson};
 ghost use Rattle.changes_lines.specs.ChangeLines.{AreChangesJson, AreLines, ChangeJson, key_of, rows_back, rows_front, transaction_lines};
 ghost use Rattle.changes_lines.specs.Origins.{header_members, origin_members};
+ghost use Rattle.changes_lines.specs.FactMembers.{TransactionFacts, transaction_members};
+ghost use Rattle.changes_origins.specs.declared.added_members.AddedMembers.{AddedMembers};
 ghost use Rattle.changes_origins.specs.GtidJson.{IsGtidJson, TaggedGtid, tagged_json};
 ghost use Rattle.changes_lines.specs.RowJson.{AreCellsJson, CellJson, object_json};
 ghost use Rattle.changes_laws.specs.JsonGrammar.{IsAfterValue, IsChar, IsJsonText, IsNumber, IsString, IsValue, Json, array, boolean, element, member, no_elements, no_members, null, number, object};
 ghost use Rattle.changes_laws.specs.JsonNames.{HasDistinctNames};
-ghost use Rattle.changes_laws.specs.JsonLines.{AreObjectLines, IsCellShown, IsJsonValue, IsLoggedChange, IsLoggedHeader, IsTagRead, IsUntaggedGtid, none_added};
+ghost use Rattle.changes_laws.specs.JsonLines.{AreLoggedFacts, AreLoggedRows, AreObjectLines, IsCellShown, IsJsonValue, IsLoggedChange, IsLoggedHeader, IsTagRead, IsUntaggedGtid};
 ghost use Rattle.changes_laws.specs.SameCells.{AreMembers, IsFormatOf, IsSameCell, IsSameValue, IsToldColumn, ShowsOrigin};
 
 /// The string of a text in UTF-8 is a string of RFC 8259, and its characters are those of the text.
@@ -45,14 +47,14 @@ pub fn cells_are_json()
     ensures { (c : ColumnView) (f : CellFormat) (bytes rest x : List ℕ) (v : CellValue) → AreBytes bytes → cell_at f bytes ≡ Ok (v, rest) → All IsJsonValue c.members → IsCellJson c f v x → IsJsonValue x }
 {}
 
-/// Each line of a transaction, without members on request, is an object of RFC 8259 without control characters. It has no member twice,
-/// nor has an object in it. A GTID with a tag is a string by the second clause, for each tag of letters, digits and underscores. `∥ ∥₁`
-/// means that there are such lines.
+/// Each line of a transaction is an object of RFC 8259 without control characters. It has no member twice, nor has an object in it. A GTID
+/// with a tag is a string by the second clause, for each tag of letters, digits and underscores. The numbers on request have at most 64
+/// bits; `((lines.2).2).0` are the facts that `lines` show. `∥ ∥₁` means that there are such lines.
 pub fn lines_are_json()
-    ensures lines { (options : TableOptions) (by_transaction : Bool) (file : List ℕ) (t : Committed) (changes : List EventChange) (text : List ℕ) → IsUntaggedGtid t.gtid → IsLoggedHeader t.commit → All IsLoggedChange changes
-        → AreLines options none_added by_transaction file t changes text → ∥ AreObjectLines text ∥₁ }
-    ensures tagged { (options : TableOptions) (by_transaction : Bool) (file body : List ℕ) (g : Option TaggedGtid) (t : Committed) (changes : List EventChange) (xs : List ChangeJson) → IsTagRead g → IsLoggedHeader t.commit → All IsLoggedChange changes
-        → AreChangesJson options none_added t.changes changes xs → ∥ AreObjectLines (transaction_lines by_transaction file t (tagged_json body g) [] xs) ∥₁ }
+    ensures lines { (options : TableOptions) (added : AddedMembers) (by_transaction : Bool) (file : List ℕ) (t : Committed) (changes : List EventChange) (text : List ℕ) (lines : AreLines options added by_transaction file t changes text) → IsUntaggedGtid t.gtid → IsLoggedHeader t.commit → All IsLoggedChange changes
+        → AreLoggedRows added t.changes → AreLoggedFacts added ((lines.2).2).0 → ∥ AreObjectLines text ∥₁ }
+    ensures tagged { (options : TableOptions) (added : AddedMembers) (by_transaction : Bool) (file body : List ℕ) (g : Option TaggedGtid) (t : Committed) (facts : TransactionFacts) (changes : List EventChange) (xs : List ChangeJson) → IsTagRead g → IsLoggedHeader t.commit → All IsLoggedChange changes
+        → AreLoggedRows added t.changes → AreLoggedFacts added facts → AreChangesJson options added t.changes changes xs → ∥ AreObjectLines (transaction_lines by_transaction file t (tagged_json body g) (transaction_members added facts) xs) ∥₁ }
 {}
 
 /// A value shows where it ends, whatever follows it that may: texts that begin with a value, and then nothing, a comma or a closing bracket,
