@@ -30,7 +30,7 @@ pub use Rattle.feed_transactions.specs.Recorders
 pub use Rattle.feed_change_log.specs.KeptTables
 pub use Rattle.feed_change_log.specs.KeptChanges
 pub use Rattle.feed_change_log.specs.ChangeViews
-pub use Rattle.feed_change_log.specs.CheckedRows
+pub use Rattle.feed_transactions.specs.CheckedRows
 pub use Rattle.feed_change_log.specs.CommittedLists
 pub use Rattle.feed_change_log.specs.ChangeLogs
 pub use Rattle.feed_change_log.specs.ChangeLaws as ChangeLaws

@@ -12,7 +12,7 @@ use Rattle.rows_jsonb.specs.Items.{Walked, walk, items_at}
 use Rattle.rows_jsonb.proofs.ItemLemmas.{walk_on, walk_done}
 use Rattle.feed_transactions.specs.MappedRows.{image_texts}
 use Rattle.feed_transactions.specs.RowTexts.{images_text}
-use Rattle.feed_change_log.specs.CheckedRows.{HasImageTexts}
+use Rattle.feed_transactions.specs.CheckedRows.{HasImageTexts}
 use Rattle.changes_tables.specs.ShownColumns.{ColumnView}
 use Rattle.changes_lines.specs.RowJson.{CellJson, IsRowJson, AreRowsJson, object_json}
 use Rattle.changes_lines.specs.ReadCells.{AppendsImage}

@@ -6,7 +6,7 @@ use Rattle.rows_errors.specs.declared.fault.RowsError.{RowsError}
 use Rattle.rows_cells.specs.Images.{ImageShape}
 use Rattle.feed_transactions.specs.RowLines.{row_verdict, IsRowError, image_text_at, images_texts_at}
 use Rattle.feed_transactions.proofs.RowLineLemmas.{first_failed, second_failed}
-use Rattle.feed_change_log.specs.CheckedRows.{HasImageText}
+use Rattle.feed_transactions.specs.CheckedRows.{HasImageText}
 use Rattle.changes_tables.specs.ShownColumns.{ColumnView}
 use Rattle.changes_lines.specs.ReadCells.{ReadsImage}
 use Rattle.changes_lines.proofs.ReadCellLemmas.{cells_have_text}

@@ -15,10 +15,10 @@ use Rattle.changes_tables.specs.TablesSoFar.{newest_table}
 use Rattle.changes_tables.specs.declared.columns.TableOptions.{TableOptions}
 use Rattle.changes_tables.specs.declared.tables.ShownTable.{ShownTable}
 use Rattle.feed_checks.specs.Kinds.{Gtid}
-use Rattle.feed_change_log.specs.Filters.{takes_change}
+use Rattle.feed_transactions.specs.TableFilters.{takes_change}
 use Rattle.feed_transactions.specs.Changes.{EventChange, OfRows, Committed}
 use Rattle.feed_transactions.specs.MappedRows.{plan_by}
-use Rattle.feed_change_log.specs.declared.filter.Filter.{Filter}
+use Rattle.feed_transactions.specs.declared.table_filter.TableFilter.{TableFilter}
 use Rattle.feed_transactions.specs.KeptGtids.{kept_gtid}
 use Rattle.changes_lines.specs.ChangeLines.{ChangeJson, AreChangesJson, rows_back, rows_of_all}
 use Rattle.changes_lines.specs.RecordedParts.{front_of}
@@ -29,7 +29,7 @@ use Rattle.changes_origins.specs.declared.added_members.AddedMembers.{AddedMembe
 use Rattle.changes_lines.specs.declared.recorder.JsonRecorder.{JsonRecorder}
 
 -- the filter of a recorder, and the options that its tables are shown by
-abbrev pub filter_of : JsonRecorder → Filter
+abbrev pub filter_of : JsonRecorder → TableFilter
 filter_of s = s.filter
 
 abbrev pub options_of : JsonRecorder → TableOptions

@@ -2,7 +2,7 @@
 
 ghost use Rattle.std.specs.Prelude.{◌≡◌, ◌≤◌, ◌++◌, ◌∷◌, [], IfOk, IfErr, OnOk, List, ℕ, length};
 ghost use Rattle.rows_cells.specs.RowViews.{row_shape};
-ghost use Rattle.feed_change_log.specs.CheckedRows.{HaveTexts};
+ghost use Rattle.feed_transactions.specs.CheckedRows.{HaveTexts};
 ghost use Rattle.feed_text.specs.Buffers.{text_in};
 ghost use Rattle.feed_transactions.specs.RowLines.{row_verdict, IsRowError, IsRowsError, images_texts_at, rows_texts_at};
 ghost use Rattle.changes_lines.specs.ReadRows.{AddsAllRead, AddsRead, AppendsRow};

@@ -4,8 +4,8 @@ use Rattle.std.specs.Prelude.{nat_lt, nat_le, ◌&&◌, cond, get_or}
 use Rattle.std.specs.List.{filter}
 use Rattle.std.proofs.lemmas.Bool.{cases_lt, cases_order}
 use Rattle.std.proofs.lemmas.Bool.Decides.{nat_tests}
-use Rattle.feed_transactions.specs.Changes.{Content, EventChange, OfRows, OfStatement, Committed}
-use Rattle.feed_change_log.specs.Filters.{is_above, is_up_to, takes_content, takes_change, takes_transaction}
+use Rattle.feed_transactions.specs.Changes.{EventChange, Committed}
+use Rattle.feed_change_log.specs.Filters.{is_above, is_up_to, takes_change, takes_transaction}
 use Rattle.feed_change_log.specs.declared.filter.Filter.{Filter}
 use Rattle.changes_walks.specs.Selections.{Selected, up_to, has_start, between, selected_of, selected}
 use Rattle.changes_walks.specs.AscendingPositions.{HasAscendingPositions, with_positions}
@@ -144,11 +144,7 @@ map_alike {Y = Y} f g e (x ∷ xs) = rw (e x) (ap (λ (l : List Y). g x ∷ l) (
 
 module _ (f : Filter) (start stop : Option ℕ) where
   takes_alike : (c : EventChange) → takes_change (with_positions f start stop) c ≡ takes_change f c
-  takes_alike c = of c.content
-    where
-      of : (x : Content) → takes_content (with_positions f start stop) x ≡ takes_content f x
-      of (OfRows m r) = refl
-      of (OfStatement q) = refl
+  takes_alike c = refl
 
   selects_alike : (t : Committed) → selected_of (with_positions f start stop) t ≡ selected_of f t
   selects_alike t = ap (λ (cs : List EventChange). selected_with t cs) (filter_alike (takes_change (with_positions f start stop)) (takes_change f) takes_alike t.changes)

@@ -1,5 +1,3 @@
-pub mod CheckedRowLemmas
-mod CountedRowLemmas
 pub mod KeptTableLemmas
 pub mod KeptChangeLemmas
 pub mod RecorderLemmas

@@ -1,7 +1,6 @@
 pub mod KeptTables
 pub mod KeptChanges
 pub mod ChangeViews
-pub mod CheckedRows
 pub mod CommittedLists
 pub mod Stops
 pub mod Filters

@@ -7,7 +7,6 @@
 mod change;
 mod change_log;
 mod change_recorder;
-mod checked_rows;
 mod committed_transaction;
 mod filter;
 mod kept_changes;
@@ -20,7 +19,6 @@ mod stop;
 pub use change::{Change, Changes, TableRows, What};
 pub use change_log::ChangeLog;
 pub use change_recorder::ChangeRecorder;
-pub use checked_rows::check_rows;
 pub use committed_transaction::{CommittedTransaction, OwnedTransaction};
 pub use filter::{Filter, TakenChanges};
 pub use recorded_log::{NoLog, RecordedLog};

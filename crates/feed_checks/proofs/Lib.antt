@@ -14,4 +14,3 @@ pub mod AcceptedLemmas
 pub mod GateLemmas
 pub mod EventLemmas
 pub mod MagicNumberLemmas
-pub mod LoopLemmas

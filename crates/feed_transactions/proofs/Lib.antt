@@ -9,6 +9,10 @@ pub mod TextLemmas
 pub mod RecordLemmas
 pub mod RecordedTextLemmas
 pub mod RowLineLemmas
+pub mod CheckedRowLemmas
+pub mod CheckedEventLemmas
+mod CountedRowLemmas
+mod TableFilterLemmas
 pub mod TableLemmas
 pub mod MapBodyLemmas
 pub mod KnownImageLemmas

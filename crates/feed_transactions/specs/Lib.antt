@@ -15,6 +15,8 @@ pub mod Logs
 pub mod MappedRows
 pub mod RowTexts
 pub mod RowLines
+pub mod CheckedRows
+pub mod TableFilters
 pub mod KnownImages
 pub mod Tables
 pub mod PlannedRows

@@ -5,6 +5,7 @@
 //! the text of its transactions.
 #![tactic(auto)]
 
+mod checked_rows;
 mod kept_gtid;
 mod known_images;
 pub mod laws;
@@ -13,6 +14,7 @@ mod open_transaction;
 mod planned_rows;
 mod recorder;
 mod reporting;
+mod table_filter;
 mod tables;
 mod text_recorder;
 mod texts;
@@ -20,11 +22,13 @@ mod transactions;
 mod waiting;
 mod writing;
 
+pub use checked_rows::check_rows;
 pub use kept_gtid::KeptGtid;
 pub use lines::row_verdict;
 pub use planned_rows::PlannedRows;
 pub use recorder::Recorder;
 pub use reporting::report;
+pub use table_filter::TableFilter;
 pub use tables::Table;
 pub use text_recorder::TextRecorder;
 pub use transactions::Transactions;

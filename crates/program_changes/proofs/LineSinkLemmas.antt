@@ -11,7 +11,7 @@ use Rattle.feed_transactions.specs.Changes.{Committed}
 use Rattle.feed_transactions.specs.InterruptedWrites.{IsInterruptedWrite}
 use Rattle.feed_transactions.specs.Waiting.{bytes_of, WritesSome}
 use Rattle.feed_transactions.proofs.WaitingLemmas.{writes_none}
-use Rattle.feed_change_log.specs.Filters.{takes_change, takes_transaction}
+use Rattle.feed_change_log.specs.Filters.{table_filter_of, takes_change, takes_transaction}
 use Rattle.feed_change_log.specs.declared.filter.Filter.{Filter}
 use Rattle.changes_commands.specs.declared.output.Failure.TheVariants as failed
 use Rattle.changes_lines.specs.ChangeLines.{ChangeJson, AreLines, with_ends, transaction_lines}
@@ -27,7 +27,7 @@ use Rattle.program_changes.specs.LineSinks.{AreSelectedLines, AreAllLines, IsRec
 use Rattle.program_changes.specs.declared.changes.LineSink.{LineSink}
 
 -- the lines of the newest transaction, of which a recorder has the selected changes
-pub newest_lines : (s : JsonRecorder) (f : Filter) (by : Bool) (file : List ℕ) (t : Committed) (gtid : List ℕ) (d : IsDoneJson s t) → IsGtidJson t.gtid gtid → filter_of s ≡ f → (options : TableOptions) → options_of s ≡ options → (added : AddedMembers) → added_of s ≡ added
+pub newest_lines : (s : JsonRecorder) (f : Filter) (by : Bool) (file : List ℕ) (t : Committed) (gtid : List ℕ) (d : IsDoneJson s t) → IsGtidJson t.gtid gtid → filter_of s ≡ table_filter_of f → (options : TableOptions) → options_of s ≡ options → (added : AddedMembers) → added_of s ≡ added
     → AreLines options added by file t (filter (takes_change f) t.changes) (transaction_lines by file t gtid (members_of s) d.opened.changes)
 newest_lines s f by file t gtid d is same options shown added asked = rw (← same, ← shown, ← asked) (d.opened.changes, d.opened.are, (gtid, is, (facts_in s, refl)))
 
@@ -151,5 +151,5 @@ pub like_itself : {r : JsonRecorder} → IsLikeJson r r
 like_itself = record { filter = refl; options = refl; added = refl }
 
 -- a sink gets what it expects of a recorder that is like the one that was made for it
-pub sink_wants : {W : Type 0} (s : LineSink W) (f : Filter) (made newest : JsonRecorder) → filter_of made ≡ f → options_of made ≡ s.options → added_of made ≡ s.added → IsLikeJson made newest → IsRecorderFor s f newest
+pub sink_wants : {W : Type 0} (s : LineSink W) (f : Filter) (made newest : JsonRecorder) → filter_of made ≡ table_filter_of f → options_of made ≡ s.options → added_of made ≡ s.added → IsLikeJson made newest → IsRecorderFor s f newest
 sink_wants s f made newest filter options added like = record { filter = like.filter ∙ filter; options = like.options ∙ options; added = like.added ∙ added }

@@ -10,6 +10,7 @@ use Rattle.changes_lines.specs.ChangeLines.{AreLines}
 use Rattle.changes_lines.specs.RecordedLines.{added_of, filter_of, options_of}
 use Rattle.changes_lines.specs.declared.recorder.JsonRecorder.{JsonRecorder}
 use Rattle.changes_origins.specs.declared.added_members.AddedMembers.{AddedMembers}
+use Rattle.feed_change_log.specs.Filters.{table_filter_of}
 use Rattle.feed_change_log.specs.declared.filter.Filter.{Filter}
 use Rattle.changes_lines.specs.WrittenLines.{is_by_transaction}
 use Rattle.changes_tables.specs.declared.columns.TableOptions.{TableOptions}
@@ -28,7 +29,7 @@ pub record AreAllLines (options : TableOptions) (added : AddedMembers) (by_trans
 
 -- a recorder keeps what a sink is passed: the changes that a filter takes, as the sink's options show them
 pub record IsRecorderFor {W : Type 0} (s : LineSink W) (f : Filter) (newest : JsonRecorder) : Type 0 where
-  pub filter : filter_of newest ≡ f
+  pub filter : filter_of newest ≡ table_filter_of f
   pub options : options_of newest ≡ s.options
   pub added : added_of newest ≡ s.added
 

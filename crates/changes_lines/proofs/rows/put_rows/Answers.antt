@@ -1,6 +1,6 @@
 use Rattle.std.proofs.Common.{rules, arith, refl, ◌≡◌, ◌<◌, ◌≤◌, length}
 use Rattle.rows_cells.specs.RowViews.{row_shape}
-use Rattle.feed_change_log.proofs.CheckedRowLemmas.{no_rows_yet, row_passes, rows_pass, row_fails, empty_row_fails}
+use Rattle.feed_transactions.proofs.CheckedRowLemmas.{no_rows_yet, row_passes, rows_pass, row_fails, empty_row_fails}
 use Rattle.changes_lines.specs.TableColumns.{columns_in}
 use Rattle.changes_lines.proofs.ReadRowLemmas.{row_has_texts, adds_row, adds_both, adds_all}
 use Rattle.changes_lines.proofs.rows.put_rows.Goals as goal

@@ -1,6 +1,6 @@
 use Rattle.std.proofs.Common.{[], ◌∷◌, ◌<◌, length, refl, arith, rules}
 use Rattle.rows_cells.specs.ImageViews.{image_shape}
-use Rattle.feed_change_log.proofs.CheckedRowLemmas.{row_passes}
+use Rattle.feed_transactions.proofs.CheckedRowLemmas.{row_passes}
 use Rattle.changes_lines.specs.TableColumns.{columns_in}
 use Rattle.changes_lines.proofs.ReadRowLemmas.{row_has_texts, adds_none, adds_short, adds_both}
 use Rattle.changes_lines.proofs.short_rows.put_short_rows.Goals as goal
