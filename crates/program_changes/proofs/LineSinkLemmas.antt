@@ -1,14 +1,15 @@
 -- The lines of one more transaction.
-use Rattle.std.proofs.Common.{◌≡◌, ℕ, Bool, true, false, true≢false, List, [], ◌∷◌, ◌++◌, Option, Some, None, refl, sym, ap, subst, ◌∙◌}
-use Rattle.std.specs.Prelude.{◌&&◌, codes}
+use Rattle.std.proofs.Common.{◌≡◌, ◌⊎◌, ℕ, Bool, true, false, true≢false, List, [], ◌∷◌, ◌++◌, Option, Some, None, Result, Ok, Err, inl, inr, refl, sym, ap, subst, ◌∙◌}
+use Rattle.std.specs.Prelude.{⊤, ◌&&◌, codes, OnOk, IfErr}
+use Rattle.std.specs.Io.KnownBytes.{Appends}
 use Rattle.std.specs.List.{AllZip, filter, flat_map}
 use Rattle.std.proofs.lemmas.List.{append-nil}
 use Rattle.std.proofs.lemmas.Grind.{flat_map-append}
-use Rattle.wire_buf.specs.Watched.{inner_of}
+use Rattle.wire_buf.specs.Watched.{inner_of, has_failed}
 use Rattle.feed_checks.specs.Kinds.{Gtid, Anonymous, Numbered, Tagged}
 use Rattle.feed_checks.specs.declared.verdict.Verdict.{Verdict}
 use Rattle.feed_transactions.specs.Changes.{Committed}
-use Rattle.feed_transactions.specs.InterruptedWrites.{IsInterruptedWrite}
+use Rattle.feed_transactions.specs.InterruptedWrites.{IsInterruptedWrite, WritesPrefix}
 use Rattle.feed_transactions.specs.Waiting.{bytes_of, WritesSome}
 use Rattle.feed_transactions.proofs.WaitingLemmas.{writes_none}
 use Rattle.feed_change_log.specs.Filters.{table_filter_of, takes_change, takes_transaction}
@@ -23,7 +24,10 @@ use Rattle.changes_lines.specs.declared.recorder.JsonRecorder.{JsonRecorder}
 use Rattle.changes_lines.proofs.WriteLemmas.{writes_both, fails_then}
 use Rattle.changes_tables.specs.declared.columns.TableOptions.{TableOptions}
 use Rattle.changes_walks.specs.Selections.{Selected, selected, selected_of}
-use Rattle.program_changes.specs.LineSinks.{AreSelectedLines, AreAllLines, IsRecorderFor, HasLines, HasPrefix, FailsLines}
+use Rattle.changes_walks.specs.LogWalks.{IsWalkFailure}
+use Rattle.changes_walks.specs.declared.walk.LogEnd.{LogEnd}
+use Rattle.changes_walks.specs.declared.walk.LogEnd.TheVariants as ends
+use Rattle.program_changes.specs.LineSinks.{AreSelectedLines, AreAllLines, IsRecorderFor, HasLines, HasPrefix, FailsLines, IsEnd, unwritten}
 use Rattle.program_changes.specs.declared.changes.LineSink.{LineSink}
 
 -- the lines of the newest transaction, of which a recorder has the selected changes
@@ -75,13 +79,13 @@ module _ {W : Type 0} (contents : W → Option (List ℕ)) (first old new : Line
       }
 
   -- the writer failed within its lines
-  pub lines_cut : (s : JsonRecorder) (gtid : List ℕ) (d : IsDoneJson s t) → IsGtidJson t.gtid gtid → IsRecorderFor first f s → takes_transaction f t ≡ true → HasLines contents first old m → (failed : Bool) (v : Verdict)
-      → IsInterruptedWrite (contents (inner_of old.writer.now)) (contents (inner_of new.writer.now)) (bytes_of old.waiting.now ++ transaction_lines (is_by_transaction old.lines.now) old.file.now t gtid (members_of s) d.opened.changes) failed v → HasPrefix contents first new (m ++ selected f (t ∷ []))
-  lines_cut s gtid d is alike taken has failed v why =
+  pub lines_cut : (s : JsonRecorder) (gtid : List ℕ) (d : IsDoneJson s t) → IsGtidJson t.gtid gtid → IsRecorderFor first f s → takes_transaction f t ≡ true → HasLines contents first old m → (v : Verdict)
+      → IsInterruptedWrite (contents (inner_of old.writer.now)) (contents (inner_of new.writer.now)) (bytes_of old.waiting.now ++ transaction_lines (is_by_transaction old.lines.now) old.file.now t gtid (members_of s) d.opened.changes) (has_failed new.writer.now) v → HasPrefix contents first new (m ++ selected f (t ∷ []))
+  lines_cut s gtid d is alike taken has v why =
       let x = transaction_lines (is_by_transaction first.lines.now) first.file.now t gtid (members_of s) d.opened.changes in
       let lines = newest_lines s f (is_by_transaction first.lines.now) first.file.now t gtid d is alike.filter first.options alike.options first.added alike.added in
-      let cut = fails_then _ _ _ _ _ has.text x failed v has.written (rw (has.form, has.name) at why) in
-      record { text = has.text ++ x; are = rw (one_selected taken) (all_lines_one first.options first.added (is_by_transaction first.lines.now) first.file.now m (selected_of f t) has.text x has.are lines); written = cut.1 }
+      let cut = fails_then _ _ _ _ _ has.text x (has_failed new.writer.now) v has.written (rw (has.form, has.name) at why) in
+      record { text = has.text ++ x; are = rw (one_selected taken) (all_lines_one first.options first.added (is_by_transaction first.lines.now) first.file.now m (selected_of f t) has.text x has.are lines); written = cut.1; failed = cut.2 }
 
   -- out of memory before it
   pub lines_memory : HasLines contents first old m → FailsLines contents first old (m ++ selected f (t ∷ [])) failed.Memory
@@ -129,10 +133,10 @@ lines_taken contents first old new f m t s d alike taken has gtid is kept begun 
 
 -- the writer failed within them
 pub lines_broken : {W : Type 0} (contents : W → Option (List ℕ)) (first old new : LineSink W) (f : Filter) (m : List Selected) (t : Committed) (s : JsonRecorder) (d : IsDoneJson s t) → IsRecorderFor first f s → (has_some d.opened.changes && takes_transaction f t) ≡ true → HasLines contents first old m
-    → (gtid : List ℕ) → IsGtidJson t.gtid gtid → {form : Bool} → form ≡ is_by_transaction old.lines.now → (failed : Bool) (v : Verdict)
-    → IsInterruptedWrite (contents (inner_of old.writer.now)) (contents (inner_of new.writer.now)) (bytes_of old.waiting.now ++ transaction_lines form old.file.now t gtid (members_of s) d.opened.changes) failed v → HasPrefix contents first new (m ++ selected f (t ∷ []))
-lines_broken contents first old new f m t s d alike taken has gtid is begun failed v why =
-    lines_cut contents first old new f m t s gtid d is alike (taken_is _ _ taken) has failed v (rw begun at why)
+    → (gtid : List ℕ) → IsGtidJson t.gtid gtid → {form : Bool} → form ≡ is_by_transaction old.lines.now → (v : Verdict)
+    → IsInterruptedWrite (contents (inner_of old.writer.now)) (contents (inner_of new.writer.now)) (bytes_of old.waiting.now ++ transaction_lines form old.file.now t gtid (members_of s) d.opened.changes) (has_failed new.writer.now) v → HasPrefix contents first new (m ++ selected f (t ∷ []))
+lines_broken contents first old new f m t s d alike taken has gtid is begun v why =
+    lines_cut contents first old new f m t s gtid d is alike (taken_is _ _ taken) has v (rw begun at why)
 
 -- no line yet
 pub lines_at_first : {W : Type 0} (contents : W → Option (List ℕ)) (s : LineSink W) → HasLines contents s s []
@@ -153,3 +157,20 @@ like_itself = record { filter = refl; options = refl; added = refl }
 -- a sink gets what it expects of a recorder that is like the one that was made for it
 pub sink_wants : {W : Type 0} (s : LineSink W) (f : Filter) (made newest : JsonRecorder) → filter_of made ≡ table_filter_of f → options_of made ≡ s.options → added_of made ≡ s.added → IsLikeJson made newest → IsRecorderFor s f newest
 sink_wants s f made newest filter options added like = record { filter = like.filter ∙ filter; options = like.options ∙ options; added = like.added ∙ added }
+
+-- ---- the end of a log
+
+-- the lines that waited were written, or not
+pub finishes : (old new : Option (List ℕ)) (bytes : List ℕ) (failed : Bool) (end result : LogEnd) (written : Result ⊤ Verdict) → IsEnd end written result → OnOk written (Appends old new bytes) → IfErr written (IsInterruptedWrite old new bytes failed)
+    → ((result ≡ end) × Appends old new bytes) ⊎ ((result ≡ unwritten end) × WritesPrefix old new bytes × (failed ≡ true))
+finishes old new bytes failed end result (Ok u) is ok err = inl (is, ok)
+finishes old new bytes failed end result (Err v) is ok err = inr (is, err.1, err.2)
+
+-- a walk whose lines ended otherwise didn't fail to read
+pub end_blamed : (end result : LogEnd) (written : Result ⊤ Verdict) (failed : Bool) → IsEnd end written result → IsWalkFailure end failed → IsWalkFailure result failed
+end_blamed end result (Ok u) failed is h = rw is h
+end_blamed (ends.Read x) result (Err v) failed is h = rw is tt
+end_blamed (ends.Stopped n) result (Err v) failed is h = rw is tt
+end_blamed (ends.Unread u) result (Err v) failed is h = rw is tt
+end_blamed (ends.NoStart a b) result (Err v) failed is h = rw is tt
+end_blamed (ends.Failed e) result (Err v) failed is h = rw is tt

@@ -1,9 +1,13 @@
 -- What `json` has written: the lines of the selected transactions.
-use Rattle.std.specs.Prelude.{◌≡◌, ℕ, Bool, List, ◌++◌, Option}
+use Rattle.std.specs.Prelude.{◌≡◌, ◌⊎◌, ⊤, ℕ, Bool, true, List, [], ◌++◌, Option, Some, None, Result, Ok, Err}
+use Rattle.std.specs.Io.KnownBytes.{Appends}
 use Rattle.std.specs.List.{AllZip, flat_map}
-use Rattle.wire_buf.specs.Watched.{inner_of}
+use Rattle.wire_buf.specs.Watched.{inner_of, has_failed}
+use Rattle.feed_checks.specs.declared.verdict.Verdict.{Verdict}
 use Rattle.feed_transactions.specs.InterruptedWrites.{WritesPrefix}
+use Rattle.feed_transactions.specs.Rules.{Judge}
 use Rattle.feed_transactions.specs.Waiting.{bytes_of, WritesSome}
+use Rattle.changes_commands.specs.declared.command_line.Options.{Options}
 use Rattle.changes_commands.specs.declared.output.Failure.{Failure}
 use Rattle.changes_commands.specs.declared.output.Failure.TheVariants as failed
 use Rattle.changes_lines.specs.ChangeLines.{AreLines}
@@ -14,7 +18,11 @@ use Rattle.feed_change_log.specs.Filters.{table_filter_of}
 use Rattle.feed_change_log.specs.declared.filter.Filter.{Filter}
 use Rattle.changes_lines.specs.WrittenLines.{is_by_transaction}
 use Rattle.changes_tables.specs.declared.columns.TableOptions.{TableOptions}
-use Rattle.changes_walks.specs.Selections.{Selected}
+use Rattle.changes_tables.specs.declared.columns.Shown.TheVariants as shown
+use Rattle.changes_walks.specs.LogWalks.{EndsLog}
+use Rattle.changes_walks.specs.Selections.{IsFilterOf, Selected, start_for, stop_for}
+use Rattle.changes_walks.specs.declared.walk.LogEnd.{LogEnd}
+use Rattle.changes_walks.specs.declared.walk.LogEnd.TheVariants as ends
 use Rattle.program_changes.specs.declared.changes.LineSink.{LineSink}
 
 -- the lines of a transaction's selected changes
@@ -43,13 +51,53 @@ pub record HasLines {W : Type 0} (contents : W → Option (List ℕ)) (first s :
   pub are : AreAllLines first.options first.added (is_by_transaction first.lines.now) first.file.now m text
   pub written : WritesSome (contents (inner_of first.writer.now)) (contents (inner_of s.writer.now)) (bytes_of first.waiting.now) text (bytes_of s.waiting.now)
 
--- since then a prefix of these lines was written
+-- since then the writer failed after a prefix of these lines
 pub record HasPrefix {W : Type 0} (contents : W → Option (List ℕ)) (first s : LineSink W) (m : List Selected) : Type 0 where
   pub text : List ℕ
   pub are : AreAllLines first.options first.added (is_by_transaction first.lines.now) first.file.now m text
   pub written : WritesPrefix (contents (inner_of first.writer.now)) (contents (inner_of s.writer.now)) (bytes_of first.waiting.now ++ text)
+  pub failed : has_failed s.writer.now ≡ true
 
--- it failed at the last of these: out of memory before a byte of its lines, and otherwise within them
+-- it failed at the last of these: out of memory before a byte of its lines, or the writer failed within them
 abbrev pub FailsLines : {W : Type 0} → (W → Option (List ℕ)) → LineSink W → LineSink W → List Selected → Failure → Type 0
 FailsLines contents first s m failed.Memory = (l : List Selected) × (last : List Selected) × (m ≡ l ++ last) × HasLines contents first s l
-FailsLines contents first s m e = HasPrefix contents first s m
+FailsLines contents first s m failed.Unwritten = HasPrefix contents first s m
+FailsLines contents first s m failed.Closed = ⊥
+
+-- ---- a log
+
+-- how tables are shown, by the options
+abbrev pub table_options : Options → TableOptions
+table_options o = record {
+  unnamed = elim o.character_set [ None ↦ shown.Unknown | Some set ↦ shown.Text set ];
+  quotes_numbers = o.quotes_numbers;
+}
+
+-- why a walk ended, if the lines that waited then weren't written
+abbrev pub unwritten : LogEnd → LogEnd
+unwritten (ends.Failed e) = ends.Failed e
+unwritten _ = ends.Failed failed.Unwritten
+
+-- why the lines of a log end, by the result of writing those that waited at its walk's end
+abbrev pub IsEnd : LogEnd → Result ⊤ Verdict → LogEnd → Type 0
+IsEnd end (Ok u) result = result ≡ end
+IsEnd end (Err v) result = result ≡ unwritten end
+
+-- the lines that waited were written; or the writer failed after a prefix of them
+abbrev pub Finishes : {W : Type 0} → (W → Option (List ℕ)) → LineSink W → LineSink W → LogEnd → LogEnd → Type 0
+Finishes contents s new end result =
+    ((result ≡ end) × Appends (contents (inner_of s.writer.now)) (contents (inner_of new.writer.now)) (bytes_of s.waiting.now))
+    ⊎ ((result ≡ unwritten end) × WritesPrefix (contents (inner_of s.writer.now)) (contents (inner_of new.writer.now)) (bytes_of s.waiting.now) × (has_failed new.writer.now ≡ true))
+
+-- the lines of a log were written: `sink` is the state before those that waited at its end were
+pub record WritesLog {W : Type 0} (contents : W → Option (List ℕ)) (judge : Judge) (f : Filter) (start stop : Option ℕ) (b : List ℕ) (first new : LineSink W) (result : LogEnd) : Type 0 where
+  pub sink : LineSink W
+  pub end : LogEnd
+  pub walked : EndsLog judge (HasLines contents first) (FailsLines contents first) f start stop [] b sink end
+  pub finished : Finishes contents sink new end result
+
+-- the lines of what the options select of a log were written; `is_first` and `next` are its place among the logs
+pub record WritesSelected {W A : Type 0} (contents : W → Option (List ℕ)) (judge : Judge) (o : Options) (is_first : Bool) (next : Option A) (b : List ℕ) (first new : LineSink W) (result : LogEnd) : Type 0 where
+  pub filter : Filter
+  pub filter_is : IsFilterOf o filter
+  pub writes : WritesLog contents judge filter (start_for o.range.start is_first) (stop_for o.range.stop next) b first new result

@@ -1,6 +1,6 @@
 -- A follower that takes what a reader gives, piece by piece.
-use Rattle.std.specs.Prelude.{◌||◌}
-use Rattle.std.proofs.Common.{◌≡◌, inl, inr, ℕ, Bool, true, false, List, [], ◌++◌, length, take, Option, Some, None, refl, sym, ap, subst, ◌∙◌, append_assoc, true≢false}
+use Rattle.std.specs.Prelude.{◌||◌, ◌≤◌}
+use Rattle.std.proofs.Common.{◌≡◌, inl, inr, ℕ, Bool, true, false, List, [], ◌++◌, length, take, Option, Some, None, refl, sym, ap, subst, ◌∙◌, append_assoc, true≢false, arith}
 use Rattle.std.specs.Io.KnownBytes.{Consumes, Appends, Keeps, IsAtEnd}
 use Rattle.std.proofs.KnownBytes.{Consumes-nil, Consumes-trans, Consumes-kept, Appends-nil, Appends-trans, Appends-kept}
 use Rattle.std.proofs.lemmas.List.{append-nil}
@@ -10,15 +10,16 @@ use Rattle.feed_checks.specs.declared.verdict.Verdict.{Verdict}
 use Rattle.feed_checks.specs.declared.verdict.Verdict.TheVariants as verdicts
 use Rattle.feed_checks.proofs.EventLemmas.{joined-append}
 use Rattle.feed_transactions.specs.RecordedTexts.{IsOpenText}
-use Rattle.feed_transactions.specs.Rules.{Rules, shown_after, up_to_fault}
+use Rattle.feed_transactions.specs.Rules.{Rules, fault_after, shown_after, up_to_fault}
 use Rattle.feed_replication.specs.Following.{RepresentsStream, Starts, IsFed, IsWriterFailure, WritesAllNew, verdict_in, limit_of}
-use Rattle.wire_packets.specs.Packets.{packets_in}
-use Rattle.feed_replication.specs.Streams.{program_limit, stream_transactions, stream_verdict, event_payloads}
+use Rattle.wire_packets.specs.Framing.{framings}
+use Rattle.wire_packets.specs.Packets.{full_run, packets_in}
+use Rattle.feed_replication.specs.Streams.{program_limit, stream_transactions, stream_verdict, event_payloads, verdict_of_other}
 use Rattle.feed_replication.specs.declared.follower.Follower.{Follower}
 use Rattle.feed_replication.specs.declared.format.PayloadFormat.{PayloadFormat as Format}
 use Rattle.feed_replication.specs.declared.format.PayloadFormat.TheVariants.{Plain}
 use Rattle.feed_replication.proofs.AnswerLemmas.{unfinished, same_verdict}
-use Rattle.program_feed.specs.FollowedPackets.{packet_texts, packet_verdict, IsFinal, IsFollowedText, FollowsPackets, IsFollowFailure, WritesFollowed}
+use Rattle.program_feed.specs.FollowedPackets.{packet_texts, packet_verdict, IsFinal, IsFollowedText, EndsReading, FollowsPackets, IsFollowFailure, WritesFollowed}
 use Rattle.feed_replication.specs.Requests.{dump_request}
 use Rattle.program_feed.specs.Commands.{Devices}
 use Rattle.program_feed.specs.Endings.{IsVerdictEnding}
@@ -81,6 +82,19 @@ followed_more r f g old mid new before wrote first then after piece h c e fed k 
 
 -- ---- how following ends
 
+-- the last read, before which the follower had no verdict
+last_read : {F : Type 0} (r : Rules) (f : Follower F) (old now before written : Option (List ℕ)) (piece : List ℕ) → (h : HasFollowed r f old now before written) → verdict_in f ≡ None → limit_of f ≡ program_limit → length piece ≤ 0x1_0000 → EndsReading r (h.seen ++ piece)
+last_read r f old now before written piece h none limit most = record { earlier = h.seen; last = piece; parts = refl; goes_on = is_open r f h.seen none limit h.represents; most = most }
+
+-- nothing was read after that
+no_last_read : {F : Type 0} (r : Rules) (f : Follower F) (old now before written : Option (List ℕ)) → (h : HasFollowed r f old now before written) → verdict_in f ≡ None → limit_of f ≡ program_limit → EndsReading r h.seen
+no_last_read r f old now before written h none limit = record { earlier = h.seen; last = []; parts = sym (append-nil h.seen); goes_on = is_open r f h.seen none limit h.represents; most = omega arith }
+
+-- nothing was read at all
+nothing_read : (r : Rules) → packet_verdict r [] ≡ verdicts.Closed
+unfolding stream_verdict packets_in event_payloads verdict_of_other fault_after full_run framings
+nothing_read r = refl
+
 -- what was written of the text of all bytes read, after `Memory` and `Write`
 some_texts : (r : Rules) (s t : List ℕ) (before mid then : Option (List ℕ)) (some : List (List ℕ)) → Appends before mid (joined (packet_texts r s)) → Appends mid then (joined some)
     → Appends before then (joined (packet_texts r s ++ some))
@@ -131,29 +145,29 @@ module _ {F : Type 0} (r : Rules) (g : Follower F) (s t : List ℕ) (before mid 
 -- the piece gave a verdict
 pub followed_end : {F : Type 0} (r : Rules) (f g : Follower F) (old mid new before wrote first then after : Option (List ℕ)) (piece : List ℕ) (read_failed write_failed flush_failed failed : Bool) (v : Verdict)
     → (h : HasFollowed r f old mid before wrote) → Consumes mid new piece → first ≡ wrote → IsFed r Plain program_limit h.seen (h.seen ++ piece) g first then (Some v) → Keeps then after
-    → IsWriterFailure (Some v) failed → verdict_in g ≡ Some v → limit_of g ≡ program_limit
+    → IsWriterFailure (Some v) failed → verdict_in g ≡ Some v → limit_of g ≡ program_limit → verdict_in f ≡ None → limit_of f ≡ program_limit → length piece ≤ 0x1_0000
     → FollowsPackets r (record { input = old; unread = new; before = before; written = after; read_failed = read_failed; write_failed = write_failed; flush_failed = flush_failed }) v
-followed_end r f g old mid new before wrote first then after piece read_failed write_failed flush_failed failed v h c e fed k b has limit =
+followed_end r f g old mid new before wrote first then after piece read_failed write_failed flush_failed failed v h c e fed k b has limit none limit_before most =
     let wrote_text = subst (λ (o : Option (List ℕ)). Appends before o (joined (packet_texts r h.seen))) (sym e) h.text in
     let t = ends r g h.seen (h.seen ++ piece) before first then after wrote_text k new v failed fed b (is_final r g (h.seen ++ piece) v has limit) in
-    record { read = h.seen ++ piece; consumed = Consumes-trans old mid new h.seen piece h.consumed c; text = t.0; appended = t.1; is = t.2 }
+    record { read = h.seen ++ piece; consumed = Consumes-trans old mid new h.seen piece h.consumed c; ends = last_read r f _ _ _ _ piece h none limit_before most; text = t.0; appended = t.1; is = t.2 }
 
 -- the flush after a piece failed
 pub followed_unflushed : {F : Type 0} (r : Rules) (f g : Follower F) (old mid new before wrote first then after : Option (List ℕ)) (piece : List ℕ) (read_failed write_failed flush_failed failed : Bool) (outcome : Option Verdict)
     → (h : HasFollowed r f old mid before wrote) → Consumes mid new piece → first ≡ wrote → IsFed r Plain program_limit h.seen (h.seen ++ piece) g first then outcome → Keeps then after
-    → IsWriterFailure outcome failed
+    → IsWriterFailure outcome failed → verdict_in f ≡ None → limit_of f ≡ program_limit → length piece ≤ 0x1_0000
     → FollowsPackets r (record { input = old; unread = new; before = before; written = after; read_failed = read_failed; write_failed = write_failed; flush_failed = flush_failed }) verdicts.Write
-followed_unflushed r f g old mid new before wrote first then after piece read_failed write_failed flush_failed failed outcome h c e fed k b =
+followed_unflushed r f g old mid new before wrote first then after piece read_failed write_failed flush_failed failed outcome h c e fed k b none limit most =
     let wrote_text = subst (λ (o : Option (List ℕ)). Appends before o (joined (packet_texts r h.seen))) (sym e) h.text in
     let p = so_far r g h.seen (h.seen ++ piece) before first then after wrote_text k outcome failed fed b in
-    record { read = h.seen ++ piece; consumed = Consumes-trans old mid new h.seen piece h.consumed c; text = p.text; appended = p.written; is = (p.more, p.prefix) }
+    record { read = h.seen ++ piece; consumed = Consumes-trans old mid new h.seen piece h.consumed c; ends = last_read r f _ _ _ _ piece h none limit most; text = p.text; appended = p.written; is = (p.more, p.prefix) }
 
 -- the reader failed, or ended
 pub followed_read : {F : Type 0} (r : Rules) (f : Follower F) (old mid new before wrote : Option (List ℕ)) (read_failed write_failed flush_failed : Bool) → (h : HasFollowed r f old mid before wrote) → Keeps mid new
     → verdict_in f ≡ None → limit_of f ≡ program_limit
     → FollowsPackets r (record { input = old; unread = new; before = before; written = wrote; read_failed = read_failed; write_failed = write_failed; flush_failed = flush_failed }) verdicts.Read
 followed_read r f old mid new before wrote read_failed write_failed flush_failed h k none limit =
-    record { read = h.seen; consumed = Consumes-kept old mid new h.seen h.consumed k; text = joined (packet_texts r h.seen); appended = h.text; is = (refl, is_open r f h.seen none limit h.represents) }
+    record { read = h.seen; consumed = Consumes-kept old mid new h.seen h.consumed k; ends = no_last_read r f _ _ _ _ h none limit; text = joined (packet_texts r h.seen); appended = h.text; is = (refl, is_open r f h.seen none limit h.represents) }
 
 pub followed_closed : {F : Type 0} (r : Rules) (f : Follower F) (old mid new before wrote : Option (List ℕ)) (read_failed write_failed flush_failed : Bool) (piece : List ℕ) (v : Verdict) → (h : HasFollowed r f old mid before wrote)
     → Consumes mid new piece → piece ≡ [] → IsAtEnd new → verdict_in f ≡ None → limit_of f ≡ program_limit → v ≡ verdicts.Closed
@@ -163,6 +177,7 @@ followed_closed r f old mid new before wrote read_failed write_failed flush_fail
     rw closed (record {
       read = h.seen;
       consumed = subst (Consumes old new) (ap (λ (x : List ℕ). h.seen ++ x) none_read ∙ append-nil h.seen) taken;
+      ends = no_last_read r f _ _ _ _ h none limit;
       text = joined (packet_texts r h.seen);
       appended = h.text;
       is = (refl, inl at_end, is_open r f h.seen none limit h.represents);
@@ -204,7 +219,7 @@ pub no_memory : (r : Rules) (old before after : Option (List ℕ)) (read_failed 
     → WritesFollowed r (record { input = old; unread = old; before = before; written = after; read_failed = read_failed; write_failed = write_failed; flush_failed = flush_failed }) ending
 no_memory r old before after read_failed write_failed flush_failed ending k flushed h = record {
   verdict = verdicts.Memory;
-  follows = record { read = []; consumed = Consumes-nil old; text = []; appended = Appends-kept before before after [] (Appends-nil before) k; is = (0, refl) };
+  follows = record { read = []; consumed = Consumes-nil old; ends = record { earlier = []; last = []; parts = refl; goes_on = nothing_read r; most = omega arith }; text = []; appended = Appends-kept before before after [] (Appends-nil before) k; is = (0, refl) };
   blamed = tt;
   flush = λ yes. absurd (true≢false (sym yes ∙ flushed));
   ending_is = h;

@@ -1,5 +1,5 @@
 -- What `follow` writes of the packets that it reads, and how it ends, for any reader and any writer.
-use Rattle.std.specs.Prelude.{◌≡◌, ◌⊎◌, true, ◌||◌, ℕ, List, ◌++◌, take, Option}
+use Rattle.std.specs.Prelude.{◌≡◌, ◌⊎◌, ◌≤◌, true, ◌||◌, ℕ, List, ◌++◌, length, take, Option}
 use Rattle.std.specs.Io.KnownBytes.{Consumes, Appends, IsAtEnd}
 use Rattle.feed_checks.specs.LogFormat.{joined}
 use Rattle.feed_checks.specs.declared.verdict.Verdict.{Verdict}
@@ -36,10 +36,19 @@ IsFollowedText r read unread text verdicts.Closed = (text ≡ joined (packet_tex
 -- any other verdict: the whole text, and the verdict of the packets, whatever follows them
 IsFollowedText r read unread text v = (text ≡ joined (packet_texts r read)) × IsFinal r read v
 
+-- before the last read, which takes at most 65,536 bytes, the packets had no verdict: so no more is read once they have one
+pub record EndsReading (r : Rules) (read : List ℕ) : Type 0 where
+  pub earlier : List ℕ
+  pub last : List ℕ
+  pub parts : read ≡ earlier ++ last
+  pub goes_on : packet_verdict r earlier ≡ verdicts.Closed
+  pub most : length last ≤ 0x1_0000
+
 -- Some bytes were read, and such a text of them was appended to what the writer held.
 pub record FollowsPackets (r : Rules) (d : Devices) (v : Verdict) : Type 0 where
   pub read : List ℕ
   pub consumed : Consumes d.input d.unread read
+  pub ends : EndsReading r read
   pub text : List ℕ
   pub appended : Appends d.before d.written text
   pub is : IsFollowedText r read d.unread text v

@@ -119,7 +119,7 @@ impl Table<'_> {
                 None => Ok(()),
             },
         };
-        taken.map_err(|_| EventError::Invalid)
+        Ok(taken?)
     }
 
     /// Takes all events of a log.
@@ -149,6 +149,15 @@ impl Table<'_> {
     }
 }
 
+/// What the program prints for an error of reading the log.
+fn word_of(error: EventError) -> &'static str {
+    match error {
+        EventError::Memory => "Memory",
+        EventError::Read => "Read",
+        _ => "the log is damaged",
+    }
+}
+
 /// Runs the program. The error is the word that it prints.
 fn run(rt: &HostRuntime) -> Result<(), &'static str> {
     let words = env::args(rt).map_err(|_| "Usage")?;
@@ -167,7 +176,7 @@ fn run(rt: &HostRuntime) -> Result<(), &'static str> {
         rows: BTreeMap::new(rt.alloc()),
     };
     let buffered = BufReader::new(rt.alloc(), log).map_err(|_| "Memory")?;
-    table.take_all(buffered).map_err(|_| "the log is damaged")?;
+    table.take_all(buffered).map_err(word_of)?;
     let lines = table.lines().map_err(|_| "Memory")?;
     io::writer(rt).write_all(&lines).map_err(|_| "Write")
 }

@@ -95,7 +95,7 @@ fn put_transaction(
     let line = writeln!(text, " at {position}, time {time}, server {server}");
     line.map_err(|_| Verdict::Memory)?;
     for change in transaction.changes() {
-        put_change(alloc, change, text).map_err(|_| Verdict::Row)?;
+        put_change(alloc, change, text)?;
     }
     Ok(())
 }

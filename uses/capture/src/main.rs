@@ -55,8 +55,8 @@ impl From<Error> for Stop {
 }
 
 impl From<RowsError> for Stop {
-    fn from(_: RowsError) -> Stop {
-        Stop::Log(Verdict::Row)
+    fn from(error: RowsError) -> Stop {
+        Stop::Log(Verdict::from(error))
     }
 }
 

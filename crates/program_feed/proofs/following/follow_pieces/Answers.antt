@@ -48,7 +48,7 @@ returns-then-is_unflushed-clause-follows g c = λ sum k.
     let t = h.followed sum k in
     let sums = subst (λ f. IsChecksumFunction g.F.Fn f sum) (sym h.checksum) k in
     let fed = fed_by (rules sum) _ _ t.seen (t.seen ++ take c.in-Ok.taken c.pull_uninterrupted.new.buf) c.feed-outcome.new.self (g.W.Write.contents (inner_of c.new-watched.result)) (g.W.Write.contents (inner_of c.feed-outcome.new.writer)) c.feed-outcome.result h.format h.limit (c.feed-outcome.ensures.fed sum sums t.seen (represented (rules sum) _ _ _ h.format t.represents)) in
-    followed_unflushed (rules sum) _ c.feed-outcome.new.self _ _ _ _ _ _ _ _ _ _ _ _ (has_failed c.feed-outcome.new.writer) c.feed-outcome.result t c.in-Ok.ensures.bytes.0 (ap g.W.Write.contents (c.new-watched.ensures.inner ∙ c.into_writer.ensures)) fed c.new-flushed.ensures.kept (c.feed-outcome.ensures.blamed h.goes_on)
+    followed_unflushed (rules sum) _ c.feed-outcome.new.self _ _ _ _ _ _ _ _ _ _ _ _ (has_failed c.feed-outcome.new.writer) c.feed-outcome.result t c.in-Ok.ensures.bytes.0 (ap g.W.Write.contents (c.new-watched.ensures.inner ∙ c.into_writer.ensures)) fed c.new-flushed.ensures.kept (c.feed-outcome.ensures.blamed h.goes_on) h.goes_on h.limit (grind (arith, common_steps))
 
 pub returns-then-is_unflushed-clause-blamed : goal.returns-then-is_unflushed-clause-blamed
 returns-then-is_unflushed-clause-blamed g c = or_right _ _ (sym c.is_unflushed.ensures ∙ c.if-is_unflushed.true)
@@ -62,7 +62,7 @@ returns-in-Some-clause-follows g c = λ sum k.
     let t = h.followed sum k in
     let sums = subst (λ f. IsChecksumFunction g.F.Fn f sum) (sym h.checksum) k in
     let fed = fed_by (rules sum) _ _ t.seen (t.seen ++ take c.in-Ok.taken c.pull_uninterrupted.new.buf) c.feed-outcome.new.self (g.W.Write.contents (inner_of c.new-watched.result)) (g.W.Write.contents (inner_of c.feed-outcome.new.writer)) (Some c.in-Some.verdict) h.format h.limit (c.in-Some.ensures.fed sum sums t.seen (represented (rules sum) _ _ _ h.format t.represents)) in
-    followed_end (rules sum) _ c.feed-outcome.new.self _ _ _ _ _ _ _ _ _ _ _ _ (has_failed c.feed-outcome.new.writer) c.in-Some.verdict t c.in-Ok.ensures.bytes.0 (ap g.W.Write.contents (c.new-watched.ensures.inner ∙ c.into_writer.ensures)) fed c.new-flushed.ensures.kept (c.in-Some.ensures.blamed h.goes_on) c.in-Some.ensures.verdict (c.in-Some.ensures.settings.limit ∙ h.limit)
+    followed_end (rules sum) _ c.feed-outcome.new.self _ _ _ _ _ _ _ _ _ _ _ _ (has_failed c.feed-outcome.new.writer) c.in-Some.verdict t c.in-Ok.ensures.bytes.0 (ap g.W.Write.contents (c.new-watched.ensures.inner ∙ c.into_writer.ensures)) fed c.new-flushed.ensures.kept (c.in-Some.ensures.blamed h.goes_on) c.in-Some.ensures.verdict (c.in-Some.ensures.settings.limit ∙ h.limit) h.goes_on h.limit (grind (arith, common_steps))
 
 pub returns-in-Some-clause-blamed : goal.returns-in-Some-clause-blamed
 returns-in-Some-clause-blamed g c = blamed_piece c.in-Some.verdict _ _ (c.in-Some.ensures.blamed c.loop-follower.invariant.goes_on) c.new-flushed.ensures.write_failed
