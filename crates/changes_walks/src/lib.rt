@@ -18,5 +18,5 @@ pub use sink::TransactionSink;
 pub use status::{
     DAMAGED, FAILED, Finding, USAGE, WHOLE, finding_of, status_of, status_of_verdict,
 };
-pub use walk::{EndedWalk, LogEnd, Selection, walk_log, walk_source};
+pub use walk::{EndedWalk, LogEnd, Selection, walk_log};
 pub use words::{Checked, Selected, put_checked, put_checked_json, put_unclosed};

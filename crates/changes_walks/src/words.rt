@@ -2,8 +2,10 @@
 
 use crate::status::is_whole;
 use changes_commands::{Explanation, Text, explain, put_type};
+use events_payloads::PayloadFault;
 use feed_change_log::Stop;
 use feed_checks::{Verdict, name_of};
+use rows_constants::EventType;
 
 /// The transactions of a log that the options select.
 #[derive(Clone, Copy)]
@@ -26,12 +28,18 @@ pub struct Checked<'l> {
 }
 
 impl<'l> Checked<'l> {
-    /// What is known of a log that was read to its end or its first fault, and begins with these bytes.
-    pub fn new(path: &'l str, stop: Stop, first: &[u8]) -> Checked<'l> {
+    /// What is known of a log that was read to its end or its first fault, and begins with these bytes. The fault is that of its newest
+    /// compressed transaction.
+    pub fn new(
+        path: &'l str,
+        stop: Stop,
+        fault: Option<PayloadFault>,
+        first: &[u8],
+    ) -> Checked<'l> {
         Checked {
             path,
             stop,
-            explanation: explanation_of(stop, first),
+            explanation: explanation_of(stop, fault, first),
             up_to: None,
             selected: None,
         }
@@ -46,13 +54,45 @@ impl<'l> Checked<'l> {
     }
 }
 
-/// What the verdict of a log means that ended so, and begins with these bytes.
-fn explanation_of(stop: Stop, first: &[u8]) -> Explanation {
+/// What it means that a compressed transaction isn't shown.
+fn explain_payload(fault: PayloadFault) -> Explanation {
+    let (meaning, advice) = match fault {
+        PayloadFault::Checksum => (
+            "the checksum of a compressed transaction is wrong: the log is damaged",
+            "fetch the log again from its server",
+        ),
+        PayloadFault::Fields | PayloadFault::Damaged | PayloadFault::Events => (
+            "a compressed transaction is damaged",
+            "fetch the log again from its server",
+        ),
+        PayloadFault::Compression => (
+            "a transaction is compressed in an unknown way",
+            "set binlog_transaction_compression=OFF for later logs; recipes/past_stop leaves the transaction out",
+        ),
+        PayloadFault::TooLong => (
+            "a compressed transaction is longer than the limit",
+            "raise it with --max-transaction; recipes/past_stop leaves the transaction out",
+        ),
+        PayloadFault::Nested => (
+            "a compressed transaction has another one within it, or the description of a format: the log is damaged",
+            "fetch the log again from its server",
+        ),
+        PayloadFault::Memory => ("out of memory", "free memory, and run again"),
+    };
+    Explanation { meaning, advice }
+}
+
+/// What the verdict of a log means that ended so, and begins with these bytes. The fault is that of its newest compressed transaction.
+fn explanation_of(stop: Stop, fault: Option<PayloadFault>, first: &[u8]) -> Explanation {
     let event_type = match stop.header {
         Some(header) => Some(header.event_type_raw()),
         None => None,
     };
-    explain(stop.verdict, event_type, first)
+    let is_payload = event_type == Some(EventType::TRANSACTION_PAYLOAD_EVENT as u8);
+    match fault {
+        Some(fault) if is_payload => explain_payload(fault),
+        _ => explain(stop.verdict, event_type, first),
+    }
 }
 
 /// Appends why a log ended.
