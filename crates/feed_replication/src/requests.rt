@@ -5,7 +5,7 @@ ghost use Rattle.feed_replication.specs.Requests.{dump_request, dump_payload as 
 ghost use Rattle.feed_replication.specs.declared.requests.RequestError.TheVariants.{Memory};
 
 use bytes::BytesMut;
-use std::alloc::{AllocError, Global};
+use std::alloc::{AllocError, AllocFailed, Global};
 use thiserror::Error;
 use wire_packets::packet_to_chunks;
 
@@ -47,6 +47,14 @@ impl From<AllocError> for RequestError {
     ghost from_gives = { λ _ e. e ≡ Memory };
 
     fn from(_error: AllocError) -> RequestError {
+        RequestError::Memory
+    }
+}
+
+impl<T: Drop> From<AllocFailed<T>> for RequestError {
+    ghost from_gives = { λ _ e. e ≡ Memory };
+
+    fn from(_error: AllocFailed<T>) -> RequestError {
         RequestError::Memory
     }
 }
