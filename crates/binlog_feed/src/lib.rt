@@ -2,9 +2,10 @@
 //!
 //! It re-exports the calls of its parts that users need, with the types of their arguments and results, and CRC-32; and it has their
 //! laws and worked examples, so that no program waits for the proofs of these. What the parts have for one another, such as the
-//! recorders of transactions, isn't re-exported. `feed_transactions` has the report of a file, `feed_change_log` transactions as
-//! values, `feed_replication` requests, followers and servers, `feed_change_follower` the follower that lends transactions,
-//! `feed_text` the text of values, and `feed_resume` the complete transactions of a truncated text.
+//! recorders of transactions and the forms in which a `TextBuffer` writes documents, isn't re-exported. `feed_transactions` has the
+//! report of a file, `feed_change_log` transactions as values, `feed_replication` requests, followers and servers,
+//! `feed_change_follower` the follower that lends transactions, `feed_text` the text of values, and `feed_resume` the complete
+//! transactions of a truncated text.
 #![tactic(auto)]
 
 mod check_laws;
@@ -35,7 +36,7 @@ pub use feed_replication::{
 pub use feed_resume::{Keeper, kept};
 pub use feed_text::{TextBuffer, put_cell, put_cell_ref, put_decimal, put_json, put_value, quote};
 pub use feed_transactions::report;
-pub use rows_cells::{BinlogValue, CellRef, RowPart, RowPlan, RowsCursor};
+pub use rows_cells::{BinlogValue, CellRef, ImageCells, ImagePlan, RowPart, RowPlan, RowsCursor};
 pub use rows_errors::{JsonbError, RowsError};
 pub use rows_event_body::RowImages;
 pub use rows_jsonb::JsonDom;

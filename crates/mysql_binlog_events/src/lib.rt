@@ -1,8 +1,8 @@
 //! The events of MySQL's binary logs: headers, bodies, format descriptions, and the readers of streams and files.
 //!
-//! It re-exports its parts, but for what only they and the feed call (the places of a header's fields), and has laws of their readers
-//! and writers. `events_frames` has what every event has, `events_bodies` the bodies without rows, and `events_owned` bodies of any
-//! type, owned events and files.
+//! It re-exports its parts, but for what only they and the feed call (the places of a header's fields, and their readers in a whole
+//! event), and has laws of the parts' readers and writers. `events_frames` has what every event has, `events_bodies` the bodies
+//! without rows, and `events_owned` bodies of any type, owned events and files.
 #![tactic(auto)]
 
 mod frame_laws;
