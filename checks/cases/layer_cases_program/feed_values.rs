@@ -189,6 +189,9 @@ fn put_changes(alloc: Global, bytes: &[u8], fails: bool, out: &mut Vec<u8>) -> R
     if has_ended || log.advance() != end {
         put_text("another end: ", out)?;
     }
+    if end == Ok(false) && !log.source().event().is_empty() {
+        put_text("an event is left: ", out)?;
+    }
     match log.stop() {
         Some(stop) if end != Err(stop.verdict) && end != Ok(false) => put_text(
             "another verdict",
