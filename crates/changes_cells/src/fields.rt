@@ -11,7 +11,7 @@ ghost use Rattle.changes_cells.specs.FieldJson.{IsFixed, MayWriteCell, MayWriteN
 
 use crate::bytes::{FEW_BYTES_MAX, put_few_bytes};
 use crate::fixed::put_fixed_field;
-use crate::numbers::{put_integer, put_shown_number};
+use crate::numbers::{put_integer, put_plain_integer, put_shown_number};
 use crate::readings::{read_integer, read_sized};
 use changes_character_sets::CharacterSet;
 use changes_tables::{Shown, ShownColumn};
@@ -263,6 +263,9 @@ pub fn put_short_field<'a>(
         return Some((put_bytes(text, at, b"null"), field.bytes));
     }
     if let Some((number, rest)) = read_integer(field.bytes, field.format) {
+        if let Shown::Plain = column.shown {
+            return Some((put_plain_integer(text, at, column, number), rest));
+        }
         return match put_integer(text, at, column, number) {
             Some(end) => Some((end, rest)),
             None => None,

@@ -2,6 +2,7 @@
 
 ghost use Rattle.std.specs.Prelude.{◌≡◌, ◌≤◌, ◌+◌, ◌++◌, nat_lt, length, take};
 ghost use Rattle.std.specs.Fmt.{decimal, signed_decimal};
+ghost use Rattle.changes_tables.specs.declared.columns.Shown.TheVariants.{Plain};
 ghost use Rattle.changes_tables.specs.ShownColumns.{column_view};
 ghost use Rattle.changes_cells.specs.ShownTimes.{in_quotes};
 ghost use Rattle.changes_cells.specs.CellJson.{IsSeconds, IsSimpleNumber, IsNumberJson, IsIntegerJson, negative_json};
@@ -104,7 +105,23 @@ fn put_shown_integer(text: &mut [u8], at: usize, column: &ShownColumn, number: i
     put_shown_number(text, at, column, number as u64)
 }
 
-/// Does the same; a column that shows its numbers unchanged takes no call.
+/// Writes an integer of a column that shows its numbers unchanged.
+#[inline(always)]
+#[tactic(auto, unfolding(crate::specs::CellJson::IsIntegerJson, crate::specs::CellJson::IsNumberShown, crate::specs::CellJson::IsSimpleNumber))]
+pub(crate) fn put_plain_integer(
+    text: &mut [u8],
+    at: usize,
+    column: &ShownColumn,
+    number: i64,
+) -> usize
+    requires room { at + 400 ≤ length text.old }
+    requires plain { column.now.shown ≡ Plain }
+    ensures { WritesSuch (IsIntegerJson (column_view column.now) number) at text.old text.new result }
+{
+    put_signed_integer(text, at, number)
+}
+
+/// Writes an integer; a column that shows its numbers unchanged takes no call. `None`: its text may be long.
 #[inline(always)]
 #[tactic(auto, unfolding(crate::specs::CellJson::IsIntegerJson, crate::specs::CellJson::IsNumberShown, crate::specs::CellJson::IsSimpleNumber))]
 pub(crate) fn put_integer(
@@ -117,7 +134,7 @@ pub(crate) fn put_integer(
     ensures { MayWriteSuch (IsIntegerJson (column_view column.now) number) at text.old text.new result }
 {
     match column.shown {
-        Shown::Plain => Some(put_signed_integer(text, at, number)),
+        Shown::Plain => Some(put_plain_integer(text, at, column, number)),
         _ => put_shown_integer(text, at, column, number),
     }
 }

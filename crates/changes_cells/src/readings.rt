@@ -3,9 +3,11 @@
 //! Each function returns what the cell has and the bytes after it, or `EndOfBody` if there are fewer bytes.
 
 ghost use Rattle.std.specs.Prelude.{◌≡◌, ◌≤◌, ◌+◌, ◌-◌, ◌*◌, ◌^◌, IfSome, IfNone, length};
+ghost use Rattle.std.specs.Bool.{OnTrue};
 ghost use Rattle.std.specs.Fmt.{decimal};
 ghost use Rattle.rows_errors.specs.Readings.{map_reading};
-ghost use Rattle.rows_cells.specs.declared.format.CellFormat.TheVariants.{Float, Double, Year, NewDate, OldTime, OldDatetime, Timestamp2, Plain};
+ghost use Rattle.rows_cells.specs.declared.format.CellFormat.TheVariants.{Signed, Float, Double, Year, NewDate, OldTime, OldDatetime, Timestamp2, Plain};
+ghost use Rattle.rows_cells.specs.declared.format.Width.TheVariants.{Four};
 ghost use Rattle.rows_cells.specs.CellValues.{bytes as bytes_value, float, double, new_date, old_time, old_datetime, timestamp_text};
 ghost use Rattle.rows_cells.specs.Cells.{cell_at};
 ghost use Rattle.rows_cells.specs.CellSizes.{width_bytes};
@@ -13,7 +15,7 @@ ghost use Rattle.byteorder.specs.Endian.{little_number, twos_complement};
 ghost use Rattle.changes_cells.specs.FieldJson.{IsIntegerAt, LacksInteger};
 
 use byteorder::{ByteOrder, LittleEndian};
-use rows_cells::{CellFormat, Width, split_prefix};
+use rows_cells::{CellFormat, Width, read_signed, split_prefix};
 use rows_errors::RowsError;
 use rows_values::{fraction_size, timestamp_of};
 
@@ -132,9 +134,29 @@ fn unsigned_of_eight(bytes: &[u8], width: Width) -> u64
     bits >> unused
 }
 
+/// Whether cells are signed integers of four bytes, the most frequent.
+#[inline(always)]
+fn is_int(format: CellFormat) -> bool
+    ensures { OnTrue result (format ≡ Signed Four) }
+{
+    format == CellFormat::Signed(Width::Four)
+}
+
+/// Reads a signed integer of four bytes. `None`: fewer are left.
+#[inline(always)]
+fn read_int(bytes: &[u8]) -> Option<(i64, &[u8])>
+    ensures some { IfSome result (λ x. IsIntegerAt (Signed Four) bytes.now x.0 x.1.now) }
+    ensures none { IfNone result (LacksInteger (Signed Four) bytes.now) }
+{
+    match read_signed(bytes, Width::Four) {
+        Ok(read) => Some(read),
+        Err(_) => None,
+    }
+}
+
 /// Reads an integer of any width. `None`: fewer than eight bytes are left, the cell is no integer, or it is 2^63 or more.
 #[inline(always)]
-pub(crate) fn read_integer(bytes: &[u8], format: CellFormat) -> Option<(i64, &[u8])>
+fn read_any_integer(bytes: &[u8], format: CellFormat) -> Option<(i64, &[u8])>
     ensures some { IfSome result (λ x. IsIntegerAt format bytes.now x.0 x.1.now) }
     ensures none { IfNone result (LacksInteger format bytes.now) }
 {
@@ -155,4 +177,16 @@ pub(crate) fn read_integer(bytes: &[u8], format: CellFormat) -> Option<(i64, &[u
         }
         _ => None,
     }
+}
+
+/// Does the same; a signed integer of four bytes may be the last cell.
+#[inline(always)]
+pub(crate) fn read_integer(bytes: &[u8], format: CellFormat) -> Option<(i64, &[u8])>
+    ensures some { IfSome result (λ x. IsIntegerAt format bytes.now x.0 x.1.now) }
+    ensures none { IfNone result (LacksInteger format bytes.now) }
+{
+    if is_int(format) {
+        return read_int(bytes);
+    }
+    read_any_integer(bytes, format)
 }

@@ -241,11 +241,11 @@ impl Lines {
         let position = header.log_pos();
         self.origin.clear();
         if !self.by_transaction {
-            put_origin(transaction.gtid(), file, position, &mut self.origin)?;
+            put_origin(transaction, file, position, &mut self.origin)?;
             return transaction.put_added(&mut self.origin);
         }
         HeaderText::new(header.timestamp(), header.server_id()).put(header, &mut self.origin)?;
-        put_origin(transaction.gtid(), file, position, &mut self.origin)?;
+        put_origin(transaction, file, position, &mut self.origin)?;
         transaction.put_added(&mut self.origin)
     }
 

@@ -92,6 +92,7 @@ fn put_numbered_rows(
 ///
 /// - `Row`: a row can't be read, can't be printed, or takes no bytes.
 /// - `Memory`: out of memory.
+#[inline(always)]
 pub(crate) fn put_event_rows(
     alloc: Global,
     columns: Columns<'_>,

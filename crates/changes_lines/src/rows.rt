@@ -65,6 +65,7 @@ fn put_first_rows<'a>(
 ///
 /// - `Row`: a row can't be read, can't be printed, or takes no bytes.
 /// - `Memory`: out of memory.
+#[inline(always)]
 pub(crate) fn put_rows(
     alloc: Global,
     columns: Columns<'_>,

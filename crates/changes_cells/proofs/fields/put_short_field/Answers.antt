@@ -20,6 +20,13 @@ returns-then-field c = record {
   };
 }
 
+pub returns-in-Plain : goal.returns-in-Plain
+returns-in-Plain c =
+    let column = column_view c.args.column.now in
+    let same = to_z-of_z w64 c.in-Some.number (search rules) in
+    integer_written column c.args.field.is_null c.args.field.format c.args.field.bytes.now c.args.text.now c.put_plain_integer.new.text c.in-Some.rest.now c.in-Some.number c.args.at c.put_plain_integer.result c.if-field.false c.in-Some.ensures.some
+    (subst (λ z. WritesSuch (IsIntegerJson column z) c.args.at c.args.text.now c.put_plain_integer.new.text c.put_plain_integer.result) same c.put_plain_integer.ensures)
+
 pub returns-in-Some-put_integer : goal.returns-in-Some-put_integer
 returns-in-Some-put_integer c =
     let column = column_view c.args.column.now in
