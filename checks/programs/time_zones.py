@@ -1,8 +1,10 @@
 """Times that options of `binlog-changes` give in time zones: a part of `changes`."""
 import datetime
 import io
+import os
 import subprocess
 import zoneinfo
+from pathlib import Path
 
 import logs
 from json_lines import expect, lines_of
@@ -38,6 +40,26 @@ def times(program, path, name, zone, words):
     return runs
 
 
+def without_memory(program, folder, path):
+    """Each allocation of a run with a time zone fails in turn: its status is 3, or 0 if it goes on; returns how many ran."""
+    refusing, mark, number = folder / "refuse.so", folder / "mark", 0
+    source = Path(__file__).with_name("refuse.c")
+    subprocess.run([os.environ.get("CC", "cc"), "-shared", "-fPIC", "-O1", "-o", refusing, source, "-ldl"], check=True)
+    words = [program, "events", "--time-zone", "Europe/Berlin", "--start-datetime", "2026-11-29", path]
+    said = set()
+    while True:
+        number += 1
+        mark.unlink(missing_ok=True)
+        counts = {"REFUSE_REQUEST": str(number), "REFUSE_MARK": str(mark), "MEMORY_COUNTS": str(folder / "counts")}
+        ran = subprocess.run(words, capture_output=True, text=True, env={**os.environ, **counts, "LD_PRELOAD": str(refusing)})
+        if not mark.exists():
+            expect(ran.returncode == 0 and 3 in said, f"no allocation failed: {said}")
+            return number
+        is_right = ran.returncode == 0 or (ran.returncode == 3 and "out of memory" in ran.stderr)
+        expect(is_right, f"allocation {number} fails: {ran}")
+        said.add(ran.returncode)
+
+
 def zones(program, folder):
     """Compares times in zones with those of Python; returns the number of runs."""
     path, file, runs = folder / "zones", io.BytesIO(), 0
@@ -62,4 +84,6 @@ def zones(program, folder):
     late = [it for change in CHANGES for it in around(change) if it >= CHANGES[1] + 2 * HALF_HOUR]
     expect(f"selected transactions: {len(late)}," in said[0].stdout, f"check of a time in a zone: {said[0]}")
     expect(len(said[1].stdout.splitlines()) == len(late), f"events of a time in a zone: {said[1]}")
+    if "Europe/Berlin" in zoneinfo.available_timezones():
+        runs += without_memory(program, folder, path)
     return runs

@@ -1,1 +1,3 @@
 mod EventWalkLemmas
+mod MemberNameLemmas
+mod ZoneLemmas

@@ -1,1 +1,3 @@
 pub mod EventWalks
+pub mod MemberNames
+pub mod TimeZones

@@ -1,9 +1,10 @@
 //! The words of the command line.
 
-use crate::member_names::added_members;
+use crate::member_names::members_in;
 use crate::time_zone::Zone;
 use changes_character_sets::CharacterSet;
 use changes_origins::AddedMembers;
+use clap::error::ErrorKind;
 use clap::{Arg, ArgAction, ArgMatches, Command, Error};
 use std::alloc::{AllocError, Global};
 use std::rt::Files;
@@ -318,11 +319,22 @@ pub enum Refused {
     List(&'static str),
     /// There is no command.
     NoCommand,
+    /// Out of memory.
+    Memory,
 }
 
 impl From<AllocError> for Refused {
-    fn from(error: AllocError) -> Refused {
-        Refused::Words(Error::from(error))
+    fn from(_error: AllocError) -> Refused {
+        Refused::Memory
+    }
+}
+
+impl From<Error> for Refused {
+    fn from(error: Error) -> Refused {
+        match error.kind() {
+            ErrorKind::OutOfMemory => Refused::Memory,
+            _ => Refused::Words(error),
+        }
     }
 }
 
@@ -359,8 +371,9 @@ fn zone_of<R: Files + AllocGlobal>(rt: &R, matches: &ArgMatches<'_>) -> Result<Z
         return Ok(Zone::UTC);
     };
     match Zone::named(rt, name) {
-        Some(zone) => Ok(zone),
-        None => Err(Refused::Value(TIME_ZONE.name)),
+        Ok(zone) => Ok(zone),
+        Err(jiff::Error::OutOfMemory) => Err(Refused::Memory),
+        Err(_) => Err(Refused::Value(TIME_ZONE.name)),
     }
 }
 
@@ -395,7 +408,7 @@ fn added_of(matches: &ArgMatches<'_>) -> Result<AddedMembers, Refused> {
     let Some(names) = matches.get_str(WITH.name) else {
         return Ok(AddedMembers::NONE);
     };
-    match added_members(names) {
+    match members_in(names) {
         Some(added) => Ok(added),
         None => Err(Refused::Value(WITH.name)),
     }
@@ -538,12 +551,15 @@ fn options_in<'w, R: Files + AllocGlobal>(
 }
 
 /// Reads the command line.
+///
+/// - `Words`: a command doesn't take these words, or they ask for help or for the version.
+/// - `Value`: the value of an option can't be used. `List`: it is a list, where one name is wanted.
+/// - `NoCommand`: there is no command.
+/// - `Memory`: out of memory.
 pub fn parse<'w, R: Files + AllocGlobal>(
     rt: &R,
     words: &'w [String],
 ) -> Result<Options<'w>, Refused> {
-    match command(rt.alloc())?.try_get_matches_from(words) {
-        Ok(matches) => options_in(rt, &matches),
-        Err(error) => Err(Refused::Words(error)),
-    }
+    let matches = command(rt.alloc())?.try_get_matches_from(words)?;
+    options_in(rt, &matches)
 }

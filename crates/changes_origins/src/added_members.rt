@@ -27,4 +27,14 @@ impl AddedMembers {
         query: false,
         row: false,
     };
+
+    /// All members.
+    pub const ALL: AddedMembers = AddedMembers {
+        begin: true,
+        ts_ms: true,
+        xid: true,
+        thread_id: true,
+        query: true,
+        row: true,
+    };
 }

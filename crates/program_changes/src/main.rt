@@ -9,6 +9,7 @@ mod run;
 
 use changes_commands::{Refused, parse};
 use std::env;
+use std::io::ErrorKind;
 use std::process::ExitCode;
 use std::rt::Env;
 
@@ -34,17 +35,24 @@ fn refuse(rt: &HostRuntime, refused: Refused) -> ExitCode {
             let _ = eprintln!(rt; "binlog-changes: the commands are json, check and events");
             ExitCode::from(2)
         }
+        Refused::Memory => {
+            let _ = eprintln!(rt; "binlog-changes: out of memory");
+            ExitCode::from(3)
+        }
     }
 }
 
 fn main(rt: HostRuntime) -> ExitCode {
-    let Ok(words) = env::args(&rt) else {
-        let _ = eprintln!(&rt; "binlog-changes: the arguments can't be read");
-        return ExitCode::from(2);
+    let words = match env::args(&rt) {
+        Ok(words) => words,
+        Err(error) if error.kind() == ErrorKind::OutOfMemory => return refuse(&rt, Refused::Memory),
+        Err(_) => {
+            let _ = eprintln!(&rt; "binlog-changes: the arguments can't be read");
+            return ExitCode::from(2);
+        }
     };
     let Ok(words) = words.collect::<Vec<String>>(rt.alloc()) else {
-        let _ = eprintln!(&rt; "binlog-changes: out of memory");
-        return ExitCode::from(3);
+        return refuse(&rt, Refused::Memory);
     };
     match parse(&rt, &words) {
         Ok(options) => run::run(&rt, &options),
