@@ -158,7 +158,7 @@ scalar_json P (tree.double bits) x h e = float_json P _ _ _ _ x e
 scalar_json P (tree.decimal d) x h e = subst (IsJson P) (sym e) (decimal_object P d h.0 h.1)
 scalar_json P (tree.string s) x h e = subst (IsJson P) (sym e) (string_json P s h)
 scalar_json P (tree.time t) x h e = subst (IsJson P) (sym e) (time_object P t.time_type (temporal_text t) (temporal_plain t))
-scalar_json P (tree.opaque number bytes) x h e = subst (IsJson P) (sym e) (opaque_object P number bytes h)
+scalar_json P (tree.opaque number bytes) x h e = subst (IsJson P) (sym e) (opaque_object P number bytes h.0)
 
 -- ---- keys
 dollar_utf8 : (k : List ℕ) → IsUtf8 k → IsUtf8 (36 ∷ k)

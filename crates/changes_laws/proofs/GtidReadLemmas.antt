@@ -72,7 +72,7 @@ joined u =
     ap (λ (t : List ℕ). take 4 u ++ (take 2 (drop 4 u) ++ (take 2 (drop 6 u) ++ t))) (rest_joined 2 8 u) ∙ ap (λ (t : List ℕ). take 4 u ++ (take 2 (drop 4 u) ++ t)) (rest_joined 2 6 u)
     ∙ ap (λ (t : List ℕ). take 4 u ++ t) (rest_joined 2 4 u) ∙ take-append-drop 4 u
 
-uuids_read : (u v s t : List ℕ) → AreBytes u → AreBytes v → length u ≡ 16 → length v ≡ 16 → uuid_text u ++ s ≡ uuid_text v ++ t → (u ≡ v) × (s ≡ t)
+pub uuids_read : (u v s t : List ℕ) → AreBytes u → AreBytes v → length u ≡ 16 → length v ≡ 16 → uuid_text u ++ s ≡ uuid_text v ++ t → (u ≡ v) × (s ≡ t)
 uuids_read u v s t p q l m e =
     let same = λ (k n : ℕ) (le : k + n ≤ 16). part_long k n u l le ∙ sym (part_long k n v m le) in
     let a = hex_read (take 4 u) (take 4 v) _ _ (take_bytes 4 u p) (take_bytes 4 v q) (length-take-le 4 u (omega (arith, l)) ∙ sym (length-take-le 4 v (omega (arith, m)))) (sym (uuid_parts u s) ∙ e ∙ uuid_parts v t) in

@@ -39,7 +39,7 @@ use Rattle.changes_laws.proofs.ObjectReadLemmas.{objects_read}
 use Rattle.changes_laws.proofs.ValueLemmas.{of_json, all_json}
 
 -- ---- the columns of an image
-abbrev IsReadColumn : ℕ → List ColumnView → ImageColumn → Type 0
+abbrev pub IsReadColumn : ℕ → List ColumnView → ImageColumn → Type 0
 IsReadColumn n table c = (c.column < n) × IsFormatOf (column_at table c.column).shown c.format × AreMembers (column_at table c.column).members
 
 string_begins : (s : List ℕ) → begins_as_member (json_string s) ≡ true
@@ -76,7 +76,7 @@ members_shown text [] (y ∷ ys) h = absurd h
 members_shown text (x ∷ xs) [] h = absurd h
 members_shown text (x ∷ xs) (y ∷ ys) h = ((of_json y (member_is_json (Unit {0}) text x y h.0), member_begins text x y h.0), members_shown text xs ys h.1)
 
-columns_shown : (options : TableOptions) (parts : List ColumnPart) (columns : List ColumnView) → AllZip (IsColumn options) parts columns → EachHolds (λ (c : ColumnView). AreShown c.members) columns
+pub columns_shown : (options : TableOptions) (parts : List ColumnPart) (columns : List ColumnView) → AllZip (IsColumn options) parts columns → EachHolds (λ (c : ColumnView). AreShown c.members) columns
 columns_shown options [] [] h = tt
 columns_shown options [] (c ∷ cs) h = absurd h
 columns_shown options (p ∷ ps) [] h = absurd h
@@ -91,7 +91,7 @@ both_of : (jsons : List (List ℕ)) → AreShown jsons → EachHolds IsJsonValue
 both_of [] h = (tt, tt)
 both_of (m ∷ ms) h = let more = both_of ms h.1 in (((h.0).0, more.0), ((h.0).1, more.1))
 
-read_columns : (n : ℕ) (columns : List ColumnView) (cs : List ImageColumn) → EachHolds (λ (c : ColumnView). AreShown c.members) columns → EachHolds (IsToldColumn n columns) cs → EachHolds (IsReadColumn n columns) cs
+pub read_columns : (n : ℕ) (columns : List ColumnView) (cs : List ImageColumn) → EachHolds (λ (c : ColumnView). AreShown c.members) columns → EachHolds (IsToldColumn n columns) cs → EachHolds (IsReadColumn n columns) cs
 read_columns n columns [] h t = tt
 read_columns n columns (c ∷ cs) h t =
     let ms = (column_at columns c.column).members in
@@ -100,7 +100,7 @@ read_columns n columns (c ∷ cs) h t =
 
 -- ---- the values of an image
 -- NULL, or a value of the format
-abbrev IsField : CellFormat → CellValue → Type 0
+abbrev pub IsField : CellFormat → CellValue → Type 0
 IsField f v = (v ≡ null) ⊎ (IsKnown f v × IsSoundCell f v)
 
 field_known : (is_null : Bool) (f : CellFormat) (b : List ℕ) → AreBytes b → Gives (WithBytes (IsField f)) (field_at is_null f b)
@@ -129,10 +129,10 @@ same_format s true format.NoCells h = refl
 same_format s false f h = refl
 
 -- a value of a column
-abbrev IsOf : ImageColumn → ColumnValue → Type 0
+abbrev pub IsOf : ImageColumn → ColumnValue → Type 0
 IsOf c v = (v.column ≡ c.column) × IsField c.format v.value
 
-abbrev AreOf : List ImageColumn → List ColumnValue → Type 0
+abbrev pub AreOf : List ImageColumn → List ColumnValue → Type 0
 AreOf columns values = AllZip IsOf columns values
 
 cells_known : (n : ℕ) (table : List ColumnView) (bits nulls : List ℕ) (k : ℕ) (columns : List ImageColumn) (b : List ℕ) → EachHolds (IsReadColumn n table) columns → AreBytes b → Gives (WithBytes (AreOf columns)) (cells_at bits nulls k columns b)
@@ -144,7 +144,7 @@ cells_known n table bits nulls k (c ∷ cs) b t h =
     (λ first s. next (WithBytes (AreOf cs)) (WithBytes (AreOf (c ∷ cs))) (cells_at bits nulls (k + 1) cs first.1) _ (cells_known n table bits nulls (k + 1) cs first.1 t.1 s.1)
     (λ more m. given (WithBytes (AreOf (c ∷ cs))) (record { column = c.column; value = first.0 } ∷ more.0, more.1) (((refl, subst (λ (f : CellFormat). IsField f first.0) same s.0), m.0), m.1)))
 
-image_known : (n : ℕ) (table : List ColumnView) (s : ImageShape) (b : List ℕ) → EachHolds (IsReadColumn n table) s.columns → AreBytes b → Gives (WithBytes (AreOf s.columns)) (image_at s b)
+pub image_known : (n : ℕ) (table : List ColumnView) (s : ImageShape) (b : List ℕ) → EachHolds (IsReadColumn n table) s.columns → AreBytes b → Gives (WithBytes (AreOf s.columns)) (image_at s b)
 unfolding image_at
 image_known n table s b t h =
     next (RestIsBytes {A = List ℕ}) (WithBytes (AreOf s.columns)) (shared_at s.json_columns b) _ (shared_gives s.json_columns b h)
@@ -156,7 +156,7 @@ field_json : (c : ColumnView) (f : CellFormat) (v : CellValue) (x : List ℕ) �
 field_json c f v x a (inl e) j = subst (IsSoundCell f) (sym e) tt
 field_json c f v x a (inr k) j = k.1
 
-cells_shown : (n : ℕ) (table : List ColumnView) (columns : List ImageColumn) (values : List ColumnValue) (cells : List CellJson) → EachHolds (IsReadColumn n table) columns → AreOf columns values → AreCellsJson table columns values cells → EachHolds (IsCellShown n) cells
+pub cells_shown : (n : ℕ) (table : List ColumnView) (columns : List ImageColumn) (values : List ColumnValue) (cells : List CellJson) → EachHolds (IsReadColumn n table) columns → AreOf columns values → AreCellsJson table columns values cells → EachHolds (IsCellShown n) cells
 unfolding AreCellsJson
 cells_shown n table [] [] [] t o a = tt
 cells_shown n table [] [] (x ∷ xs) t o a = absurd a
@@ -183,7 +183,7 @@ fields_read c f v w x p a (inl e) (inr k) i j = absurd (not_null c f w x p a k.0
 fields_read c f v w x p a (inr k) (inl e) i j = absurd (not_null c f v x p a k.0 i (ap first (subst (λ (u : CellValue). IsCellJson c f u x) e j)))
 fields_read c f v w x p a (inr k) (inr l) i j = by_format c f v w x p a k.0 l.0 i j
 
-same_values : (n : ℕ) (table : List ColumnView) (columns : List ImageColumn) (vs ws : List ColumnValue) (cells : List CellJson) → EachHolds (IsReadColumn n table) columns → AreOf columns vs → AreOf columns ws
+pub same_values : (n : ℕ) (table : List ColumnView) (columns : List ImageColumn) (vs ws : List ColumnValue) (cells : List CellJson) → EachHolds (IsReadColumn n table) columns → AreOf columns vs → AreOf columns ws
     → AreCellsJson table columns vs cells → AreCellsJson table columns ws cells → AllZip (IsSameValue table) vs ws
 unfolding AreCellsJson
 same_values n table [] [] [] cells t o p a b = tt

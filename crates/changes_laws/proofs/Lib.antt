@@ -30,3 +30,8 @@ pub mod ImageReadLemmas
 pub mod TimestampReadLemmas
 pub mod WorkedJsonLemmas
 pub mod GtidReadLemmas
+pub mod TaggedReadLemmas
+pub mod UpdateReadLemmas
+pub mod UpdateValueLemmas
+pub mod HeadReadLemmas
+pub mod DocumentReadLemmas

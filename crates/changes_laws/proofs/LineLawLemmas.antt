@@ -12,7 +12,7 @@ use Rattle.wire_buf.specs.Encoding.{AreBytes}
 use Rattle.events_frames.specs.Headers.{Header}
 use Rattle.rows_values.proofs.UnpackedLemmas.{take_bytes, drop_bytes}
 use Rattle.rows_event_body.specs.EventShapes.{event_rows}
-use Rattle.feed_checks.specs.Kinds.{Gtid, Anonymous, Numbered, Tagged}
+use Rattle.feed_checks.specs.Kinds.{Numbered}
 use Rattle.feed_transactions.specs.MappedRows.{plan_by}
 use Rattle.feed_transactions.specs.Changes.{Content, OfRows, OfStatement, EventChange, Committed}
 use Rattle.feed_transactions.specs.TransactionTexts.{uuid_text}
@@ -24,13 +24,14 @@ use Rattle.changes_tables.specs.MemberTexts.{utf8_json}
 use Rattle.changes_tables.specs.PrimaryKeys.{key_columns}
 use Rattle.changes_tables.specs.UsedMetadata.{used_metadata}
 use Rattle.changes_tables.specs.declared.columns.TableOptions.{TableOptions}
-use Rattle.changes_lines.specs.ChangeLines.{ChangeJson, IsContentJson, AreChangesJson, rows_of, rows_of_all, change_objects, objects, end_by, with_ends, lines_of, transaction_line, transaction_lines, AreLines}
+use Rattle.changes_lines.specs.ChangeLines.{ChangeJson, IsContentJson, AreChangesJson, rows_of, rows_of_all, change_objects, objects, end_by, with_ends, lines_of, transaction_line, transaction_lines}
 use Rattle.changes_lines.specs.Origins.{header_members, origin_members}
 use Rattle.changes_lines.specs.FactMembers.{TransactionFacts, transaction_members, row_member_if}
 use Rattle.changes_origins.specs.declared.added_members.AddedMembers.{AddedMembers}
-use Rattle.changes_origins.specs.GtidJson.{IsGtidJson, TaggedGtid, tagged_json}
-use Rattle.changes_laws.specs.JsonLines.{IsObjectLine, AreObjectLines, IsLoggedHeader, IsLoggedContent, IsLoggedChange, IsLoggedNumber, AreLoggedFacts, AreLoggedRows, IsUntaggedGtid, IsTagRead, is_of_tag, tag_characters}
-use Rattle.changes_laws.proofs.WrittenJson.{IsJson, IsObject, AllJson, joined_array, null_json, boolean_json, object_value}
+use Rattle.changes_origins.specs.GtidJson.{IsGtidJson, tagged_json}
+use Rattle.changes_origins.specs.TaggedGtids.{TaggedGtid}
+use Rattle.changes_laws.specs.JsonLines.{IsObjectLine, AreObjectLines, IsLoggedHeader, IsLoggedContent, IsLoggedChange, IsLoggedNumber, AreLoggedFacts, AreLoggedRows, IsTagRead, is_of_tag, tag_characters}
+use Rattle.changes_laws.proofs.WrittenJson.{IsJson, IsObject, AllJson, joined_array, boolean_json, object_value}
 use Rattle.changes_laws.proofs.NumberGrammarLemmas.{decimal_json}
 use Rattle.changes_laws.proofs.PlainGrammarLemmas.{Plain, all_plain, base64_object_json, plain_append, decimal_plain, quoted_json}
 use Rattle.changes_laws.proofs.SoundCellLemmas.{EachHolds}
@@ -205,14 +206,11 @@ uuid_plain u h =
     let abcd = plain_append ((a ++ b) ++ c) d abc (refl, part 2 8) in
     plain_append (((a ++ b) ++ c) ++ d) e abcd (refl, hex_plain (drop 10 u) (drop_bytes 10 u h))
 
-untagged_json : (P : Type 0) (g : Option Gtid) (x : List ℕ) → IsUntaggedGtid g → IsGtidJson g x → IsJson P x
-untagged_json P None x h e = subst (IsJson P) (sym e) (null_json P)
-untagged_json P (Some Anonymous) x h e = subst (IsJson P) (sym e) (null_json P)
-untagged_json P (Some (Numbered uuid number)) x h e =
+pub numbered_json : (P : Type 0) (uuid : List ℕ) (number : ℕ) (x : List ℕ) → AreBytes uuid → IsGtidJson (Some (Numbered uuid number)) x → IsJson P x
+numbered_json P uuid number x h e =
     let text = uuid_text uuid ++ 58 ∷ decimal number in
     let same : 34 ∷ text ++ 34 ∷ [] ≡ x = ap (λ (t : List ℕ). 34 ∷ t) (append_assoc (uuid_text uuid) (58 ∷ decimal number) (34 ∷ [])) ∙ sym e in
     subst (IsJson P) same (quoted_json P text (plain_append (uuid_text uuid) (58 ∷ decimal number) (uuid_plain uuid h) (refl, decimal_plain number)))
-untagged_json P (Some (Tagged body)) x h e = absurd h
 
 -- a character of a tag
 among : (b : ℕ) (l : List ℕ) → T (all_plain l) → list_any (λ c. c == b) l ≡ true → is_plain b ≡ true
@@ -240,7 +238,7 @@ tagged_is_json P body (Some g) h =
     subst (IsJson P) (simp append_assoc) (quoted_json P text plain)
 
 -- ---- the law
-lines_law : (options : TableOptions) (added : AddedMembers) (by_transaction : Bool) (file gtid : List ℕ) (t : Committed) (facts : TransactionFacts) (changes : List EventChange) (xs : List ChangeJson) → IsJson (Unit {0}) gtid → IsLoggedHeader t.commit
+pub lines_law : (options : TableOptions) (added : AddedMembers) (by_transaction : Bool) (file gtid : List ℕ) (t : Committed) (facts : TransactionFacts) (changes : List EventChange) (xs : List ChangeJson) → IsJson (Unit {0}) gtid → IsLoggedHeader t.commit
     → All IsLoggedChange changes → AreLoggedRows added t.changes → AreLoggedFacts added facts → AreChangesJson options added t.changes changes xs → ∥ AreObjectLines (transaction_lines by_transaction file t gtid (transaction_members added facts) xs) ∥₁
 lines_law options added by_transaction file gtid t facts changes xs g l c n f e = go by_transaction
   where
@@ -257,12 +255,6 @@ lines_law options added by_transaction file gtid t facts changes xs g l c n f e 
     go : (by : Bool) → ∥ AreObjectLines (transaction_lines by file t gtid (transaction_members added facts) xs) ∥₁
     go true = ∥∥₁_map (all [] (none_named (Unit {0}) origin_names)) (λ h. transaction_object (Unit {0}) t.commit origin (objects [] xs) tt l named h)
     go false = ∥∥₁_map (all origin named) (λ h. object_lines (Unit {0}) (objects origin xs) tt h)
-
-pub untagged_law : (options : TableOptions) (added : AddedMembers) (by_transaction : Bool) (file : List ℕ) (t : Committed) (changes : List EventChange) (text : List ℕ) (lines : AreLines options added by_transaction file t changes text) → IsUntaggedGtid t.gtid
-    → IsLoggedHeader t.commit → All IsLoggedChange changes → AreLoggedRows added t.changes → AreLoggedFacts added ((lines.2).2).0 → ∥ AreObjectLines text ∥₁
-untagged_law options added by_transaction file t changes text e u l c n f =
-    let g = e.2 in
-    subst (λ (x : List ℕ). ∥ AreObjectLines x ∥₁) (sym (g.2).1) (lines_law options added by_transaction file g.0 t (g.2).0 changes e.0 (untagged_json (Unit {0}) t.gtid g.0 u g.1) l c n f e.1)
 
 pub tagged_law : (options : TableOptions) (added : AddedMembers) (by_transaction : Bool) (file body : List ℕ) (g : Option TaggedGtid) (t : Committed) (facts : TransactionFacts) (changes : List EventChange) (xs : List ChangeJson) → IsTagRead g
     → IsLoggedHeader t.commit → All IsLoggedChange changes → AreLoggedRows added t.changes → AreLoggedFacts added facts → AreChangesJson options added t.changes changes xs

@@ -60,7 +60,7 @@ words_read Delete Insert s t e = absurd (let no : 100 ≡ 105 = ap first e in om
 words_read Delete Update s t e = absurd (let no : 100 ≡ 117 = ap first e in omega (arith, no))
 
 -- ---- the members of a line
-header_read : (h k : Header) (s t : List ℕ) → IsLoggedHeader h → IsLoggedHeader k → IsAfterValue s → IsAfterValue t → header_members h ++ s ≡ header_members k ++ t → (h.timestamp ≡ k.timestamp) × (h.server_id ≡ k.server_id) × (s ≡ t)
+pub header_read : (h k : Header) (s t : List ℕ) → IsLoggedHeader h → IsLoggedHeader k → IsAfterValue s → IsAfterValue t → header_members h ++ s ≡ header_members k ++ t → (h.timestamp ≡ k.timestamp) × (h.server_id ≡ k.server_id) × (s ≡ t)
 header_read h k s t p q a b e =
     let ts = codes ",\"ts\":" in
     let rest = λ (x : Header) (y : List ℕ). codes ",\"server_id\":" ++ (decimal x.server_id ++ y) in
@@ -73,7 +73,7 @@ header_read h k s t p q a b e =
 origin_text : (gtid file : List ℕ) (position : ℕ) (s : List ℕ) → origin_members gtid file position ++ s ≡ codes ",\"gtid\":" ++ (gtid ++ (codes ",\"file\":" ++ (utf8_json file ++ (codes ",\"position\":" ++ (decimal position ++ s)))))
 origin_text gtid file position s = simp append_assoc
 
-origin_read : (g h file name : List ℕ) (p q : ℕ) (s t : List ℕ) → IsJsonValue g → IsJsonValue h → IsBytes file → IsBytes name → p < 2 ^ 64 → q < 2 ^ 64 → IsAfterValue s → IsAfterValue t
+pub origin_read : (g h file name : List ℕ) (p q : ℕ) (s t : List ℕ) → IsJsonValue g → IsJsonValue h → IsBytes file → IsBytes name → p < 2 ^ 64 → q < 2 ^ 64 → IsAfterValue s → IsAfterValue t
     → origin_members g file p ++ s ≡ origin_members h name q ++ t → (g ≡ h) × (file ≡ name) × (p ≡ q) × (s ≡ t)
 origin_read g h file name p q s t jg jh bf bn lp lq a b e =
     let after_file = λ (n : ℕ) (y : List ℕ). codes ",\"position\":" ++ (decimal n ++ y) in
@@ -88,7 +88,7 @@ front_text : (images : RowImages) (m : TableMap) (h : Header) (s : List ℕ) →
 front_text images m h s =
     ap (λ (y : List ℕ). codes "{\"type\":\"" ++ y) (append_assoc (change_word (change_by images)) (codes "\"," ++ (names_member m ++ header_members h)) s ∙ ap (λ (y : List ℕ). change_word (change_by images) ++ (34 ∷ (44 ∷ y))) (append_assoc (names_member m) (header_members h) s))
 
-front_read : (a b : RowImages) (m : TableMap) (h k : Header) (s t : List ℕ) → IsLoggedHeader h → IsLoggedHeader k → IsAfterValue s → IsAfterValue t → rows_front a m h ++ s ≡ rows_front b m k ++ t
+pub front_read : (a b : RowImages) (m : TableMap) (h k : Header) (s t : List ℕ) → IsLoggedHeader h → IsLoggedHeader k → IsAfterValue s → IsAfterValue t → rows_front a m h ++ s ≡ rows_front b m k ++ t
     → (change_by a ≡ change_by b) × (h.timestamp ≡ k.timestamp) × (h.server_id ≡ k.server_id) × (s ≡ t)
 front_read a b m h k s t p q u v e =
     let f = append_cancel_left (codes "{\"type\":\"") (change_word (change_by a) ++ (34 ∷ (44 ∷ (names_member m ++ (header_members h ++ s))))) (change_word (change_by b) ++ (34 ∷ (44 ∷ (names_member m ++ (header_members k ++ t))))) (sym (front_text a m h s) ∙ e ∙ front_text b m k t) in
@@ -109,7 +109,7 @@ line_read a b m h k g i file name p q s t lh lk jg ji bf bn lp lq e =
     (record { change = f.0; time = f.1; server = f.2; gtid_is = o.0; file_is = o.1; position_is = o.2 }, append_cancel_left back s t o.3)
 
 -- ---- statements
-statement_text : (schema : List ℕ) (h : Header) (s : List ℕ) → (codes "{\"type\":\"statement\",\"database\":" ++ (utf8_json schema ++ header_members h)) ++ s ≡ codes "{\"type\":\"statement\",\"database\":" ++ (utf8_json schema ++ (header_members h ++ s))
+pub statement_text : (schema : List ℕ) (h : Header) (s : List ℕ) → (codes "{\"type\":\"statement\",\"database\":" ++ (utf8_json schema ++ header_members h)) ++ s ≡ codes "{\"type\":\"statement\",\"database\":" ++ (utf8_json schema ++ (header_members h ++ s))
 statement_text schema h s = ap (λ (y : List ℕ). codes "{\"type\":\"statement\",\"database\":" ++ y) (append_assoc (utf8_json schema) (header_members h) s)
 
 pub statement_read : (schema other query text : List ℕ) (h k : Header) (g i file name : List ℕ) (p q : ℕ) (s t : List ℕ) → IsLoggedHeader h → IsLoggedHeader k → IsJsonValue g → IsJsonValue i → IsBytes schema → IsBytes other → IsBytes query → IsBytes text

@@ -25,7 +25,7 @@ use Rattle.rows_jsonb.specs.JsonbTypes.{jsonb_type_of, is_inlined, literal_of}
 use Rattle.rows_jsonb.specs.JsonbValues.{JsonbValue, null, boolean, i16, u16, i32, u32, i64, u64, double, text, opaque, container, malformed, sized, literal, literal_at, counted_string, counted_at, opaque_at, is_column_type, container_in, container_at, json_value_at, of_type, document, pointed, entry_of, elem, key}
 use Rattle.rows_jsonb.specs.DocumentTrees.{Counted, utf8, leaf, time_in, decimal_in, opaque_tree, items, member_trees, entries, bare_tree, tree_of, within_budget, container_len, tree_in, document_tree}
 use Rattle.rows_jsonb.specs.JsonTrees as tree
-use Rattle.rows_jsonb.specs.JsonTrees.{Tree, scalar, array, object, Items, no_items, item, Members, no_members, member, put}
+use Rattle.rows_jsonb.specs.JsonTrees.{Tree, scalar, array, object, Items, no_items, item, Members, no_members, put}
 use Rattle.rows_jsonb.specs.declared.types.LiteralType.{LiteralType}
 use Rattle.rows_jsonb.specs.declared.types.LiteralType.TheVariants.{JSONB_NULL_LITERAL, JSONB_TRUE_LITERAL, JSONB_FALSE_LITERAL}
 use Rattle.rows_jsonb.specs.declared.types.JsonbType.{JsonbType}
@@ -189,7 +189,7 @@ opaque_tree_sound t s below h =
     let datetime = time_in (date_fields MYSQL_TIMESTAMP_DATETIME) s in
     let decimal = decimal_in (normalized_of false (packed_value s)) in
     let other = leaf (tree.opaque t s) in
-    let d = either IsSoundCounted (t == 246) decimal other (decimal_sound (packed_value s) (packed_digits s h)) (leaf_sound (tree.opaque t s) below) in
+    let d = either IsSoundCounted (t == 246) decimal other (decimal_sound (packed_value s) (packed_digits s h)) (leaf_sound (tree.opaque t s) (below, h)) in
     let c = either IsSoundCounted ((t == 12) || (t == 7)) datetime _ (time_sound (date_fields MYSQL_TIMESTAMP_DATETIME) s) d in
     let b = either IsSoundCounted (t == 11) span _ (time_sound span_fields s) c in
     either IsSoundCounted (t == 10) date _ (time_sound (date_fields MYSQL_TIMESTAMP_DATE) s) b

@@ -5,6 +5,7 @@ use Rattle.std.specs.Ordering.{nat_cmp, match_ordering, ordering_reverse}
 use Rattle.std.specs.Cmp.Lexicographic.{slice_cmp}
 use Rattle.std.proofs.lemmas.Cmp.{nat_list_cmp_total}
 use lib.Signed.{mag}
+use Rattle.wire_buf.specs.Encoding.{AreBytes}
 use Rattle.rows_values.specs.Digits.{AreDigits}
 use Rattle.rows_jsonb.specs.JsonTrees as tree
 use Rattle.rows_jsonb.specs.JsonTrees.{Tree, scalar, array, object, Items, no_items, item, Members, no_members, member, put}
@@ -14,7 +15,7 @@ IsSoundScalar (tree.int z) = mag z < 10 ^ 63
 IsSoundScalar (tree.uint n) = n < 10 ^ 64
 IsSoundScalar (tree.decimal d) = AreDigits d.before × AreDigits d.after
 IsSoundScalar (tree.string s) = IsUtf8 s
-IsSoundScalar (tree.opaque number bytes) = number < 10 ^ 64
+IsSoundScalar (tree.opaque number bytes) = (number < 10 ^ 64) × AreBytes bytes
 IsSoundScalar _ = Unit {0}
 
 abbrev pub keys_of : Members → List (List ℕ)

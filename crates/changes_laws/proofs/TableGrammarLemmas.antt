@@ -19,7 +19,7 @@ use Rattle.changes_tables.specs.NamesOfColumns.{are_distinct, is_name, are_names
 use Rattle.changes_tables.specs.ShownColumns.{ColumnView}
 use Rattle.changes_tables.specs.ColumnParts.{ColumnLists, lists_of, part_of, type_of, parts_after, column_names, column_parts}
 use Rattle.changes_tables.specs.ColumnsShown.{IsColumn}
-use Rattle.changes_tables.specs.MemberTexts.{IsJsonIn, IsMemberJson}
+use Rattle.changes_tables.specs.MemberTexts.{IsMemberJson}
 use Rattle.changes_tables.specs.MemberTexts as members
 use Rattle.changes_tables.specs.declared.columns.Shown.{Shown}
 use Rattle.changes_tables.specs.declared.columns.Shown.TheVariants as shown

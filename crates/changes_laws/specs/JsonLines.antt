@@ -5,7 +5,7 @@ use Rattle.wire_buf.specs.Encoding.{AreBytes}
 use Rattle.events_frames.specs.Headers.{Header}
 use Rattle.feed_checks.specs.Kinds.{Gtid, Anonymous, Numbered, Tagged}
 use Rattle.feed_transactions.specs.Changes.{Content, OfRows, OfStatement, EventChange}
-use Rattle.changes_origins.specs.GtidJson.{TaggedGtid}
+use Rattle.changes_origins.specs.TaggedGtids.{TaggedGtid}
 use Rattle.changes_lines.specs.RowJson.{CellJson}
 use Rattle.changes_lines.specs.ChangeLines.{rows_of_all}
 use Rattle.changes_lines.specs.FactMembers.{TransactionFacts}
@@ -58,12 +58,12 @@ AreLoggedFacts a f = IsLoggedNumber a.begin (Some f.begin) × IsLoggedNumber a.t
 abbrev pub AreLoggedRows : AddedMembers → List EventChange → Type 0
 AreLoggedRows a changes = IsLoggedNumber a.row (Some (rows_of_all changes))
 
--- a GTID without a tag
-abbrev pub IsUntaggedGtid : Option Gtid → Type 0
-IsUntaggedGtid None = ⊤
-IsUntaggedGtid (Some Anonymous) = ⊤
-IsUntaggedGtid (Some (Numbered uuid number)) = AreBytes uuid
-IsUntaggedGtid (Some (Tagged body)) = ⊥
+-- a GTID, whose UUID is bytes
+abbrev pub IsLoggedGtid : Option Gtid → Type 0
+IsLoggedGtid None = ⊤
+IsLoggedGtid (Some Anonymous) = ⊤
+IsLoggedGtid (Some (Numbered uuid number)) = AreBytes uuid
+IsLoggedGtid (Some (Tagged body)) = ⊤
 
 -- letters, digits and underscore
 abbrev pub tag_characters : List ℕ

@@ -1,6 +1,5 @@
 -- Rows of one image whose cells are all short.
 use Rattle.std.proofs.Common.{◌≡◌, ◌≤◌, ◌<◌, ◌+◌, ◌*◌, ℕ, List, [], ◌∷◌, ◌++◌, length, take, refl, sym, ap, ◌∙◌, append_assoc, arith}
-use Rattle.std.proofs.Math.Seq.{take-append-add}
 use Rattle.std.proofs.lemmas.List.{append-nil, length-append, length-drop, length-take, length-take-le, take-append-le, take-take}
 use Rattle.rows_cells.specs.Images.{ColumnValue, ImageShape, image_at}
 use Rattle.rows_cells.specs.declared.image.ImageColumn.{ImageColumn}

@@ -13,7 +13,7 @@ use Rattle.rows_cells.specs.declared.image.ImageField.{ImageField}
 use Rattle.changes_tables.specs.ShownColumns.{ColumnView}
 use Rattle.changes_cells.specs.CellJson.{IsCellJson}
 use Rattle.changes_cells.specs.FieldJson.{AppendsCell}
-use Rattle.changes_lines.specs.RowJson.{CellJson, AreCellsJson, column_at, member_json, members_json, more_members, object_json, IsBefore, IsUpdate}
+use Rattle.changes_lines.specs.RowJson.{CellJson, column_at, member_json, members_json, IsUpdate}
 use Rattle.changes_lines.specs.RowJson as update
 use Rattle.changes_lines.specs.ReadCells.{GivesJson, members_after, separator_after, separator_byte, separator_end}
 use Rattle.changes_lines.specs.declared.members.Separator.{Separator}

@@ -4,6 +4,7 @@ use Rattle.std.specs.Fmt.{decimal}
 use Rattle.events_frames.specs.Events.{header_size_field}
 use Rattle.events_frames.specs.HeaderFields.{header_field}
 use Rattle.changes_tables.specs.MemberTexts.{utf8_json}
+use Rattle.changes_origins.specs.TaggedGtids.{IsTaggedTime}
 use Rattle.changes_origins.specs.declared.added_members.AddedMembers.{AddedMembers}
 use Rattle.changes_lines.specs.declared.event_facts.EventFacts.{EventFacts}
 
@@ -82,13 +83,19 @@ facts_of s = record { begin = s.begin; ts_ms = s.ts_ms; xid = s.xid; thread_id =
 abbrev pub query_in : EventFacts → Option (List ℕ)
 query_in s = cond s.has_query (Some s.query.items) None
 
--- What it has after it observed an event of this type and body. It isn't stated which time a tagged GTID has.
+-- what it has after it observed an event of this type and body
 pub record ObservesType (type : ℕ) (old : EventFacts) (e body : List ℕ) (new : EventFacts) : Type 0 where
   pub gtid : (type == 33 || type == 34) ≡ true → (new.gtid_start ≡ start_of e) × (new.gtid_time ≡ commit_time body)
-  pub tagged : (type == 42) ≡ true → new.gtid_start ≡ start_of e
+  pub tagged : (type == 42) ≡ true → (new.gtid_start ≡ start_of e) × IsTaggedTime body new.gtid_time
   pub no_gtid : (type == 33 || (type == 34 || type == 42)) ≡ false → (new.gtid_start ≡ old.gtid_start) × (new.gtid_time ≡ old.gtid_time)
   pub query : (type == 29 && old.added.query) ≡ true → query_in new ≡ Some (drop 1 body)
   pub no_query : (type == 29 && old.added.query) ≡ false → query_in new ≡ query_in old
+
+-- What it has after memory ran out for the statement of an event: none.
+pub record LosesQuery (old : EventFacts) (e : List ℕ) (new : EventFacts) : Type 0 where
+  pub type : (header_field 4 1 e == 29 && old.added.query) ≡ true
+  pub gtid : (new.gtid_start ≡ old.gtid_start) × (new.gtid_time ≡ old.gtid_time)
+  pub query : query_in new ≡ None
 
 abbrev pub Observes : EventFacts → List ℕ → List ℕ → EventFacts → Type 0
 Observes old e body new = ObservesType (header_field 4 1 e) old e body new

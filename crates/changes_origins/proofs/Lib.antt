@@ -1,2 +1,4 @@
 pub mod AppendLemmas
+mod TaggedLemmas
+pub mod TaggedDecisions
 mod Utf8Lemmas

@@ -4,24 +4,19 @@ use Rattle.std.specs.Fmt.{decimal}
 use Rattle.feed_checks.specs.Kinds.{Gtid, Anonymous, Numbered, Tagged}
 use Rattle.feed_transactions.specs.TransactionTexts.{uuid_text}
 use Rattle.changes_writers.specs.Base64Texts.{base64_object}
-
--- a GTID with a tag
-pub record TaggedGtid : Type 0 where
-  pub uuid : List ℕ
-  pub tag : List ℕ
-  pub number : ℕ
+use Rattle.changes_origins.specs.TaggedGtids.{TaggedGtid, IsTaggedGtid}
 
 -- a tagged GTID as a string; the Base64 of its event's body if that can't be read
 abbrev pub tagged_json : List ℕ → Option TaggedGtid → List ℕ
 tagged_json body None = base64_object body
 tagged_json body (Some g) = 34 ∷ (uuid_text g.uuid ++ 58 ∷ (g.tag ++ 58 ∷ (decimal g.number ++ 34 ∷ [])))
 
--- a GTID as a string; null if it is anonymous or there is none. Which GTID the body of a tagged one has isn't stated.
+-- a GTID as a string; null if it is anonymous or there is none
 abbrev pub IsGtidJson : Option Gtid → List ℕ → Type 0
 IsGtidJson None x = x ≡ codes "null"
 IsGtidJson (Some Anonymous) x = x ≡ codes "null"
 IsGtidJson (Some (Numbered uuid number)) x = x ≡ 34 ∷ (uuid_text uuid ++ 58 ∷ (decimal number ++ 34 ∷ []))
-IsGtidJson (Some (Tagged body)) x = (g : Option TaggedGtid) × (x ≡ tagged_json body g)
+IsGtidJson (Some (Tagged body)) x = (g : Option TaggedGtid) × IsTaggedGtid body g × (x ≡ tagged_json body g)
 
 -- the JSON of a GTID was appended
 pub record AppendsGtid (g : Option Gtid) (old new : List ℕ) : Type 0 where

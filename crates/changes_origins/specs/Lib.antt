@@ -1,1 +1,3 @@
+pub mod TaggedGtids
+pub mod TaggedViews
 pub mod GtidJson

@@ -17,6 +17,7 @@ use Rattle.feed_change_log.specs.declared.filter.Filter.{Filter}
 use Rattle.changes_commands.specs.declared.output.Failure.TheVariants as failed
 use Rattle.changes_lines.specs.ChangeLines.{ChangeJson, AreLines, with_ends, transaction_lines}
 use Rattle.changes_origins.specs.GtidJson.{IsGtidJson, tagged_json}
+use Rattle.changes_origins.proofs.TaggedDecisions.{tagged_known}
 use Rattle.changes_lines.specs.RecordedLines.{IsDoneJson, IsLikeJson, added_of, facts_in, filter_of, has_some, members_of, options_of}
 use Rattle.changes_lines.specs.WrittenLines.{is_by_transaction}
 use Rattle.changes_origins.specs.declared.added_members.AddedMembers.{AddedMembers}
@@ -97,7 +98,7 @@ some_gtid : (g : Option Gtid) → (x : List ℕ) × IsGtidJson g x
 some_gtid None = (codes "null", refl)
 some_gtid (Some Anonymous) = (codes "null", refl)
 some_gtid (Some (Numbered uuid number)) = (_, refl)
-some_gtid (Some (Tagged body)) = (tagged_json body None, (None, refl))
+some_gtid (Some (Tagged body)) = let g = tagged_known body in (tagged_json body g.0, (g.0, g.1, refl))
 
 no_lines : (by : Bool) (file : List ℕ) (t : Committed) (gtid more : List ℕ) → transaction_lines by file t gtid more [] ≡ []
 unfolding with_ends

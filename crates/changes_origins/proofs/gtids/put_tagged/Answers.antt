@@ -20,7 +20,7 @@ returns g c =
     let t7 = text_in c.put-4.new.self in
     on_ok_weaker c.put-4.result (λ e. record {
       gtid = 34 ∷ (uuid ++ 58 ∷ (tag ++ 58 ∷ (number ++ 34 ∷ [])));
-      is = (Some (record { uuid = c.in-Some.gtid.uuid; tag = tag; number = c.in-Some.gtid.number }), refl);
+      is = (Some (record { uuid = c.in-Some.gtid.uuid; tag = tag; number = c.in-Some.gtid.number }), c.in-Some.ensures, refl);
       appended = appended_both (text_in c.args.text.now) t1 t7 (34 ∷ []) (uuid ++ 58 ∷ (tag ++ 58 ∷ (number ++ 34 ∷ []))) c.in_ok-put.ensures.ok
           (appended_both t1 t2 t7 uuid (58 ∷ (tag ++ 58 ∷ (number ++ 34 ∷ []))) c.in_ok-put_uuid.ensures
           (appended_both t2 t3 t7 (58 ∷ []) (tag ++ 58 ∷ (number ++ 34 ∷ [])) c.in_ok-put-2.ensures.ok
