@@ -1,4 +1,4 @@
-//! The constants and fields of MySQL's packets that no program needs, and the laws of all encodings.
+//! The constants and fields of MySQL's packets that the feed does not need, and the laws of all encodings.
 //!
 //! Constants: commands, types of results, the options of a query's session. Fields: strings that a zero byte ends or that follow a
 //! length of four bytes, constants, sequences, constant bytes, fields of one of two formats, halves of a number, and integers whose
