@@ -44,6 +44,8 @@ pub struct Options<'w> {
     pub quotes_numbers: bool,
     /// The members that lines have on request.
     pub added: AddedMembers,
+    /// The maximum length of the events of a compressed transaction, in bytes.
+    pub max_transaction: u32,
     pub range: Range,
     pub databases: Vec<&'w [u8]>,
     /// Tables as `database.table`.
@@ -52,11 +54,14 @@ pub struct Options<'w> {
     pub files: Vec<&'w str>,
 }
 
+/// The maximum length of the events of a compressed transaction, if no option says it: 1 GiB.
+const USUAL_MAX_TRANSACTION: u32 = 1 << 30;
+
 /// What an option takes.
 #[derive(Clone, Copy)]
 enum Takes {
     Nothing,
-    Position,
+    Number,
     Value,
     /// A value that may begin with a minus.
     SignedValue,
@@ -110,29 +115,36 @@ const WITH: Known = Known {
     help: "more members of each line: begin, ts_ms, xid, thread_id, query, row, or all",
 };
 
+const MAX_TRANSACTION: Known = Known {
+    takes: Takes::Number,
+    name: "max-transaction",
+    value: "BYTES",
+    help: "the maximum length of the events of a compressed transaction; 1073741824, which is 1 GiB, if it isn't given",
+};
+
 const START: Known = Known {
-    takes: Takes::Position,
+    takes: Takes::Number,
     name: "start-position",
     value: "POSITION",
     help: "begin after the transaction of the first log that ends here",
 };
 
 const STOP: Known = Known {
-    takes: Takes::Position,
+    takes: Takes::Number,
     name: "stop-position",
     value: "POSITION",
     help: "end with the transaction of the last log that ends here, or before",
 };
 
 const FIRST_EVENT: Known = Known {
-    takes: Takes::Position,
+    takes: Takes::Number,
     name: "start-position",
     value: "POSITION",
     help: "begin with the first event of the first log at this position or after it",
 };
 
 const LAST_EVENT: Known = Known {
-    takes: Takes::Position,
+    takes: Takes::Number,
     name: "stop-position",
     value: "POSITION",
     help: "end before the first event of the last log at this position or after it",
@@ -204,6 +216,7 @@ const JSON: KnownCommand = KnownCommand {
         CHARACTER_SET,
         NUMBERS_AS_STRINGS,
         WITH,
+        MAX_TRANSACTION,
         START,
         STOP,
         FROM_TIME,
@@ -220,7 +233,17 @@ const CHECK: KnownCommand = KnownCommand {
     name: "check",
     about: "Says whether logs are whole, and where they end; counts the transactions that options select",
     options: &[
-        AS_JSON, START, STOP, FROM_TIME, TO_TIME, TIME_ZONE, DATABASE, TABLE, EXCLUDED, FILES,
+        AS_JSON,
+        MAX_TRANSACTION,
+        START,
+        STOP,
+        FROM_TIME,
+        TO_TIME,
+        TIME_ZONE,
+        DATABASE,
+        TABLE,
+        EXCLUDED,
+        FILES,
     ],
 };
 
@@ -245,7 +268,7 @@ fn argument<'a>(alloc: Global, known: Known) -> Arg<'a> {
     let argument = Arg::new(alloc, known.name).help(known.help);
     match known.takes {
         Takes::Nothing => argument.long(known.name).action(ArgAction::SetTrue),
-        Takes::Position => argument
+        Takes::Number => argument
             .long(known.name)
             .value_name(known.value)
             .action(ArgAction::Set)
@@ -487,6 +510,7 @@ impl<'w> Options<'w> {
             character_set: None,
             quotes_numbers: matches!(task, Task::Json) && matches.get_flag(NUMBERS_AS_STRINGS.name),
             added: AddedMembers::NONE,
+            max_transaction: USUAL_MAX_TRANSACTION,
             range,
             databases: Vec::new(alloc),
             tables: Vec::new(alloc),
@@ -514,6 +538,11 @@ impl<'w> Options<'w> {
         if let Task::Json = self.task {
             self.character_set = character_set_of(matches)?;
             self.added = added_of(matches)?;
+        }
+        if let Task::Json | Task::Check = self.task
+            && let Some(max) = matches.get_one(MAX_TRANSACTION.name)
+        {
+            self.max_transaction = max;
         }
         add_names(matches, "database", &mut self.databases)?;
         add_tables(matches, "table", &mut self.tables)?;
