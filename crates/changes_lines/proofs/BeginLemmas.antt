@@ -1,13 +1,16 @@
 -- What all lines of a transaction have, and the line of a whole transaction.
-use Rattle.std.proofs.Common.{◌≡◌, ◌<◌, ◌-◌, ℕ, true, false, List, [], ◌∷◌, ◌++◌, length, drop, map, Option, Some, None, Result, Ok, Err, refl, ap, ◌∙◌, append_assoc, arith}
-use Rattle.std.specs.Prelude.{⊤, OnOk, codes, unwrap_or}
+use Rattle.std.proofs.Common.{◌≡◌, ◌<◌, ◌-◌, ℕ, true, false, List, [], ◌∷◌, ◌++◌, length, drop, map, Option, Some, None, Result, Ok, Err, refl, sym, ap, ◌∙◌, append_assoc, arith}
+use Rattle.std.specs.Prelude.{⊤, OnOk, codes, is_some, unwrap_or}
 use Rattle.std.specs.Borrow.{Bor}
 use Rattle.std.specs.Slice.{IsGetRangeResult}
 use Rattle.std.proofs.lemmas.List.{length-drop, take_all}
 use Rattle.events_frames.specs.Headers.{Header}
-use Rattle.feed_checks.specs.Kinds.{Gtid}
+use Rattle.feed_checks.specs.Kinds.{Gtid, Anonymous, Numbered, Tagged}
 use Rattle.feed_text.specs.Buffers.{text_in}
 use Rattle.feed_transactions.specs.Changes.{Committed}
+use Rattle.feed_transactions.specs.KeptGtids.{has_uuid, numbered_in}
+use Rattle.changes_origins.specs.GtidJson.{IsGtidJson}
+use Rattle.std.proofs.lemmas.Bool.{true≢false}
 use Rattle.changes_lines.specs.ChangeLines.{ChangeJson, objects, transaction_line, with_ends}
 use Rattle.changes_lines.specs.Origins.{header_members, origin_members, AppendsOrigin}
 use Rattle.changes_lines.specs.RecordedLines.{HaveRows}
@@ -18,6 +21,20 @@ use Rattle.changes_lines.specs.declared.lines.Lines.{Lines}
 pub on_any : {A E : Type 0} (r : Result ⊤ E) → A → OnOk r A
 on_any (Ok x) a = a
 on_any (Err e) a = tt
+
+-- no GTID, and an anonymous one, are null
+pub no_uuid_json : (g : Option Gtid) → has_uuid g ≡ false → IsGtidJson g (codes "null")
+no_uuid_json None h = refl
+no_uuid_json (Some Anonymous) h = refl
+no_uuid_json (Some (Numbered uuid number)) h = absurd (true≢false h)
+no_uuid_json (Some (Tagged body)) h = absurd (true≢false h)
+
+-- a GTID with a UUID and a number
+pub numbered_is : (g : Option Gtid) (uuid : List ℕ) (number : ℕ) → Some (uuid, number) ≡ numbered_in g → g ≡ Some (Numbered uuid number)
+numbered_is None uuid number h = absurd (true≢false (ap is_some h))
+numbered_is (Some Anonymous) uuid number h = absurd (true≢false (ap is_some h))
+numbered_is (Some (Tagged body)) uuid number h = absurd (true≢false (ap is_some h))
+numbered_is (Some (Numbered u n)) uuid number h = ap (λ (o : Option (List ℕ × ℕ)). (let p : List ℕ × ℕ = unwrap_or o (uuid, number) in Some (Numbered p.0 p.1))) (sym h)
 
 -- the members of a changed row or a statement
 pub begun_alone : (s : Lines) (file more : List ℕ) (t : Committed) (g : Option Gtid) (position : ℕ) (before mid : List ℕ) → s.by_transaction ≡ false → before ≡ [] → g ≡ t.gtid → position ≡ t.commit.log_pos → AppendsOrigin g file position before mid → text_in s.origin ≡ mid ++ more → Begins s file t more

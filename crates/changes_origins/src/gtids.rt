@@ -3,7 +3,7 @@
 ghost use Rattle.std.specs.Prelude.{◌≡◌, ◌++◌, ◌∷◌, Some, OnOk, option_map};
 ghost use Rattle.hex.specs.Hex.{encode_lower};
 ghost use Rattle.feed_checks.specs.KindViews.{gtid_view};
-ghost use Rattle.feed_checks.specs.Kinds.{Tagged};
+ghost use Rattle.feed_checks.specs.Kinds.{Numbered, Tagged};
 ghost use Rattle.feed_text.specs.Buffers.{text_in};
 ghost use Rattle.feed_transactions.specs.TransactionTexts.{uuid_text};
 ghost use Rattle.changes_origins.specs.GtidJson.{AppendsGtid};
@@ -46,6 +46,23 @@ fn put_tagged<A: Allocator>(body: &[u8], text: &mut TextBuffer<A>) -> Result<(),
     text.put_text(gtid.tag)?;
     text.put(b':')?;
     text.put_number(gtid.number)?;
+    text.put(b'"')
+}
+
+/// Appends a GTID with this UUID and this number as a string.
+///
+/// - `AllocError`: out of memory; a part of it may be appended.
+pub fn put_numbered_gtid<A: Allocator>(
+    uuid: &[u8; 16],
+    number: u64,
+    text: &mut TextBuffer<A>,
+) -> Result<(), AllocError>
+    ensures { OnOk result (AppendsGtid (Some (Numbered uuid.now number)) (text_in text.old) (text_in text.new)) }
+{
+    text.put(b'"')?;
+    put_uuid(uuid, text)?;
+    text.put(b':')?;
+    text.put_number(number)?;
     text.put(b'"')
 }
 

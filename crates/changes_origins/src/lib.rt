@@ -7,6 +7,6 @@ mod tagged_gtid;
 mod utf8;
 
 pub use added_members::AddedMembers;
-pub use gtids::put_gtid;
+pub use gtids::{put_gtid, put_numbered_gtid};
 pub use tagged_gtid::tagged_commit_time;
 pub use utf8::put_utf8;

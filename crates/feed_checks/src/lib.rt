@@ -18,7 +18,7 @@ mod verdict;
 pub use description_in_force::TABLE_MAP_POST_HEADER_LEN;
 pub use event_checker::EventChecker;
 pub use event_gate::{CheckedEvent, EventGate};
-pub use event_kind::{EventKind, Gtid, on_rotate, read_rows, read_table_map};
+pub use event_kind::{EventKind, Gtid, on_rotate, read_rows, read_table_map, uuid_and_number};
 pub use log_reading::{read_magic_number, verdict_of};
 pub use outer_checks::split_parts;
 pub use statement_kind::StatementKind;
