@@ -10,7 +10,9 @@ use Rattle.feed_checks.specs.Kinds.{Gtid, Anonymous, Numbered, Tagged}
 use Rattle.feed_checks.specs.declared.verdict.Verdict.{Verdict}
 use Rattle.feed_transactions.specs.Changes.{Committed}
 use Rattle.feed_transactions.specs.InterruptedWrites.{IsInterruptedWrite, WritesPrefix}
+use Rattle.feed_transactions.specs.TableFilters.{takes_change as is_of_taken}
 use Rattle.feed_transactions.specs.Waiting.{bytes_of, WritesSome}
+use Rattle.feed_transactions.specs.declared.table_filter.TableFilter.{TableFilter}
 use Rattle.feed_transactions.proofs.WaitingLemmas.{writes_none}
 use Rattle.feed_change_log.specs.Filters.{table_filter_of, takes_change, takes_transaction}
 use Rattle.feed_change_log.specs.declared.filter.Filter.{Filter}
@@ -34,7 +36,9 @@ use Rattle.program_changes.specs.declared.changes.LineSink.{LineSink}
 -- the lines of the newest transaction, of which a recorder has the selected changes
 pub newest_lines : (s : JsonRecorder) (f : Filter) (by : Bool) (file : List ℕ) (t : Committed) (gtid : List ℕ) (d : IsDoneJson s t) → IsGtidJson t.gtid gtid → filter_of s ≡ table_filter_of f → (options : TableOptions) → options_of s ≡ options → (added : AddedMembers) → added_of s ≡ added
     → AreLines options added by file t (filter (takes_change f) t.changes) (transaction_lines by file t gtid (members_of s) d.opened.changes)
-newest_lines s f by file t gtid d is same options shown added asked = rw (← same, ← shown, ← asked) (d.opened.changes, d.opened.are, (gtid, is, (facts_in s, refl)))
+newest_lines s f by file t gtid d is same options shown added asked =
+    subst (λ (x : TableFilter). AreLines options added by file t (filter (is_of_taken x) t.changes) (transaction_lines by file t gtid (members_of s) d.opened.changes)) same
+    (rw (← shown, ← asked) (d.opened.changes, d.opened.are, (gtid, is, (facts_in s, refl))))
 
 zip_one : (R : Selected → List ℕ → Type 0) (m : List Selected) (texts : List (List ℕ)) (s : Selected) (x : List ℕ) → AllZip R m texts → R s x → AllZip R (m ++ s ∷ []) (texts ++ x ∷ [])
 zip_one R [] [] s x h k = (k, tt)
