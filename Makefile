@@ -12,7 +12,7 @@ try: ## report a small log without a proof, in half a minute; LOG=FILE reports a
 test: ## the gate, which proves everything from nothing and runs every check, in about an hour
 	@checks/all
 
-quick: ## run the tests and the tables of cases without proofs, in a few minutes; CRATE=NAME runs those of one crate
+quick: ## run tests, tables of cases and programs without proofs, in a few minutes; CRATE=library_tests runs the tests alone
 	@checks/cases/quick $(CRATE)
 
 install: ## prove, build and install PROGRAMS in PREFIX/bin, with their manual pages (PREFIX=/usr/local)

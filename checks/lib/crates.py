@@ -62,10 +62,14 @@ def at_once(memory):
     return max(1, min(len(os.sched_getaffinity(0)), found // memory))
 
 
-def with_program(room, name, libraries, sources):
-    """Copies the crates to a folder, with one more program, and returns the program's folder there."""
-    copy = f"mkdir '{room}/.git' && tar --exclude=out -cf - crates crates.txt HANDLES | tar -xf - -C '{room}'"
-    subprocess.run(copy, shell=True, check=True, cwd=ROOT)
+def copy(room):
+    """Copies the crates to a folder."""
+    command = f"mkdir '{room}/.git' && tar --exclude=out -cf - crates crates.txt HANDLES | tar -xf - -C '{room}'"
+    subprocess.run(command, shell=True, check=True, cwd=ROOT)
+
+
+def add(room, name, libraries, sources):
+    """Adds a crate to a copy of the crates, and returns the crate's folder there."""
     folder = Path(room) / "crates" / name
     (folder / "src").mkdir(parents=True)
     for file, text in sources.items():
@@ -73,3 +77,9 @@ def with_program(room, name, libraries, sources):
     with (Path(room) / "crates.txt").open("a") as lines:
         lines.write(f"{name}: {libraries}\n")
     return folder
+
+
+def with_program(room, name, libraries, sources):
+    """Copies the crates to a folder, with one more program, and returns the program's folder there."""
+    copy(room)
+    return add(room, name, libraries, sources)

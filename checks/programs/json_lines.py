@@ -1,6 +1,9 @@
 """What `binlog-changes json` prints, and that the lines of a MariaDB server's logs give its tables: parts of `changes`."""
 import collections
+import itertools
 import json
+import re
+import shutil
 import struct
 import subprocess
 import sys
@@ -158,6 +161,17 @@ def compare_keys(lines):
     expect(rare == [RARE], f"rare values: {rare}")
 
 
+def compare_gtids(lines, paths):
+    """Compares the GTIDs of the lines with those that mariadb-binlog prints, and their statements with its annotations."""
+    if shutil.which(SERVER.PRINT[0]) is None:
+        return
+    printed = subprocess.run([*SERVER.PRINT, "--base64-output=decode-rows", *paths], capture_output=True, check=True).stdout
+    gtids = [it.decode() for it in re.findall(rb"\tGTID (\d+-\d+-\d+)", printed)]
+    found = [gtid for gtid, _ in itertools.groupby(it["gtid"] for it in lines)]
+    expect(found == gtids, f"GTIDs: {found} and not {gtids}")
+    expect(all("query" in it for it in lines if it["type"] != "statement"), "rows without their statement")
+
+
 def with_server(program, daemon, folder):
     """The lines of a server's logs give its tables; returns their number."""
     server = SERVER.Server(daemon, folder)
@@ -168,17 +182,18 @@ def with_server(program, daemon, folder):
         server.ask(KEYS)
         statements, wanted_texts = texts(server)
         server.ask("SET NAMES utf8mb4; SET sql_mode = '';" + statements)
+        server.ask("SET GLOBAL log_bin_compress = ON; SET GLOBAL log_bin_compress_min_len = 10;")
+        server.ask(SERVER.script("compressed"))
         server.ask("SET GLOBAL binlog_checksum = NONE;")
         server.ask(SERVER.script("unchecked"))
-        wanted = {**server_rows(server, "checked"), **server_rows(server, "unchecked")}
+        wanted = {}
+        for database in ("checked", "compressed", "unchecked"):
+            wanted.update(server_rows(server, database))
     finally:
         server.stop()
-    paths = []
-    (folder / "mysql").mkdir()
-    for path in sorted(folder.glob("log.0*")):
-        paths.append(folder / "mysql" / path.name)
-        paths[-1].write_bytes(SERVER.as_mysql_has_it(path)[0])
-    lines = lines_of(program, *paths)
+    paths = sorted(folder.glob("log.0*"))
+    lines = lines_of(program, *paths, "--with", "query")
+    compare_gtids(lines, paths)
     shapes = [it["data"] for it in lines if it.get("table") == "shapes"]
     expect([{name: it[name] for name in SHAPE} for it in shapes] == [SHAPE], f"shapes: {shapes}")
     compare_keys(lines)

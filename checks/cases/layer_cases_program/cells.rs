@@ -1,7 +1,8 @@
 //! Plain values of cells, quoted bytes, and opaque values of JSON documents. The texts of cells are those of rows.
 
 use crate::words::{Fault, bytes_of, done, only_bytes_of, put_rest, put_type};
-use feed_text::{put_value, quote};
+use feed_documents::quote;
+use feed_text::put_value;
 use rows_cells::{BinlogValue, BinlogValueCtx};
 use rows_errors::RowsError;
 use rows_jsonb::{JsonDom, JsonOpaque, JsonScalar, Value as JsonbValue};

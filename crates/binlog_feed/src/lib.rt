@@ -4,8 +4,8 @@
 //! laws and worked examples, so that no program waits for the proofs of these. What the parts have for one another, such as the
 //! recorders of transactions and the forms in which a `TextBuffer` writes documents, isn't re-exported. `feed_transactions` has the
 //! report of a file, `feed_change_log` transactions as values, `feed_replication` requests, followers and servers,
-//! `feed_change_follower` the follower that lends transactions, `feed_text` the text of values, and `feed_resume` the complete
-//! transactions of a truncated text.
+//! `feed_change_follower` the follower that lends transactions, `feed_text` and `feed_documents` the text of values, and
+//! `feed_resume` the complete transactions of a truncated text.
 #![tactic(auto)]
 
 mod check_laws;
@@ -29,12 +29,13 @@ pub use feed_change_log::{
     TableRows, TakenChanges, What,
 };
 pub use feed_checks::{Gtid, Verdict, name_of, status};
+pub use feed_documents::{put_json, quote};
 pub use feed_replication::{
     Follower, PayloadFormat, Refusal, RequestError, Served, Step, rehearse, rehearse_growing,
     rehearse_semi, request, serve, serve_semi,
 };
 pub use feed_resume::{Keeper, kept};
-pub use feed_text::{TextBuffer, put_cell, put_cell_ref, put_decimal, put_json, put_value, quote};
+pub use feed_text::{TextBuffer, put_cell, put_cell_ref, put_decimal, put_value};
 pub use feed_transactions::report;
 pub use rows_cells::{BinlogValue, CellRef, ImageCells, ImagePlan, RowPart, RowPlan, RowsCursor};
 pub use rows_errors::{JsonbError, RowsError};

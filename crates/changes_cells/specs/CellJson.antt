@@ -15,7 +15,7 @@ use Rattle.changes_writers.specs.Base64Texts.{base64_object, base64_string}
 use Rattle.changes_writers.specs.FloatTexts.{IsDoubleJson, IsFloatJson}
 use Rattle.changes_writers.specs.JsonStrings.{json_string}
 use Rattle.changes_writers.specs.TimeStrings.{date_json}
-use Rattle.feed_text.specs.DocumentForms.{IsDocumentIn, IsUpdatesIn}
+use Rattle.feed_documents.specs.DocumentForms.{IsDocumentIn, IsUpdatesIn}
 use Rattle.feed_writers.specs.declared.times.Clock.{Clock}
 use Rattle.feed_writers.specs.declared.times.Day.{Day}
 use Rattle.rows_cells.specs.declared.format.CellFormat.{CellFormat}

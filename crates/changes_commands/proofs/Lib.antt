@@ -1,3 +1,6 @@
+mod EventLineLemmas
+mod EventPrintLemmas
 mod EventWalkLemmas
+mod GrowingLemmas
 mod MemberNameLemmas
 mod ZoneLemmas

@@ -1,3 +1,5 @@
+pub mod EventLines
 pub mod EventWalks
+pub mod GrowingTexts
 pub mod MemberNames
 pub mod TimeZones

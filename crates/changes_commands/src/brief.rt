@@ -1,9 +1,20 @@
 //! What the bodies of events say, in brief.
 
+ghost use Rattle.std.specs.Prelude.{◌≡◌, false, option_map};
+ghost use Rattle.events_frames.specs.EventParts.{event_parts_of};
+ghost use Rattle.events_frames.specs.ReadingViews.{reading_of};
+ghost use Rattle.feed_checks.specs.Kinds.{kind_by};
+ghost use Rattle.feed_checks.specs.KindViews.{kind_view};
+ghost use Rattle.rows_table_map.specs.MapViews.{map_of};
+ghost use Rattle.changes_commands.specs.EventLines.{is_named, IsReadAs};
+ghost use Rattle.changes_commands.specs.GrowingTexts.{Grows};
+
 use crate::events::Names;
 use crate::text::Text;
-use events_frames::{EventParts, EventStreamReader, QueryTexts, RotateEvent, read_body};
-use feed_checks::EventKind;
+use byteorder::{ByteOrder, LittleEndian};
+use events_frames::{EventError, EventParts, EventStreamReader, RotateEvent, read_body};
+use events_mariadb::MariadbType;
+use feed_checks::{EventKind, Verdict};
 use rows_constants::EventType;
 use rows_event_body::RowsEvent;
 use rows_table_map::TableMapEvent;
@@ -11,52 +22,86 @@ use rows_table_map::TableMapEvent;
 /// How many bytes of a statement are shown, at most.
 const SHOWN_OF_STATEMENT: usize = 60;
 
+/// The offset of the domain in the body of a GTID_EVENT of MariaDB, after the sequence number.
+const DOMAIN_OFFSET: usize = 8;
+
 /// Appends the beginning of a statement, as a string.
-fn put_statement(texts: QueryTexts<'_>, out: &mut Text) {
-    match texts.query.get(..SHOWN_OF_STATEMENT) {
+fn put_statement(statement: &[u8], out: &mut Text)
+    ensures { Grows out.old out.new }
+{
+    match statement.get(..SHOWN_OF_STATEMENT) {
         Some(first) => {
             out.name(first);
             out.words("..");
         }
-        None => out.name(texts.query),
+        None => out.name(statement),
+    }
+}
+
+/// Appends the GTID in the body of a GTID_EVENT of MariaDB, of this server.
+fn put_mariadb_gtid(server: u32, body: &[u8], out: &mut Text)
+    ensures { Grows out.old out.new }
+{
+    if body.len() < DOMAIN_OFFSET + 4 {
+        out.words("damaged");
+        return;
+    }
+    out.unsigned(u64::from(LittleEndian::read_u32(&body[DOMAIN_OFFSET..])));
+    out.label(b"-", u64::from(server));
+    out.label(b"-", LittleEndian::read_u64(body));
+}
+
+/// Appends what one of MariaDB's own events says.
+fn put_mariadb(mariadb_type: MariadbType, parts: &EventParts<'_>, out: &mut Text)
+    ensures { Grows out.old out.new }
+{
+    match mariadb_type {
+        MariadbType::GTID_EVENT => put_mariadb_gtid(parts.header().server_id(), parts.body(), out),
+        MariadbType::ANNOTATE_ROWS_EVENT => put_statement(parts.body(), out),
+        _ => {}
     }
 }
 
 /// Appends the names of a table.
-fn put_table(map: &TableMapEvent<'_>, out: &mut Text) {
+fn put_table(map: &TableMapEvent<'_>, out: &mut Text)
+    ensures { Grows out.old out.new }
+{
     out.name(map.database_name_raw());
     out.push(b'.');
     out.name(map.table_name_raw());
 }
 
 /// Appends the names of a table, its id and how many columns it has.
-fn put_map(map: &TableMapEvent<'_>, out: &mut Text) {
+fn put_map(map: &TableMapEvent<'_>, out: &mut Text)
+    ensures { Grows out.old out.new }
+{
     put_table(map, out);
-    out.words(", table ");
-    out.unsigned(map.table_id());
-    out.words(", columns ");
-    out.unsigned(map.columns_count());
+    out.label(b", table ", map.table_id());
+    out.label(b", columns ", map.columns_count());
 }
 
 /// Appends the table of rows.
-fn put_rows(reader: &EventStreamReader, rows: &RowsEvent<'_>, out: &mut Text) {
+fn put_rows(reader: &EventStreamReader, rows: &RowsEvent<'_>, out: &mut Text)
+    ensures { Grows out.old out.new }
+{
     if let Some(map) = reader.get_tme(rows.table_id()) {
         put_table(map, out);
         out.words(", ");
     }
-    out.words("table ");
-    out.unsigned(rows.table_id());
+    out.label(b"table ", rows.table_id());
 }
 
 /// Appends what an event of this kind says.
-fn put_kind(reader: &EventStreamReader, kind: &EventKind<'_>, out: &mut Text) {
+fn put_kind(reader: &EventStreamReader, kind: &EventKind<'_>, out: &mut Text)
+    ensures { Grows out.old out.new }
+{
     match kind {
         EventKind::Format => out.name(reader.get_fde().server_version_raw()),
         EventKind::NextGtid(gtid) => out.gtid(Some(*gtid)),
         EventKind::Begin => out.words("BEGIN"),
         EventKind::Commit => out.words("COMMIT"),
         EventKind::Rollback => out.words("ROLLBACK"),
-        EventKind::Statement(texts) => put_statement(*texts, out),
+        EventKind::Statement(texts) => put_statement(texts.query, out),
         EventKind::Map(map) => put_map(map, out),
         EventKind::Rows(rows) => put_rows(reader, rows, out),
         EventKind::RealRotate | EventKind::Ignored => {}
@@ -66,12 +111,16 @@ fn put_kind(reader: &EventStreamReader, kind: &EventKind<'_>, out: &mut Text) {
 }
 
 /// Whether the events of a table are listed.
-fn takes_map<N: Names>(names: &N, map: &TableMapEvent<'_>) -> bool {
+fn takes_map<N: Names>(names: &N, map: &TableMapEvent<'_>) -> bool
+    ensures { result ≡ N.tables names.now (map_of map.now).database (map_of map.now).table }
+{
     names.takes_table(map.database_name_raw(), map.table_name_raw())
 }
 
 /// Whether an event of this kind is listed: a table map and rows by their table, a statement by its schema, others always.
-fn is_taken<N: Names>(reader: &EventStreamReader, names: &N, kind: &EventKind<'_>) -> bool {
+fn is_taken<N: Names>(reader: &EventStreamReader, names: &N, kind: &EventKind<'_>) -> bool
+    ensures { result ≡ is_named (N.databases names.now) (N.tables names.now) (reading_of reader.now) (kind_view kind.now) }
+{
     match kind {
         EventKind::Map(map) => takes_map(names, map),
         EventKind::Rows(rows) => match reader.get_tme(rows.table_id()) {
@@ -84,12 +133,13 @@ fn is_taken<N: Names>(reader: &EventStreamReader, names: &N, kind: &EventKind<'_
 }
 
 /// Appends where the log goes on.
-fn put_rotate(body: &[u8], out: &mut Text) {
+fn put_rotate(body: &[u8], out: &mut Text)
+    ensures { Grows out.old out.new }
+{
     match read_body::<RotateEvent<'_>>(out.alloc(), (), body) {
         Ok(rotate) => {
             out.name(rotate.name_raw());
-            out.words(" at ");
-            out.unsigned(rotate.position());
+            out.label(b" at ", rotate.position());
         }
         Err(_) => out.words("damaged"),
     }
@@ -101,9 +151,16 @@ fn put_parts<N: Names>(
     names: &N,
     parts: &EventParts<'_>,
     out: &mut Text,
-) -> bool {
+) -> bool
+    ensures text { Grows out.old out.new }
+    ensures named { out.new.is_short ≡ false → result ≡ is_named (N.databases names.now) (N.tables names.now) (reading_of reader.now) (kind_by (reading_of reader.now).description (event_parts_of parts.now)) }
+{
     if parts.header().event_type_raw() == EventType::ROTATE_EVENT as u8 {
         put_rotate(parts.body(), out);
+        return true;
+    }
+    if let Some(mariadb_type) = MariadbType::of(parts.header().event_type_raw()) {
+        put_mariadb(mariadb_type, parts, out);
         return true;
     }
     match EventKind::of(out.alloc(), reader.get_fde(), parts) {
@@ -112,6 +169,10 @@ fn put_parts<N: Names>(
             let is_taken = is_taken(reader, names, &kind);
             drop(kind);
             is_taken
+        }
+        Err(Verdict::Memory) => {
+            out.run_short();
+            true
         }
         Err(_) => {
             out.words("damaged");
@@ -127,9 +188,16 @@ pub(crate) fn put_brief<N: Names>(
     names: &N,
     event: &[u8],
     out: &mut Text,
-) -> bool {
+) -> bool
+    ensures text { Grows out.old out.new }
+    ensures read { out.new.is_short ≡ false → IsReadAs (N.databases names.now) (N.tables names.now) (reading_of reader.old) (reading_of reader.new) event.now result }
+{
     match reader.read_slice(event) {
         Ok(parts) => put_parts(reader, names, &parts, out),
+        Err(EventError::Memory) => {
+            out.run_short();
+            true
+        }
         Err(_) => {
             out.words("damaged");
             true

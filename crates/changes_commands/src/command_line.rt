@@ -1,5 +1,7 @@
 //! The words of the command line.
 
+ghost use Rattle.std.specs.Prelude.{◌≡◌};
+
 use crate::member_names::members_in;
 use crate::time_zone::Zone;
 use changes_character_sets::CharacterSet;
@@ -347,6 +349,10 @@ pub enum Refused {
 }
 
 impl From<AllocError> for Refused {
+    ghost use Rattle.changes_commands.specs.declared.command_line.Refused.TheVariants.{Memory};
+
+    ghost from_gives = { λ _ r. r ≡ Memory };
+
     fn from(_error: AllocError) -> Refused {
         Refused::Memory
     }
@@ -517,6 +523,14 @@ impl<'w> Options<'w> {
             excluded: Vec::new(alloc),
             files: Vec::new(alloc),
         }
+    }
+
+    /// The same of other files.
+    pub fn reading<'n>(self, files: Vec<&'n str>) -> Options<'n>
+    where
+        'w: 'n,
+    {
+        Options { files, ..self }
     }
 
     /// Whether options select transactions.

@@ -35,9 +35,6 @@ pub struct Explanation {
     pub advice: &'static str,
 }
 
-/// The least type of an event that only MariaDB writes.
-const MARIADB_EVENT: u8 = 160;
-
 /// What bytes are that don't begin with the magic number, by the first of them.
 fn explain_no_log(first: &[u8]) -> Explanation {
     let (meaning, advice) = match first {
@@ -48,10 +45,6 @@ fn explain_no_log(first: &[u8]) -> Explanation {
         [0xfd, b'b', b'i', b'n'] => (
             "this binary log is encrypted: it begins with fd 62 69 6e",
             "fetch it decrypted, with mysqlbinlog --read-from-remote-server --raw",
-        ),
-        [0x1f, 0x8b, ..] => (
-            "this is a gzip file, and no binary log",
-            "unpack it first, with gunzip",
         ),
         _ => (
             meaning(Verdict::Mark),
@@ -91,25 +84,21 @@ fn explain_unshown(event_type: u8) -> Explanation {
 /// What a verdict means, and what can be done about it. `event_type` is the type of the event that stopped the reading, `first` are
 /// the first bytes of the log.
 pub fn explain(verdict: Verdict, event_type: Option<u8>, first: &[u8]) -> Explanation {
-    let is_mariadb = matches!(event_type, Some(number) if number >= MARIADB_EVENT);
     match (verdict, event_type) {
         (Verdict::Mark, _) => explain_no_log(first),
-        (Verdict::Unshown, Some(number)) if !is_mariadb => explain_unshown(number),
+        (Verdict::Unshown, Some(number)) => explain_unshown(number),
         _ => Explanation {
             meaning: meaning(verdict),
-            advice: advice(verdict, is_mariadb),
+            advice: advice(verdict),
         },
     }
 }
 
 /// What can be done about a verdict.
-fn advice(verdict: Verdict, is_mariadb: bool) -> &'static str {
+fn advice(verdict: Verdict) -> &'static str {
     match verdict {
         Verdict::Frame | Verdict::Checksum | Verdict::Body | Verdict::Size => {
             "fetch the log again from its server"
-        }
-        Verdict::Unshown | Verdict::UnknownKind if is_mariadb => {
-            "convert a MariaDB server's log with recipes/mariadb_log"
         }
         Verdict::Memory => "free memory, and run again",
         Verdict::Read | Verdict::Write => "check the file and the device, and run again",

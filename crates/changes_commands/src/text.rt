@@ -1,5 +1,8 @@
 //! Text that grows, for messages and JSON.
 
+ghost use Rattle.std.specs.Prelude.{◌≡◌, ◌∷◌, ◌++◌, ◌||◌, [], OnOk, true, false, is_err, length, take};
+ghost use Rattle.std.specs.Fmt.{decimal};
+
 use changes_origins::{put_gtid, put_utf8};
 use feed_checks::Gtid;
 use feed_text::TextBuffer;
@@ -17,8 +20,13 @@ pub struct Text {
 }
 
 impl Text {
+    ghost use Rattle.changes_commands.specs.GrowingTexts.{bytes_in, IsLonger, Grows};
+
     /// No text.
-    pub fn new(alloc: Global) -> Text {
+    pub fn new(alloc: Global) -> Text
+        ensures bytes { bytes_in result ≡ [] }
+        ensures whole { result.is_short ≡ false }
+    {
         Text {
             alloc,
             bytes: TextBuffer::new(alloc),
@@ -32,38 +40,63 @@ impl Text {
     }
 
     /// The bytes.
-    pub fn bytes(&self) -> &[u8] {
+    pub fn bytes(&self) -> &[u8]
+        ensures { result.now ≡ bytes_in self.now }
+    {
         self.bytes.as_slice()
     }
 
     /// How many bytes there are.
-    pub fn len(&self) -> usize {
+    pub fn len(&self) -> usize
+        ensures { result ≡ length (bytes_in self.now) }
+    {
         self.bytes.len()
     }
 
     /// Drops all bytes. Whether memory ran out stays.
-    pub fn clear(&mut self) {
+    pub fn clear(&mut self)
+        ensures bytes { bytes_in self.new ≡ [] }
+        ensures whole { self.new.is_short ≡ self.old.is_short }
+    {
         self.bytes.clear();
     }
 
     /// Drops the bytes from this index on.
-    pub fn truncate(&mut self, len: usize) {
+    pub fn truncate(&mut self, len: usize)
+        ensures bytes { bytes_in self.new ≡ take len (bytes_in self.old) }
+        ensures whole { self.new.is_short ≡ self.old.is_short }
+    {
         self.bytes.truncate(len);
     }
 
     /// Remembers that memory ran out, if it did.
-    fn note(&mut self, appended: Result<(), AllocError>) {
+    fn note(&mut self, appended: Result<(), AllocError>)
+        ensures bytes { bytes_in self.new ≡ bytes_in self.old }
+        ensures whole { self.new.is_short ≡ (self.old.is_short || is_err appended) }
+    {
         self.is_short |= appended.is_err();
     }
 
+    /// Remembers that memory ran out.
+    pub(crate) fn run_short(&mut self)
+        ensures bytes { bytes_in self.new ≡ bytes_in self.old }
+        ensures short { self.new.is_short ≡ true }
+    {
+        self.is_short = true;
+    }
+
     /// Appends a byte.
-    pub fn push(&mut self, byte: u8) {
+    pub fn push(&mut self, byte: u8)
+        ensures { IsLonger self.old self.new (byte ∷ []) }
+    {
         let appended = self.bytes.put(byte);
         self.note(appended);
     }
 
     /// Appends bytes.
-    pub fn put(&mut self, bytes: &[u8]) {
+    pub fn put(&mut self, bytes: &[u8])
+        ensures { IsLonger self.old self.new bytes.now }
+    {
         let appended = self.bytes.put_text(bytes);
         self.note(appended);
     }
@@ -75,12 +108,16 @@ impl Text {
     }
 
     /// Appends words.
-    pub fn words(&mut self, words: &str) {
+    pub fn words(&mut self, words: &str)
+        ensures { Grows self.old self.new }
+    {
         self.put(words.as_bytes());
     }
 
     /// Appends what a value is shown as to programmers.
-    pub fn debug<T: Debug>(&mut self, value: &T) {
+    pub fn debug<T: Debug>(&mut self, value: &T)
+        ensures { Grows self.old self.new }
+    {
         let mut shown = Vec::new(self.alloc);
         if write!(shown, "{value:?}").is_err() {
             self.is_short = true;
@@ -89,9 +126,19 @@ impl Text {
     }
 
     /// Appends an integer.
-    pub fn unsigned(&mut self, number: u64) {
+    pub fn unsigned(&mut self, number: u64)
+        ensures { IsLonger self.old self.new (decimal number) }
+    {
         let appended = self.bytes.put_number(number);
         self.note(appended);
+    }
+
+    /// Appends a label, and then an integer.
+    pub(crate) fn label(&mut self, label: &[u8], number: u64)
+        ensures { IsLonger self.old self.new (label.now ++ decimal number) }
+    {
+        self.put(label);
+        self.unsigned(number);
     }
 
     /// Appends a key of JSON that needs no escape, after a comma unless it is the first member: `,"key":`.
@@ -120,18 +167,24 @@ impl Text {
     }
 
     /// Appends a string of JSON.
-    pub fn string(&mut self, text: &str) {
+    pub fn string(&mut self, text: &str)
+        ensures { Grows self.old self.new }
+    {
         self.text(text.as_bytes());
     }
 
     /// Appends bytes as a string of JSON if they are UTF-8, and else as `{"base64":..}`.
-    pub fn text(&mut self, bytes: &[u8]) {
+    pub fn text(&mut self, bytes: &[u8])
+        ensures { Grows self.old self.new }
+    {
         let appended = put_utf8(bytes, &mut self.bytes);
         self.note(appended);
     }
 
     /// Appends a name as a string of JSON, with replacement characters where it isn't UTF-8.
-    pub fn name(&mut self, bytes: &[u8]) {
+    pub fn name(&mut self, bytes: &[u8])
+        ensures { Grows self.old self.new }
+    {
         match str::from_utf8(bytes) {
             Ok(text) => self.string(text),
             Err(_) => match String::from_utf8_lossy(self.alloc, bytes) {
@@ -142,13 +195,17 @@ impl Text {
     }
 
     /// Appends a GTID as JSON: `"uuid:number"`, `"uuid:tag:number"`, or null.
-    pub fn gtid(&mut self, gtid: Option<Gtid<'_>>) {
+    pub fn gtid(&mut self, gtid: Option<Gtid<'_>>)
+        ensures { Grows self.old self.new }
+    {
         let appended = put_gtid(gtid, &mut self.bytes);
         self.note(appended);
     }
 
     /// Whether all of the text is there.
-    pub fn ended(&self) -> Result<(), AllocError> {
+    pub fn ended(&self) -> Result<(), AllocError>
+        ensures { OnOk result (self.now.is_short ≡ false) }
+    {
         if self.is_short {
             Err(AllocError)
         } else {

@@ -11,8 +11,8 @@ use Rattle.rows_jsonb.specs.declared.diff.JsonDiffOperation.TheVariants.{REPLACE
 use Rattle.changes_writers.specs.JsonStrings.{json_string}
 use Rattle.changes_writers.specs.Base64Texts.{base64_string, base64_object}
 use Rattle.changes_writers.specs.FloatTexts.{IsDoubleJson}
-use Rattle.feed_text.specs.JsonText.{temporal_text}
-use Rattle.feed_text.specs.DocumentForms.{Form}
+use Rattle.feed_documents.specs.JsonText.{temporal_text}
+use Rattle.feed_documents.specs.DocumentForms.{Form}
 
 -- whether a key of a document could be mistaken for one of ours: it begins with `$`, or is `base64` or `diffs`
 abbrev pub is_reserved : List ℕ → Bool

@@ -7,7 +7,7 @@ ghost use Rattle.rows_cells.specs.CellValues.{json_diffs};
 ghost use Rattle.feed_text.specs.Buffers.{text_in};
 ghost use Rattle.feed_text.specs.CellText.{cell_diffs_text, IsTextError};
 ghost use Rattle.feed_text.specs.DirectText.{WritesDocument, IsDocumentError};
-ghost use Rattle.feed_text.specs.DocumentForms.{AppendsUpdates};
+ghost use Rattle.feed_documents.specs.DocumentForms.{AppendsUpdates};
 ghost use Rattle.feed_text.specs.NamelessFaults.{IsNamelessDocument, HasNamelessContent};
 ghost use Rattle.changes_documents.specs.JsonDocuments.{json_form};
 

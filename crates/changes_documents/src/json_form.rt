@@ -7,7 +7,7 @@ ghost use Rattle.changes_documents.specs.JsonDocuments.{json_form, is_reserved};
 
 use crate::parts::{append_base64, time_start};
 use changes_writers::{put_double, put_plain_string, put_string_content, put_utf8_string};
-use feed_text::{DocumentForm, put_temporal};
+use feed_documents::{DocumentForm, put_temporal};
 use feed_writers::{put_byte, put_bytes, put_number};
 use itoa::Buffer;
 use rows_errors::RowsError;

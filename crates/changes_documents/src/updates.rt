@@ -3,12 +3,12 @@
 ghost use Rattle.std.specs.Prelude.{◌≡◌, ◌∷◌, ◌++◌, [], ℕ, List, OnOk, IfErr, length, take};
 ghost use Rattle.rows_errors.specs.declared.fault.RowsError.TheVariants.{Memory};
 ghost use Rattle.rows_jsonb.specs.JsonTreeViews.{view};
-ghost use Rattle.feed_text.specs.DocumentForms.{IsDocumentIn, AppendsOne};
+ghost use Rattle.feed_documents.specs.DocumentForms.{IsDocumentIn, AppendsOne};
 ghost use Rattle.changes_documents.specs.JsonDocuments.{json_form, update_start, value_end};
 
 use crate::json_form::JsonForm;
 use crate::parts::{append_path, operation_name};
-use feed_text::{UpdateForm, put_tree};
+use feed_documents::{UpdateForm, put_tree};
 use rows_errors::RowsError;
 use rows_jsonb::{JsonDiffOperation, JsonDom};
 use std::alloc::Allocator;

@@ -21,8 +21,8 @@ use Rattle.rows_values.specs.PrintedDecimals.{decimal_text}
 use Rattle.rows_jsonb.specs.DocumentTrees.{document_tree}
 use Rattle.rows_jsonb.specs.JsonTrees as tree
 use Rattle.rows_jsonb.specs.JsonTrees.{Tree, scalar, array, object, Items, no_items, item, Members, no_members, member}
-use Rattle.feed_text.specs.DocumentForms.{IsDocumentIn, AreItemsIn, AreMembersIn, IsScalarIn}
-use Rattle.feed_text.specs.JsonText.{temporal_text}
+use Rattle.feed_documents.specs.DocumentForms.{IsDocumentIn, AreItemsIn, AreMembersIn, IsScalarIn}
+use Rattle.feed_documents.specs.JsonText.{temporal_text}
 use Rattle.feed_writers.proofs.PlainLemmas.{upto_sound}
 use Rattle.ryu.specs.Plain.{IsPlainNumber}
 use Rattle.changes_writers.specs.FloatTexts.{IsDoubleJson}

@@ -29,6 +29,7 @@ use Rattle.changes_lines.specs.Origins.{header_members, origin_members}
 use Rattle.changes_lines.specs.FactMembers.{TransactionFacts, transaction_members, row_member_if}
 use Rattle.changes_origins.specs.declared.added_members.AddedMembers.{AddedMembers}
 use Rattle.changes_origins.specs.GtidJson.{IsGtidJson, tagged_json}
+use Rattle.changes_origins.specs.MariadbGtids.{mariadb_json, Gtid as MariadbGtid}
 use Rattle.changes_origins.specs.TaggedGtids.{TaggedGtid}
 use Rattle.changes_laws.specs.JsonLines.{IsObjectLine, AreObjectLines, IsLoggedHeader, IsLoggedContent, IsLoggedChange, IsLoggedNumber, AreLoggedFacts, AreLoggedRows, IsTagRead, is_of_tag, tag_characters}
 use Rattle.changes_laws.proofs.WrittenJson.{IsJson, IsObject, AllJson, joined_array, boolean_json, object_value}
@@ -235,6 +236,13 @@ tagged_is_json P body (Some g) h =
     let u = uuid_text g.uuid in
     let text = (u ++ 58 ∷ g.tag) ++ 58 ∷ decimal g.number in
     let plain = plain_append (u ++ 58 ∷ g.tag) (58 ∷ decimal g.number) (plain_append u (58 ∷ g.tag) (uuid_plain g.uuid h.0) (refl, tag_plain g.tag (each_of (λ b. IsTrue (is_of_tag b)) g.tag h.1))) (refl, decimal_plain g.number) in
+    subst (IsJson P) (simp append_assoc) (quoted_json P text plain)
+
+-- a GTID of MariaDB
+pub mariadb_is_json : (P : Type 0) (g : MariadbGtid) → IsJson P (mariadb_json g)
+mariadb_is_json P g =
+    let text = (decimal g.domain ++ 45 ∷ decimal g.server) ++ 45 ∷ decimal g.sequence in
+    let plain = plain_append (decimal g.domain ++ 45 ∷ decimal g.server) (45 ∷ decimal g.sequence) (plain_append (decimal g.domain) (45 ∷ decimal g.server) (decimal_plain g.domain) (refl, decimal_plain g.server)) (refl, decimal_plain g.sequence) in
     subst (IsJson P) (simp append_assoc) (quoted_json P text plain)
 
 -- ---- the law

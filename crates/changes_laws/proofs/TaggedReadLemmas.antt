@@ -11,7 +11,8 @@ use Rattle.feed_transactions.specs.Changes.{Committed, EventChange}
 use Rattle.changes_tables.specs.declared.columns.TableOptions.{TableOptions}
 use Rattle.changes_lines.specs.ChangeLines.{AreLines}
 use Rattle.changes_origins.specs.declared.added_members.AddedMembers.{AddedMembers}
-use Rattle.changes_origins.specs.GtidJson.{IsGtidJson, tagged_json}
+use Rattle.changes_origins.specs.GtidJson.{IsGtidJson, IsTaggedJson, tagged_json}
+use Rattle.changes_origins.specs.MariadbGtids.{mariadb_gtid, mariadb_json, Gtid as MariadbGtid}
 use Rattle.changes_origins.specs.TaggedGtids as tagged
 use Rattle.changes_origins.specs.TaggedGtids.{TaggedGtid, IsByte, IsTaggedGtid}
 use Rattle.changes_laws.specs.JsonLines.{AreLoggedFacts, AreLoggedRows, AreObjectLines, IsLoggedChange, IsLoggedGtid, IsLoggedHeader, IsTagRead, is_of_tag}
@@ -19,7 +20,7 @@ use Rattle.changes_laws.proofs.TimestampReadLemmas.{decimals_same}
 use Rattle.changes_laws.proofs.DateReadLemmas.{decimal_digits, digits_end}
 use Rattle.changes_laws.proofs.GtidReadLemmas.{uuids_read}
 use Rattle.changes_laws.proofs.SoundCellLemmas.{EachHolds}
-use Rattle.changes_laws.proofs.LineLawLemmas.{all_of, lines_law, numbered_json, tagged_is_json}
+use Rattle.changes_laws.proofs.LineLawLemmas.{all_of, lines_law, numbered_json, tagged_is_json, mariadb_is_json}
 use Rattle.changes_laws.proofs.WrittenJson.{IsJson, null_json}
 
 abbrev others : List ℕ → List ℕ
@@ -105,12 +106,30 @@ tagged_gtids_read a b g h p q lt e =
     let n = digits_end (decimal g.number) (decimal h.number) (34 ∷ []) (34 ∷ []) (decimal_digits g.number) (decimal_digits h.number) refl refl t.1 in
     same_gtid g h u.0 t.0 (decimals_same g.number h.number lt n.0)
 
+-- ---- MariaDB's
+same_mariadb : (g h : MariadbGtid) → g.domain ≡ h.domain → g.server ≡ h.server → g.sequence ≡ h.sequence → g ≡ h
+same_mariadb g h d s n =
+    ap (λ (k : ℕ). let made : MariadbGtid = record { domain = k; server = g.server; sequence = g.sequence } in made) d
+    ∙ ap (λ (k : ℕ). let made : MariadbGtid = record { domain = h.domain; server = k; sequence = g.sequence } in made) s
+    ∙ ap (λ (k : ℕ). let made : MariadbGtid = record { domain = h.domain; server = h.server; sequence = k } in made) n
+
+pub mariadb_gtids_read : (g h : MariadbGtid) → g.domain < 2 ^ 64 → g.server < 2 ^ 64 → g.sequence < 2 ^ 64 → mariadb_json g ≡ mariadb_json h → g ≡ h
+mariadb_gtids_read g h domain server sequence e =
+    let d = digits_end (decimal g.domain) (decimal h.domain) (45 ∷ (decimal g.server ++ 45 ∷ (decimal g.sequence ++ 34 ∷ []))) (45 ∷ (decimal h.server ++ 45 ∷ (decimal h.sequence ++ 34 ∷ []))) (decimal_digits g.domain) (decimal_digits h.domain) refl refl (ap others e) in
+    let s = digits_end (decimal g.server) (decimal h.server) (45 ∷ (decimal g.sequence ++ 34 ∷ [])) (45 ∷ (decimal h.sequence ++ 34 ∷ [])) (decimal_digits g.server) (decimal_digits h.server) refl refl (ap others d.1) in
+    let n = digits_end (decimal g.sequence) (decimal h.sequence) (34 ∷ []) (34 ∷ []) (decimal_digits g.sequence) (decimal_digits h.sequence) refl refl (ap others s.1) in
+    same_mariadb g h (decimals_same g.domain h.domain domain d.0) (decimals_same g.server h.server server s.0) (decimals_same g.sequence h.sequence sequence n.0)
+
 -- ---- the lines of any transaction
+tagged_either : (P : Type 0) (body : List ℕ) (m : Option MariadbGtid) (x : List ℕ) → IsTaggedJson body m x → IsJson P x
+tagged_either P body (Some g) x e = subst (IsJson P) (sym e) (mariadb_is_json P g)
+tagged_either P body None x e = subst (IsJson P) (sym e.2) (tagged_is_json P body e.0 (tag_is_read body e.0 e.1))
+
 logged_json : (P : Type 0) (g : Option Gtid) (x : List ℕ) → IsLoggedGtid g → IsGtidJson g x → IsJson P x
 logged_json P None x h e = subst (IsJson P) (sym e) (null_json P)
 logged_json P (Some Anonymous) x h e = subst (IsJson P) (sym e) (null_json P)
 logged_json P (Some (Numbered uuid number)) x h e = numbered_json P uuid number x h e
-logged_json P (Some (Tagged body)) x h e = subst (IsJson P) (sym e.2) (tagged_is_json P body e.0 (tag_is_read body e.0 e.1))
+logged_json P (Some (Tagged body)) x h e = tagged_either P body (mariadb_gtid body) x e
 
 pub logged_law : (options : TableOptions) (added : AddedMembers) (by_transaction : Bool) (file : List ℕ) (t : Committed) (changes : List EventChange) (text : List ℕ) (lines : AreLines options added by_transaction file t changes text) → IsLoggedGtid t.gtid
     → IsLoggedHeader t.commit → All IsLoggedChange changes → AreLoggedRows added t.changes → AreLoggedFacts added ((lines.2).2).0 → ∥ AreObjectLines text ∥₁

@@ -12,7 +12,7 @@ ghost use Rattle.rows_cells.specs.CellValues.{CellValue};
 ghost use Rattle.rows_cells.specs.declared.format.CellFormat.{CellFormat};
 ghost use Rattle.rows_jsonb.specs.DocumentTrees.{document_tree};
 ghost use Rattle.rows_jsonb.specs.JsonTrees.{Tree};
-ghost use Rattle.feed_text.specs.DocumentForms.{IsDocumentIn};
+ghost use Rattle.feed_documents.specs.DocumentForms.{IsDocumentIn};
 ghost use Rattle.feed_checks.specs.Kinds.{Numbered};
 ghost use Rattle.feed_transactions.specs.Changes.{Committed, EventChange};
 ghost use Rattle.changes_tables.specs.ColumnParts.{column_parts};
@@ -28,6 +28,7 @@ ghost use Rattle.changes_lines.specs.Origins.{header_members, origin_members};
 ghost use Rattle.changes_lines.specs.FactMembers.{TransactionFacts, query_member, transaction_members};
 ghost use Rattle.changes_origins.specs.declared.added_members.AddedMembers.{AddedMembers};
 ghost use Rattle.changes_origins.specs.GtidJson.{IsGtidJson, tagged_json};
+ghost use Rattle.changes_origins.specs.MariadbGtids.{mariadb_json, Gtid as MariadbGtid};
 ghost use Rattle.changes_origins.specs.TaggedGtids.{IsTaggedGtid, TaggedGtid};
 ghost use Rattle.changes_lines.specs.RowJson.{AreCellsJson, CellJson, IsRowJson, IsUpdate, object_json};
 ghost use Rattle.changes_laws.specs.JsonGrammar.{IsAfterValue, IsChar, IsJsonText, IsNumber, IsString, IsValue, Json, array, boolean, element, member, no_elements, no_members, null, number, object};
@@ -111,9 +112,10 @@ pub fn transactions_show_their_origin()
 {}
 
 /// Equal JSON of two GTIDs without tags comes from equal UUIDs and equal numbers, and that of two with tags, which are read from the
-/// bodies `a` and `b` of their events, from equal tags too.
+/// bodies `a` and `b` of their events, from equal tags too. That of two of MariaDB comes from equal domains, servers and numbers.
 pub fn gtids_show_their_numbers()
     ensures tagged { (a b : List ℕ) (g h : TaggedGtid) → IsTaggedGtid a (Some g) → IsTaggedGtid b (Some h) → g.number < 2 ^ 64 → tagged_json a (Some g) ≡ tagged_json b (Some h) → g ≡ h }
+    ensures mariadb { (g h : MariadbGtid) → g.domain < 2 ^ 64 → g.server < 2 ^ 64 → g.sequence < 2 ^ 64 → mariadb_json g ≡ mariadb_json h → g ≡ h }
     ensures numbered { (u v : List ℕ) (m n : ℕ) (x : List ℕ) → AreBytes u → AreBytes v → length u ≡ 16 → length v ≡ 16 → m < 2 ^ 64 → IsGtidJson (Some (Numbered u m)) x → IsGtidJson (Some (Numbered v n)) x → (u ≡ v) × (m ≡ n) }
 {}
 

@@ -2,3 +2,4 @@ pub mod AppendLemmas
 mod TaggedLemmas
 pub mod TaggedDecisions
 mod Utf8Lemmas
+pub mod GtidLemmas

@@ -1,42 +1,40 @@
 //! GTIDs as JSON.
 
-ghost use Rattle.std.specs.Prelude.{◌≡◌, ◌++◌, ◌∷◌, Some, OnOk, option_map};
-ghost use Rattle.hex.specs.Hex.{encode_lower};
+ghost use Rattle.std.specs.Prelude.{◌≡◌, ◌++◌, Some, OnOk, option_map};
 ghost use Rattle.feed_checks.specs.KindViews.{gtid_view};
 ghost use Rattle.feed_checks.specs.Kinds.{Numbered, Tagged};
 ghost use Rattle.feed_text.specs.Buffers.{text_in};
-ghost use Rattle.feed_transactions.specs.TransactionTexts.{uuid_text};
 ghost use Rattle.changes_origins.specs.GtidJson.{AppendsGtid};
+ghost use Rattle.changes_origins.specs.MariadbGtids.{mariadb_json};
+ghost use Rattle.changes_origins.specs.MariadbViews.{mariadb_view};
 
+use crate::mariadb_gtid::MariadbGtid;
 use crate::tagged_gtid::TaggedGtid;
 use crate::utf8::put_base64;
 use feed_checks::Gtid;
-use feed_text::TextBuffer;
+use feed_text::{TextBuffer, put_uuid};
 use std::alloc::{AllocError, Allocator};
 
-/// Appends a UUID in hexadecimal digits, 8-4-4-4-12.
-fn put_uuid<A: Allocator>(uuid: &[u8; 16], text: &mut TextBuffer<A>) -> Result<(), AllocError>
-    ensures { OnOk result (text_in text.new ≡ text_in text.old ++ uuid_text uuid.now) }
+/// Appends a GTID of MariaDB as a string.
+fn put_mariadb<A: Allocator>(gtid: MariadbGtid, text: &mut TextBuffer<A>) -> Result<(), AllocError>
+    ensures { OnOk result (text_in text.new ≡ text_in text.old ++ mariadb_json (mariadb_view gtid)) }
 {
-    text.put_hexadecimal(&uuid[..4])?;
-    put_group(&uuid[4..6], text)?;
-    put_group(&uuid[6..8], text)?;
-    put_group(&uuid[8..10], text)?;
-    put_group(&uuid[10..], text)
-}
-
-/// Appends a hyphen and a group of hexadecimal digits.
-fn put_group<A: Allocator>(bytes: &[u8], text: &mut TextBuffer<A>) -> Result<(), AllocError>
-    ensures { OnOk result (text_in text.new ≡ text_in text.old ++ 45 ∷ encode_lower bytes.now) }
-{
+    text.put(b'"')?;
+    text.put_number(u64::from(gtid.domain))?;
     text.put(b'-')?;
-    text.put_hexadecimal(bytes)
+    text.put_number(u64::from(gtid.server))?;
+    text.put(b'-')?;
+    text.put_number(gtid.sequence)?;
+    text.put(b'"')
 }
 
-/// Appends a tagged GTID as a string; an object with the Base64 of the event's body if that can't be read.
+/// Appends a tagged GTID, or one of MariaDB, as a string; an object with the Base64 of the event's body if that can't be read.
 fn put_tagged<A: Allocator>(body: &[u8], text: &mut TextBuffer<A>) -> Result<(), AllocError>
     ensures { OnOk result (AppendsGtid (Some (Tagged body.now)) (text_in text.old) (text_in text.new)) }
 {
+    if let Some(gtid) = MariadbGtid::read(body) {
+        return put_mariadb(gtid, text);
+    }
     let Some(gtid) = TaggedGtid::read(body) else {
         return put_base64(body, text);
     };

@@ -3,6 +3,7 @@
 
 mod added_members;
 mod gtids;
+mod mariadb_gtid;
 mod tagged_gtid;
 mod utf8;
 

@@ -2,7 +2,8 @@
 
 use crate::status::is_whole;
 use changes_commands::{Explanation, Text, explain, put_type};
-use events_payloads::PayloadFault;
+use events_mariadb::{MariadbFault, is_mariadb_number};
+use events_replaced::ReplacementFault;
 use feed_change_log::Stop;
 use feed_checks::{Verdict, name_of};
 use rows_constants::EventType;
@@ -33,7 +34,7 @@ impl<'l> Checked<'l> {
     pub fn new(
         path: &'l str,
         stop: Stop,
-        fault: Option<PayloadFault>,
+        fault: Option<ReplacementFault>,
         first: &[u8],
     ) -> Checked<'l> {
         Checked {
@@ -55,42 +56,69 @@ impl<'l> Checked<'l> {
 }
 
 /// What it means that a compressed transaction isn't shown.
-fn explain_payload(fault: PayloadFault) -> Explanation {
+fn explain_payload(fault: ReplacementFault) -> Explanation {
     let (meaning, advice) = match fault {
-        PayloadFault::Checksum => (
+        ReplacementFault::Checksum => (
             "the checksum of a compressed transaction is wrong: the log is damaged",
             "fetch the log again from its server",
         ),
-        PayloadFault::Fields | PayloadFault::Damaged | PayloadFault::Events => (
+        ReplacementFault::Fields | ReplacementFault::Damaged | ReplacementFault::Events => (
             "a compressed transaction is damaged",
             "fetch the log again from its server",
         ),
-        PayloadFault::Compression => (
+        ReplacementFault::Compression => (
             "a transaction is compressed in an unknown way",
             "set binlog_transaction_compression=OFF for later logs; recipes/past_stop leaves the transaction out",
         ),
-        PayloadFault::TooLong => (
+        ReplacementFault::TooLong => (
             "a compressed transaction is longer than the limit",
             "raise it with --max-transaction; recipes/past_stop leaves the transaction out",
         ),
-        PayloadFault::Nested => (
+        ReplacementFault::Nested => (
             "a compressed transaction has another one within it, or the description of a format: the log is damaged",
             "fetch the log again from its server",
         ),
-        PayloadFault::Memory => ("out of memory", "free memory, and run again"),
+        ReplacementFault::Memory => ("out of memory", "free memory, and run again"),
+        ReplacementFault::Mariadb(fault) => return explain_mariadb(fault),
+    };
+    Explanation { meaning, advice }
+}
+
+/// What it means that an event of MariaDB isn't shown.
+fn explain_mariadb(fault: MariadbFault) -> Explanation {
+    let (meaning, advice) = match fault {
+        MariadbFault::Encrypted => (
+            "the log is encrypted from here on",
+            "fetch it decrypted, with mariadb-binlog --read-from-remote-server --raw",
+        ),
+        MariadbFault::Fields | MariadbFault::Damaged => (
+            "an event of MariaDB is damaged",
+            "fetch the log again from its server",
+        ),
+        MariadbFault::Compression => (
+            "an event is compressed in an unknown way",
+            "set log_bin_compress=OFF for later logs; recipes/past_stop leaves the transaction out",
+        ),
+        MariadbFault::TooLong => (
+            "a compressed event is longer than the limit",
+            "raise it with --max-transaction; recipes/past_stop leaves the transaction out",
+        ),
+        MariadbFault::Memory => ("out of memory", "free memory, and run again"),
     };
     Explanation { meaning, advice }
 }
 
 /// What the verdict of a log means that ended so, and begins with these bytes. The fault is that of its newest compressed transaction.
-fn explanation_of(stop: Stop, fault: Option<PayloadFault>, first: &[u8]) -> Explanation {
+fn explanation_of(stop: Stop, fault: Option<ReplacementFault>, first: &[u8]) -> Explanation {
     let event_type = match stop.header {
         Some(header) => Some(header.event_type_raw()),
         None => None,
     };
     let is_payload = event_type == Some(EventType::TRANSACTION_PAYLOAD_EVENT as u8);
+    let is_mariadb = matches!(event_type, Some(number) if is_mariadb_number(number));
     match fault {
         Some(fault) if is_payload => explain_payload(fault),
+        Some(ReplacementFault::Mariadb(fault)) if is_mariadb => explain_mariadb(fault),
         _ => explain(stop.verdict, event_type, first),
     }
 }

@@ -1,29 +1,17 @@
 //! The strings and keys of JSON documents. Short ones are tested and copied as sixteen bytes.
 
-ghost use Rattle.std.specs.Prelude.{◌≡◌, ◌≤◌, ◌+◌, ◌*◌, ◌∷◌, ◌++◌, [], IfSome, OnOk, OnErr, true, length, take};
+ghost use Rattle.std.specs.Prelude.{◌≡◌, ◌≤◌, ◌+◌, ◌∷◌, ◌++◌, [], OnOk, OnErr, true, length, take};
 ghost use Rattle.std.specs.Str.{is_utf8};
 ghost use Rattle.feed_text.specs.Buffers.{text_in};
 ghost use Rattle.feed_text.specs.DirectText.{separator};
 
 use crate::buffer::TextBuffer;
-use crate::direct_parts::NotDirect;
-use crate::document_form::DocumentForm;
+use feed_documents::{DocumentForm, NotDirect, string_room};
 use feed_writers::put_byte;
 use std::alloc::Allocator;
 
 /// The length of a block of bytes that is tested and copied at once.
 const BLOCK_LEN: usize = 16;
-
-/// The room that a string or key takes besides the texts of its bytes.
-const STRING_ROOM: usize = 24;
-
-/// Returns the room for a string or key of this length; `None` if there can't be as much.
-#[inline(always)]
-pub(crate) fn string_room<F: DocumentForm>(len: usize) -> Option<usize>
-    ensures { IfSome result (λ room. room ≡ F.ESCAPE_LEN * len + 24) }
-{
-    len.checked_mul(F::ESCAPE_LEN)?.checked_add(STRING_ROOM)
-}
 
 /// Appends the first `len` bytes as a string, or nothing.
 #[inline(always)]

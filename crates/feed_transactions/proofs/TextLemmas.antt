@@ -1,11 +1,8 @@
 -- Texts that are appended in sequence.
-use Rattle.std.proofs.Common.{◌≡◌, ℕ, List, ◌∷◌, [], ◌++◌, Some, length, take, drop, ap, ◌∙◌, append_assoc, arith}
-use Rattle.std.proofs.lemmas.List.{take_all}
-use Rattle.std.proofs.Math.ListN.{length-drop}
+use Rattle.std.proofs.Common.{◌≡◌, ℕ, List, ◌∷◌, [], ◌++◌, Some, ap, ◌∙◌, append_assoc}
 use Rattle.std.specs.Prelude.{codes}
 use Rattle.std.specs.Borrow.{Bor}
 use Rattle.std.specs.Fmt.{decimal}
-use Rattle.hex.specs.Hex.{encode_lower}
 use Rattle.events_frames.specs.QueryTexts.{StatementTexts}
 use Rattle.feed_writers.specs.Quoting.{quoted}
 use Rattle.feed_checks.specs.KindViews.{gtid_view}
@@ -33,13 +30,6 @@ numbered_put g uuid number old one two new is a b c =
 pub tagged_put : (g : Gtid) (body : Bor (List ℕ)) (old one new : List ℕ) → g ≡ named.Tagged body → one ≡ old ++ codes "tagged " → new ≡ one ++ quoted body.now → new ≡ old ++ gtid_text (Some (gtid_view g))
 unfolding gtid_text
 tagged_put g body old one new is a b = rw is (put_after old one new (codes "tagged ") (quoted body.now) a b)
-
--- the five groups of a UUID
-pub uuid_put : (u old t0 t1 t2 t3 new : List ℕ) → length u ≡ 16 → t0 ≡ old ++ encode_lower (take 4 u) → t1 ≡ t0 ++ 45 ∷ encode_lower (take 2 (drop 4 u)) → t2 ≡ t1 ++ 45 ∷ encode_lower (take 2 (drop 6 u))
-    → t3 ≡ t2 ++ 45 ∷ encode_lower (take 2 (drop 8 u)) → new ≡ t3 ++ 45 ∷ encode_lower (take 6 (drop 10 u)) → new ≡ old ++ uuid_text u
-uuid_put u old t0 t1 t2 t3 new sixteen a b c d e =
-    let all : take 6 (drop 10 u) ≡ drop 10 u = take_all 6 (drop 10 u) (omega (arith, sixteen, length-drop 10 u)) in
-    put_after old t3 new _ _ (put_after old t2 t3 _ _ (put_after old t1 t2 _ _ (put_after old t0 t1 _ _ a b) c) d) (e ∙ ap (λ (l : List ℕ). t3 ++ 45 ∷ encode_lower l) all)
 
 -- ---- statements
 

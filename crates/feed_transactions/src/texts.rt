@@ -1,18 +1,17 @@
 //! Prints the lines of transactions.
 
 ghost use Rattle.std.specs.Prelude.{◌≡◌, ◌++◌, ◌∷◌, OnOk, Some};
-ghost use Rattle.hex.specs.Hex.{encode_lower};
 ghost use Rattle.events_frames.specs.QueryTexts.{StatementTexts, HasTexts};
 ghost use Rattle.feed_text.specs.Buffers.{text_in};
 ghost use Rattle.feed_checks.specs.KindViews.{gtid_view};
 ghost use Rattle.feed_transactions.specs.Transactions.{Stated};
 ghost use Rattle.feed_transactions.specs.MappedRows.{change_by};
 ghost use Rattle.feed_transactions.specs.RowTexts.{change_word};
-ghost use Rattle.feed_transactions.specs.TransactionTexts.{commit_line, gtid_text, line_text, uuid_text};
+ghost use Rattle.feed_transactions.specs.TransactionTexts.{commit_line, gtid_text, line_text};
 
 use events_frames::QueryTexts;
 use feed_checks::Gtid;
-use feed_text::TextBuffer;
+use feed_text::{TextBuffer, put_uuid};
 use rows_event_body::RowImages;
 use std::alloc::{AllocError, Allocator};
 
@@ -62,25 +61,6 @@ pub(crate) fn put_commit<A: Allocator>(
     text.put_text(b"commit ")?;
     text.put_number(u64::from(log_pos))?;
     text.put(b'\n')
-}
-
-/// Appends a UUID in hexadecimal digits, in groups of 8, 4, 4, 4 and 12.
-fn put_uuid<A: Allocator>(uuid: &[u8; 16], text: &mut TextBuffer<A>) -> Result<(), AllocError>
-    ensures ok { OnOk result (text_in text.new ≡ text_in text.old ++ uuid_text uuid.now) }
-{
-    text.put_hexadecimal(&uuid[..4])?;
-    put_group(&uuid[4..6], text)?;
-    put_group(&uuid[6..8], text)?;
-    put_group(&uuid[8..10], text)?;
-    put_group(&uuid[10..], text)
-}
-
-/// Appends a hyphen and a group of hexadecimal digits.
-fn put_group<A: Allocator>(bytes: &[u8], text: &mut TextBuffer<A>) -> Result<(), AllocError>
-    ensures ok { OnOk result (text_in text.new ≡ text_in text.old ++ 45 ∷ encode_lower bytes.now) }
-{
-    text.put(b'-')?;
-    text.put_hexadecimal(bytes)
 }
 
 /// The word for what an event with these images does to a row, and a space.

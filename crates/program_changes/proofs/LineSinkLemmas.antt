@@ -18,7 +18,8 @@ use Rattle.feed_change_log.specs.Filters.{table_filter_of, takes_change, takes_t
 use Rattle.feed_change_log.specs.declared.filter.Filter.{Filter}
 use Rattle.changes_commands.specs.declared.output.Failure.TheVariants as failed
 use Rattle.changes_lines.specs.ChangeLines.{ChangeJson, AreLines, with_ends, transaction_lines}
-use Rattle.changes_origins.specs.GtidJson.{IsGtidJson, tagged_json}
+use Rattle.changes_origins.specs.GtidJson.{IsGtidJson, IsTaggedJson, tagged_json}
+use Rattle.changes_origins.specs.MariadbGtids.{mariadb_gtid, mariadb_json, Gtid as MariadbGtid}
 use Rattle.changes_origins.proofs.TaggedDecisions.{tagged_known}
 use Rattle.changes_lines.specs.RecordedLines.{IsDoneJson, IsLikeJson, added_of, facts_in, filter_of, has_some, members_of, options_of}
 use Rattle.changes_lines.specs.WrittenLines.{is_by_transaction}
@@ -98,11 +99,15 @@ module _ {W : Type 0} (contents : W → Option (List ℕ)) (first old new : Line
 
 -- ---- a transaction without lines
 
+some_tagged : (body : List ℕ) (m : Option MariadbGtid) → (x : List ℕ) × IsTaggedJson body m x
+some_tagged body (Some g) = (mariadb_json g, refl)
+some_tagged body None = let g = tagged_known body in (tagged_json body g.0, (g.0, g.1, refl))
+
 some_gtid : (g : Option Gtid) → (x : List ℕ) × IsGtidJson g x
 some_gtid None = (codes "null", refl)
 some_gtid (Some Anonymous) = (codes "null", refl)
 some_gtid (Some (Numbered uuid number)) = (_, refl)
-some_gtid (Some (Tagged body)) = let g = tagged_known body in (tagged_json body g.0, (g.0, g.1, refl))
+some_gtid (Some (Tagged body)) = some_tagged body (mariadb_gtid body)
 
 no_lines : (by : Bool) (file : List ℕ) (t : Committed) (gtid more : List ℕ) → transaction_lines by file t gtid more [] ≡ []
 unfolding with_ends

@@ -55,7 +55,7 @@ fn main(rt: HostRuntime) -> ExitCode {
         return refuse(&rt, Refused::Memory);
     };
     match parse(&rt, &words) {
-        Ok(options) => run::run(&rt, &options),
+        Ok(options) => run::run(&rt, options),
         Err(refused) => refuse(&rt, refused),
     }
 }

@@ -1,4 +1,3 @@
-use Rattle.std.proofs.Common.{rules, arith}
 use Rattle.std.proofs.lemmas.Option.{IfSome_then}
 use Rattle.changes_origins.specs.TaggedGtids.{IsInteger}
 use Rattle.changes_origins.proofs.TaggedLemmas.{none_then, IfNone_then, Lacks-field_number, Lacks-field_other, Lacks-field_content, Reads-field}

@@ -1,7 +1,7 @@
 use Rattle.std.proofs.Common.{map}
 use Rattle.std.proofs.lemmas.Result.{on_ok_weaker}
 use Rattle.rows_jsonb.specs.JsonDiffViews.{diff_view}
-use Rattle.feed_text.proofs.FeedDocumentLemmas.{updates_appended}
+use Rattle.feed_text.proofs.FeedDiffLemmas.{updates_appended}
 use Rattle.feed_text.proofs.diffs.append_feed_diffs.Goals as goal
 
 pub returns-clause-ok : goal.returns-clause-ok

@@ -1,0 +1,53 @@
+-- The log in a file, from its first bytes and the others.
+use Rattle.std.proofs.Common.{◌≡◌, ◌⊎◌, ℕ, List, [], ◌++◌, Option, Result, Ok, Err, inl, inr, sym, ap, subst, ◌∙◌}
+use Rattle.std.specs.Prelude.{IfOk, IfErr}
+use Rattle.std.proofs.lemmas.List.{append-nil}
+use Rattle.inflate.specs.Wrappings.{AppendsMembers}
+use Rattle.inflate.specs.declared.error.InflateError.{InflateError}
+use Rattle.zstd_decoder.specs.Frames.{AppendsFrames}
+use Rattle.zstd_decoder.specs.declared.error.ZstdError.{ZstdError}
+use Rattle.changes_inputs.specs.Unpacked.{Begins, IsLogIn, IsUnpackFault, TakesAll, Unpacks, compression_in, compression_of}
+use Rattle.changes_inputs.specs.declared.unpacking.Compression.{Compression}
+use Rattle.changes_inputs.specs.declared.unpacking.Compression.TheVariants.{Absent, Gzip, Zstandard}
+use Rattle.changes_inputs.specs.declared.unpacking.UnpackFault.{UnpackFault}
+use Rattle.changes_inputs.specs.declared.unpacking.UnpackFault.TheVariants as fault
+
+pub if_ok : {T E : Type 0} {P Q : T → Type 0} (r : Result T E) → IfOk r P → ((x : T) → P x → Q x) → IfOk r Q
+if_ok (Ok x) h f = f x h
+if_ok (Err e) h f = tt
+
+pub if_err : {T E : Type 0} {P Q : E → Type 0} (r : Result T E) → IfErr r P → ((e : E) → P e → Q e) → IfErr r Q
+if_err (Ok x) h f = tt
+if_err (Err e) h f = f e h
+
+module _ (file first : List ℕ) (mid : Option (List ℕ)) (b : Begins file first mid) where
+  in_file : (k : Compression) → compression_of first ≡ k → compression_in file ≡ k
+  in_file k is = ap compression_of (sym b.is) ∙ is
+
+  pub unpacks_plain : compression_of first ≡ Absent → Unpacks file first mid
+  unpacks_plain is = record { rest = b.rest; left_is = b.left_is; is = subst (λ (k : Compression). IsLogIn k file (first ++ b.rest)) (sym (in_file Absent is)) (sym b.split) }
+
+  module _ (packed : List ℕ) (new : Option (List ℕ)) (t : TakesAll b.rest new first packed) where
+    all : packed ≡ file
+    all = t.appended ∙ sym b.split
+
+    unpacks : (k : Compression) → compression_of first ≡ k → (content : List ℕ) → IsLogIn k packed content → Unpacks file content new
+    unpacks k is content log = record {
+      rest = [];
+      left_is = t.none;
+      is = subst (λ (k : Compression). IsLogIn k file (content ++ [])) (sym (in_file k is)) (subst (λ (x : List ℕ). IsLogIn k x (content ++ [])) all (subst (λ (l : List ℕ). IsLogIn k packed l) (sym (append-nil content)) log));
+    }
+
+    pub unpacks_gzip : compression_of first ≡ Gzip → (content : List ℕ) → AppendsMembers packed [] content → Unpacks file content new
+    unpacks_gzip is content log = unpacks Gzip is content log
+
+    pub unpacks_zstandard : compression_of first ≡ Zstandard → (content : List ℕ) → AppendsFrames packed [] content → Unpacks file content new
+    unpacks_zstandard is content log = unpacks Zstandard is content log
+
+  pub damaged_gzip : compression_of first ≡ Gzip → (e : UnpackFault) → (e ≡ fault.Memory) ⊎ ((why : InflateError) × (e ≡ fault.Gzip why)) → IsUnpackFault file e
+  damaged_gzip is e (inl h) = rw h tt
+  damaged_gzip is e (inr h) = rw h.1 (in_file Gzip is)
+
+  pub damaged_zstandard : compression_of first ≡ Zstandard → (e : UnpackFault) → (e ≡ fault.Memory) ⊎ ((why : ZstdError) × (e ≡ fault.Zstandard why)) → IsUnpackFault file e
+  damaged_zstandard is e (inl h) = rw h tt
+  damaged_zstandard is e (inr h) = rw h.1 (in_file Zstandard is)

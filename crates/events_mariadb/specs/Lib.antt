@@ -1,0 +1,4 @@
+pub mod MariadbTypes
+pub mod MadeEvents
+pub mod CompressedEvents
+pub mod StandingEvents

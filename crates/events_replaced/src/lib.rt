@@ -1,0 +1,13 @@
+//! The events in place of others: those of compressed transactions, and those that stand for MariaDB's own.
+//!
+//! `payload` reads the fields of a TRANSACTION_PAYLOAD_EVENT, `replacements` has the events in place of one event, `stamped` gives them the
+//! form of the log's own ones, and [`ReplacedEvents`] is the source of events that gives these.
+#![tactic(auto)]
+
+mod payload;
+mod replaced_events;
+mod replacements;
+mod stamped;
+
+pub use replaced_events::ReplacedEvents;
+pub use replacements::{ReplacementFault, Replacements};
