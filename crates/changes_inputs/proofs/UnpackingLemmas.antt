@@ -1,7 +1,8 @@
 -- The log in a file, from its first bytes and the others.
-use Rattle.std.proofs.Common.{◌≡◌, ◌⊎◌, ℕ, List, [], ◌++◌, Option, Result, Ok, Err, inl, inr, sym, ap, subst, ◌∙◌}
-use Rattle.std.specs.Prelude.{IfOk, IfErr}
+use Rattle.std.proofs.Common.{◌≡◌, ◌⊎◌, ℕ, ◌<◌, ◌≤◌, Bool, List, [], ◌∷◌, ◌++◌, length, Option, Some, None, Result, Ok, Err, zero, suc, inl, inr, refl, sym, ap, subst, ◌∙◌, arith}
+use Rattle.std.specs.Prelude.{IfOk, IfErr, take}
 use Rattle.std.proofs.lemmas.List.{append-nil}
+use Rattle.events_frames.specs.Frames.{AppendsNext}
 use Rattle.inflate.specs.Wrappings.{AppendsMembers}
 use Rattle.inflate.specs.declared.error.InflateError.{InflateError}
 use Rattle.zstd_decoder.specs.Frames.{AppendsFrames}
@@ -19,6 +20,30 @@ if_ok (Err e) h f = tt
 pub if_err : {T E : Type 0} {P Q : E → Type 0} (r : Result T E) → IfErr r P → ((e : E) → P e → Q e) → IfErr r Q
 if_err (Ok x) h f = tt
 if_err (Err e) h f = f e h
+
+-- ---- the first bytes of a file
+
+first_of : (n : ℕ) (taken rest : List ℕ) → length taken ≤ n → (length taken < n → rest ≡ []) → take n (taken ++ rest) ≡ taken
+first_of zero [] rest h all = refl
+first_of zero (c ∷ taken) rest h all = absurd (omega arith)
+first_of (suc n) [] rest h all = rw (all (omega arith)) refl
+first_of (suc n) (c ∷ taken) rest h all = ap (λ (l : List ℕ). c ∷ l) (first_of n taken rest (omega arith) (λ k. all (omega arith)))
+
+pub begins : (file before after : List ℕ) (old new : Option (List ℕ)) → old ≡ Some file → before ≡ [] → AppendsNext 4 old new before after → Begins file after new
+begins file before after None new is none a = absurd cc
+begins file before after (Some b) None is none a = absurd a.consumed
+begins file before after (Some b) (Some rest) is none a =
+    let same : b ≡ file = cc in
+    let split : file ≡ a.taken ++ rest = sym same ∙ a.consumed in
+    let all : after ≡ a.taken = a.appended ∙ ap (λ (l : List ℕ). l ++ a.taken) none in
+    record {
+      rest = rest;
+      left_is = refl;
+      split = split ∙ ap (λ (l : List ℕ). l ++ rest) (sym all);
+      is = all ∙ sym (ap (take 4) split ∙ first_of 4 a.taken rest a.at_most a.all);
+    }
+
+-- ---- the log
 
 module _ (file first : List ℕ) (mid : Option (List ℕ)) (b : Begins file first mid) where
   in_file : (k : Compression) → compression_of first ≡ k → compression_in file ≡ k
@@ -44,10 +69,10 @@ module _ (file first : List ℕ) (mid : Option (List ℕ)) (b : Begins file firs
     pub unpacks_zstandard : compression_of first ≡ Zstandard → (content : List ℕ) → AppendsFrames packed [] content → Unpacks file content new
     unpacks_zstandard is content log = unpacks Zstandard is content log
 
-  pub damaged_gzip : compression_of first ≡ Gzip → (e : UnpackFault) → (e ≡ fault.Memory) ⊎ ((why : InflateError) × (e ≡ fault.Gzip why)) → IsUnpackFault file e
-  damaged_gzip is e (inl h) = rw h tt
-  damaged_gzip is e (inr h) = rw h.1 (in_file Gzip is)
+  pub damaged_gzip : compression_of first ≡ Gzip → (failed : Bool) (e : UnpackFault) → (e ≡ fault.Memory) ⊎ ((why : InflateError) × (e ≡ fault.Gzip why)) → IsUnpackFault failed file e
+  damaged_gzip is failed e (inl h) = rw h tt
+  damaged_gzip is failed e (inr h) = rw h.1 (in_file Gzip is)
 
-  pub damaged_zstandard : compression_of first ≡ Zstandard → (e : UnpackFault) → (e ≡ fault.Memory) ⊎ ((why : ZstdError) × (e ≡ fault.Zstandard why)) → IsUnpackFault file e
-  damaged_zstandard is e (inl h) = rw h tt
-  damaged_zstandard is e (inr h) = rw h.1 (in_file Zstandard is)
+  pub damaged_zstandard : compression_of first ≡ Zstandard → (failed : Bool) (e : UnpackFault) → (e ≡ fault.Memory) ⊎ ((why : ZstdError) × (e ≡ fault.Zstandard why)) → IsUnpackFault failed file e
+  damaged_zstandard is failed e (inl h) = rw h tt
+  damaged_zstandard is failed e (inr h) = rw h.1 (in_file Zstandard is)

@@ -1,5 +1,5 @@
 -- The log in a file that may be compressed: RFC 1952 (gzip), RFC 8878 (Zstandard).
-use Rattle.std.specs.Prelude.{◌≡◌, ◌++◌, ◌∷◌, ℕ, List, [], Option, Some, take, nat_eq, if◌then◌else◌}
+use Rattle.std.specs.Prelude.{◌≡◌, ◌++◌, ◌∷◌, ℕ, Bool, true, List, [], Option, Some, take, nat_eq, if◌then◌else◌}
 use Rattle.std.specs.List.{starts_with}
 use Rattle.inflate.specs.Wrappings.{AppendsMembers}
 use Rattle.zstd_decoder.specs.Frames.{AppendsFrames}
@@ -31,11 +31,12 @@ pub record Unpacks (file first : List ℕ) (left : Option (List ℕ)) : Type 0 w
   pub left_is : left ≡ Some rest
   pub is : IsLogIn (compression_in file) file (first ++ rest)
 
--- why a file can't be read: its data is damaged only if it is compressed so
-abbrev pub IsUnpackFault : List ℕ → UnpackFault → Type 0
-IsUnpackFault file (fault.Gzip why) = compression_in file ≡ Gzip
-IsUnpackFault file (fault.Zstandard why) = compression_in file ≡ Zstandard
-IsUnpackFault file e = Unit {0}
+-- why a file can't be read: the reader failed, memory ran out, or its data is damaged, if it is compressed so
+abbrev pub IsUnpackFault : Bool → List ℕ → UnpackFault → Type 0
+IsUnpackFault failed file (fault.Gzip why) = compression_in file ≡ Gzip
+IsUnpackFault failed file (fault.Zstandard why) = compression_in file ≡ Zstandard
+IsUnpackFault failed file fault.Read = failed ≡ true
+IsUnpackFault failed file fault.Memory = Unit {0}
 
 -- ---- steps
 

@@ -1,16 +1,19 @@
 //! The bytes of a log that may be compressed.
 
-ghost use Rattle.std.specs.Prelude.{◌≡◌, ◌⊎◌, List, ℕ, [], Some, IfOk, IfErr, OnOk};
+ghost use Rattle.std.specs.Prelude.{◌≡◌, ◌⊎◌, Bool, List, ℕ, [], Some, IfOk, IfErr, OnOk};
+ghost use Rattle.wire_buf.specs.Watched.{inner_of, has_failed};
 ghost use Rattle.inflate.specs.Wrappings.{AppendsMembers};
 ghost use Rattle.zstd_decoder.specs.Frames.{AppendsFrames};
+ghost use Rattle.events_frames.specs.Frames.{IsReadCause};
 ghost use Rattle.changes_inputs.specs.Unpacked.{Begins, IsUnpackFault, TakesAll, Unpacks};
 ghost use Rattle.changes_inputs.specs.declared.unpacking.UnpackFault.TheVariants.{Gzip, Memory, Zstandard};
 
+use events_frames::{EventError, gather};
 use inflate::{InflateDecoder, InflateError};
 use std::alloc::Global;
-use std::io::{ErrorKind, Read};
+use std::io::Read;
 use thiserror::Error;
-use wire_buf::{WireFault, read_more};
+use wire_buf::Watched;
 use zstd_decoder::{ZstdDecoder, ZstdError};
 
 /// The number of the first bytes that show how a file is compressed.
@@ -64,28 +67,36 @@ impl Compression {
     }
 }
 
-/// Takes the first four bytes of a reader, or all if it has fewer.
-fn take_first<R: Read>(reader: &mut R, bytes: &mut Vec<u8>) -> Result<(), UnpackFault>
-    requires { bytes.old.items ≡ [] }
-    ensures ok { OnOk result ((file : List ℕ) → R.remaining reader.old ≡ Some file → Begins file bytes.new.items (R.remaining reader.new)) }
-    ensures err { IfErr result (λ e. (file : List ℕ) → IsUnpackFault file e) }
+/// Why bytes weren't taken.
+fn fault_of(fault: EventError) -> UnpackFault
+    ensures { (failed : Bool) (file : List ℕ) → IsReadCause failed fault → IsUnpackFault failed file result }
 {
-    match read_more(reader, FIRST_LEN, bytes) {
-        Ok(()) | Err(WireFault::Eof) => Ok(()),
-        Err(WireFault::Memory) => Err(UnpackFault::Memory),
-        Err(_) => Err(UnpackFault::Read),
+    match fault {
+        EventError::Memory => UnpackFault::Memory,
+        _ => UnpackFault::Read,
+    }
+}
+
+/// Takes the first four bytes of a reader, or all if it has fewer.
+fn take_first<R: Read>(reader: &mut Watched<R>, bytes: &mut Vec<u8>) -> Result<(), UnpackFault>
+    requires { bytes.old.items ≡ [] }
+    ensures ok { OnOk result ((file : List ℕ) → R.remaining (inner_of reader.old) ≡ Some file → Begins file bytes.new.items (R.remaining (inner_of reader.new))) }
+    ensures err { IfErr result (λ e. (file : List ℕ) → IsUnpackFault (has_failed reader.new) file e) }
+{
+    match gather(reader, FIRST_LEN, bytes) {
+        Ok(()) => Ok(()),
+        Err(fault) => Err(fault_of(fault)),
     }
 }
 
 /// Appends what a reader has left.
-fn take_rest<R: Read>(reader: &mut R, bytes: &mut Vec<u8>) -> Result<(), UnpackFault>
-    ensures ok { OnOk result ((left : List ℕ) → R.remaining reader.old ≡ Some left → TakesAll left (R.remaining reader.new) bytes.old.items bytes.new.items) }
-    ensures err { IfErr result (λ e. (file : List ℕ) → IsUnpackFault file e) }
+fn take_rest<R: Read>(reader: &mut Watched<R>, bytes: &mut Vec<u8>) -> Result<(), UnpackFault>
+    ensures ok { OnOk result ((left : List ℕ) → R.remaining (inner_of reader.old) ≡ Some left → TakesAll left (R.remaining (inner_of reader.new)) bytes.old.items bytes.new.items) }
+    ensures err { IfErr result (λ e. (file : List ℕ) → IsUnpackFault (has_failed reader.new) file e) }
 {
-    match reader.read_to_end(bytes) {
-        Ok(_) => Ok(()),
-        Err(error) if error.kind() == ErrorKind::OutOfMemory => Err(UnpackFault::Memory),
-        Err(_) => Err(UnpackFault::Read),
+    match gather(reader, u64::MAX, bytes) {
+        Ok(()) => Ok(()),
+        Err(fault) => Err(fault_of(fault)),
     }
 }
 
@@ -121,9 +132,9 @@ fn unzstd(alloc: Global, packed: &[u8]) -> Result<Vec<u8>, UnpackFault>
 /// - `Read`: the reader failed.
 /// - `Gzip`, `Zstandard`: the file can't be decompressed.
 /// - `Memory`: out of memory.
-pub fn unpack<R: Read>(alloc: Global, reader: &mut R) -> Result<Vec<u8>, UnpackFault>
-    ensures ok { IfOk result (λ first. (file : List ℕ) → R.remaining reader.old ≡ Some file → Unpacks file first.items (R.remaining reader.new)) }
-    ensures err { IfErr result (λ e. (file : List ℕ) → R.remaining reader.old ≡ Some file → IsUnpackFault file e) }
+pub fn unpack<R: Read>(alloc: Global, reader: &mut Watched<R>) -> Result<Vec<u8>, UnpackFault>
+    ensures ok { IfOk result (λ first. (file : List ℕ) → R.remaining (inner_of reader.old) ≡ Some file → Unpacks file first.items (R.remaining (inner_of reader.new))) }
+    ensures err { IfErr result (λ e. (file : List ℕ) → R.remaining (inner_of reader.old) ≡ Some file → IsUnpackFault (has_failed reader.new) file e) }
 {
     let mut bytes = Vec::new(alloc);
     take_first(reader, &mut bytes)?;

@@ -1,5 +1,6 @@
 use Rattle.std.proofs.Common.{◌≡◌, ◌∙◌, sym, ap}
 use Rattle.wire_buf.proofs.EncodingLemmas.{IfErr-of_same}
+use Rattle.wire_buf.specs.Watched.{inner_of, has_failed}
 use Rattle.changes_inputs.specs.Unpacked.{compression_of}
 use Rattle.changes_inputs.proofs.UnpackingLemmas.{if_ok, if_err, unpacks_plain, unpacks_gzip, unpacks_zstandard, damaged_gzip, damaged_zstandard}
 use Rattle.changes_inputs.proofs.unpacking.unpack.Goals as goal
@@ -15,24 +16,24 @@ returns-in_err-take_rest-in-Zstandard-clause-err g c = IfErr-of_same _ _ _ c.fro
 
 pub returns-in-Absent-clause-ok : goal.returns-in-Absent-clause-ok
 returns-in-Absent-clause-ok g c = λ file is.
-    unpacks_plain file c.take_first.new.bytes.items (g.R.Read.remaining c.take_first.new.reader) (c.in_ok-take_first.ensures.ok file is) (ap compression_of (sym c.deref.ensures.value) ∙ sym c.of.ensures ∙ c.in-Absent.is)
+    unpacks_plain file c.take_first.new.bytes.items (g.R.Read.remaining (inner_of c.take_first.new.reader)) (c.in_ok-take_first.ensures.ok file is) (ap compression_of (sym c.deref.ensures.value) ∙ sym c.of.ensures ∙ c.in-Absent.is)
 
 pub returns-in_ok-take_rest-in-Gzip-clause-ok : goal.returns-in_ok-take_rest-in-Gzip-clause-ok
 returns-in_ok-take_rest-in-Gzip-clause-ok g c = if_ok c.gunzip.result c.gunzip.ensures.ok (λ content log file is.
     let b = c.in_ok-take_first.ensures.ok file is in
-    unpacks_gzip file c.take_first.new.bytes.items (g.R.Read.remaining c.take_first.new.reader) b c.take_rest.new.bytes.items (g.R.Read.remaining c.take_rest.new.reader) (c.in_ok-take_rest-in-Gzip.ensures.ok b.rest b.left_is)
+    unpacks_gzip file c.take_first.new.bytes.items (g.R.Read.remaining (inner_of c.take_first.new.reader)) b c.take_rest.new.bytes.items (g.R.Read.remaining (inner_of c.take_rest.new.reader)) (c.in_ok-take_rest-in-Gzip.ensures.ok b.rest b.left_is)
     (ap compression_of (sym c.deref.ensures.value) ∙ sym c.of.ensures ∙ c.in-Gzip.is) content.items (rw c.deref-in-Gzip.ensures.value at log))
 
 pub returns-in_ok-take_rest-in-Gzip-clause-err : goal.returns-in_ok-take_rest-in-Gzip-clause-err
 returns-in_ok-take_rest-in-Gzip-clause-err g c = if_err c.gunzip.result c.gunzip.ensures.err (λ e why file is.
-    damaged_gzip file c.take_first.new.bytes.items (g.R.Read.remaining c.take_first.new.reader) (c.in_ok-take_first.ensures.ok file is) (ap compression_of (sym c.deref.ensures.value) ∙ sym c.of.ensures ∙ c.in-Gzip.is) e why)
+    damaged_gzip file c.take_first.new.bytes.items (g.R.Read.remaining (inner_of c.take_first.new.reader)) (c.in_ok-take_first.ensures.ok file is) (ap compression_of (sym c.deref.ensures.value) ∙ sym c.of.ensures ∙ c.in-Gzip.is) (has_failed c.take_rest.new.reader) e why)
 
 pub returns-in_ok-take_rest-in-Zstandard-clause-ok : goal.returns-in_ok-take_rest-in-Zstandard-clause-ok
 returns-in_ok-take_rest-in-Zstandard-clause-ok g c = if_ok c.unzstd.result c.unzstd.ensures.ok (λ content log file is.
     let b = c.in_ok-take_first.ensures.ok file is in
-    unpacks_zstandard file c.take_first.new.bytes.items (g.R.Read.remaining c.take_first.new.reader) b c.take_rest-in-Zstandard.new.bytes.items (g.R.Read.remaining c.take_rest-in-Zstandard.new.reader) (c.in_ok-take_rest-in-Zstandard.ensures.ok b.rest b.left_is)
+    unpacks_zstandard file c.take_first.new.bytes.items (g.R.Read.remaining (inner_of c.take_first.new.reader)) b c.take_rest-in-Zstandard.new.bytes.items (g.R.Read.remaining (inner_of c.take_rest-in-Zstandard.new.reader)) (c.in_ok-take_rest-in-Zstandard.ensures.ok b.rest b.left_is)
     (ap compression_of (sym c.deref.ensures.value) ∙ sym c.of.ensures ∙ c.in-Zstandard.is) content.items (rw c.deref-in-Zstandard.ensures.value at log))
 
 pub returns-in_ok-take_rest-in-Zstandard-clause-err : goal.returns-in_ok-take_rest-in-Zstandard-clause-err
 returns-in_ok-take_rest-in-Zstandard-clause-err g c = if_err c.unzstd.result c.unzstd.ensures.err (λ e why file is.
-    damaged_zstandard file c.take_first.new.bytes.items (g.R.Read.remaining c.take_first.new.reader) (c.in_ok-take_first.ensures.ok file is) (ap compression_of (sym c.deref.ensures.value) ∙ sym c.of.ensures ∙ c.in-Zstandard.is) e why)
+    damaged_zstandard file c.take_first.new.bytes.items (g.R.Read.remaining (inner_of c.take_first.new.reader)) (c.in_ok-take_first.ensures.ok file is) (ap compression_of (sym c.deref.ensures.value) ∙ sym c.of.ensures ∙ c.in-Zstandard.is) (has_failed c.take_rest-in-Zstandard.new.reader) e why)
