@@ -1,11 +1,11 @@
 //! Connections that drop, and the requests that resume.
 
-use crate::samples::{LIMIT, NAME, answered, two_inserts};
 use crc32::crc32;
 use feed_checks::Verdict;
 use feed_replication::{Follower, RequestError, request};
 use std::alloc::Global;
 use std::test::*;
+use tests_serving::samples::{LIMIT, NAME, answered, two_inserts};
 use wire_buf::Watched;
 
 /// The report of the log of two transactions.

@@ -1,9 +1,9 @@
 //! The checksum of bytes: published values and zlib's, and each short length bit by bit.
 
-use crate::samples::{BEGIN, MAP, ROWS, XID};
 use bytes::BytesMut;
 use crc32::crc32;
 use std::alloc::Global;
+use tests_serving::samples::{BEGIN, MAP, ROWS, XID};
 use wire_packets::PacketCodec;
 
 /// The CRC-32 of bytes, bit by bit.

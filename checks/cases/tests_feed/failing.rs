@@ -1,9 +1,5 @@
 //! Readers and writers that fail, and the order in which they are called.
 
-use crate::answers::Pieces;
-use crate::samples::{
-    BEGIN, Full, LIMIT, MAP, NAME, ROWS, TEXT, XID, answered, file_of, one_insert,
-};
 use crc32::crc32;
 use feed_checks::Verdict;
 use feed_replication::Follower;
@@ -12,6 +8,10 @@ use feed_transactions::report;
 use std::alloc::{AllocError, Global};
 use std::cell::Cell;
 use std::io::{self, ErrorKind, Read, Write};
+use tests_serving::answers::Pieces;
+use tests_serving::samples::{
+    BEGIN, Full, LIMIT, MAP, NAME, ROWS, TEXT, XID, answered, file_of, one_insert,
+};
 use wire_buf::Watched;
 
 /// A reader that gives one byte at a time, and records how many were requested from it in all.

@@ -1,13 +1,13 @@
 //! Each call with enough memory.
 
-use crate::answers::answer_of;
 use crate::reporting::is_reported;
-use crate::samples::{BEGIN, LIMIT, MAP, NAME, ROWS, TEXT, XID, one_insert};
 use crc32::crc32;
 use feed_checks::Verdict;
 use feed_replication::{Follower, Served, request, serve};
 use std::alloc::Global;
 use std::test::*;
+use tests_serving::answers::answer_of;
+use tests_serving::samples::{BEGIN, LIMIT, MAP, NAME, ROWS, TEXT, XID, one_insert};
 use wire_buf::Watched;
 
 /// Whether the result is `Ok` with these bytes.

@@ -3,15 +3,9 @@
 //! The cases are in `checks/cases/data/rows_cases.txt`.
 #![tactic(auto)]
 
-#[cfg(test)]
 mod constants;
-#[cfg(test)]
 mod devices;
-#[cfg(test)]
 mod faults;
-#[cfg(test)]
 mod image_cells;
-#[cfg(test)]
 mod laws;
-#[cfg(test)]
 mod optional_metadata;

@@ -6,7 +6,7 @@ use feed_checks::Verdict;
 use feed_replication::{RequestError, request};
 use std::alloc::Global;
 use std::test::*;
-use tests_feed::samples::{LIMIT, NAME, answered, two_inserts};
+use tests_serving::samples::{LIMIT, NAME, answered, two_inserts};
 
 /// Takes what a follower has received. Whether its transactions end at the next of these positions; returns how many there were,
 /// and the verdict, if the stream is over.

@@ -10,7 +10,7 @@ use feed_checks::Verdict;
 use feed_replication::{PayloadFormat, Step};
 use std::alloc::Global;
 use std::test::*;
-use tests_feed::samples::two_inserts;
+use tests_serving::samples::two_inserts;
 
 /// The positions after the first transactions that it applied, and their number.
 #[derive(Drop)]

@@ -3,13 +3,8 @@
 //! The examples of the documentation are here too. The cases are in `checks/cases/data/wire_cases.txt`.
 #![tactic(auto)]
 
-#[cfg(test)]
 mod faults;
-#[cfg(test)]
 mod laws_hold;
-#[cfg(test)]
 mod memory;
-#[cfg(test)]
 mod packets;
-#[cfg(test)]
 mod streams;

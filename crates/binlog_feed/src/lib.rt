@@ -1,11 +1,10 @@
 //! The change feed of MySQL binary logs: reports, transactions as values, followers, servers, and the repair of truncated output.
 //!
 //! It re-exports the calls of its parts that users need, with the types of their arguments and results, and CRC-32; and it has their
-//! laws and worked examples, so that no program waits for the proofs of these. What the parts have for one another, such as the
-//! recorders of transactions and the forms in which a `TextBuffer` writes documents, isn't re-exported. `feed_transactions` has the
-//! report of a file, `feed_change_log` transactions as values, `feed_replication` requests, followers and servers,
-//! `feed_change_follower` the follower that lends transactions, `feed_text` and `feed_documents` the text of values, and
-//! `feed_resume` the complete transactions of a truncated text.
+//! laws and worked examples, so that no program waits for the proofs of these. What the parts have for one another, such as the trait
+//! of recorders of transactions, isn't re-exported. `feed_transactions` has the report of a file, `feed_change_log` transactions as
+//! values, `feed_replication` requests, followers and servers, `feed_change_follower` the follower that lends transactions,
+//! `feed_text` and `feed_documents` the text of values, and `feed_resume` the complete transactions of a truncated text.
 #![tactic(auto)]
 
 mod check_laws;
@@ -25,17 +24,19 @@ pub use crc32::crc32;
 pub use events_frames::{BinlogEventHeader, QueryTexts};
 pub use feed_change_follower::{Applier, ChangeFollower, rehearse_changes};
 pub use feed_change_log::{
-    Change, ChangeLog, Changes, CommittedTransaction, Filter, NoLog, OwnedTransaction, Stop,
-    TableRows, TakenChanges, What,
+    Change, ChangeLog, ChangeRecorder, Changes, CommittedTransaction, Filter, NoLog,
+    OwnedTransaction, Stop, TableRows, TakenChanges, What,
 };
 pub use feed_checks::{Gtid, Verdict, name_of, status};
-pub use feed_documents::{put_json, quote};
+pub use feed_documents::{DocumentForm, UpdateForm, put_json, quote};
 pub use feed_replication::{
     Follower, PayloadFormat, Refusal, RequestError, Served, Step, rehearse, rehearse_growing,
     rehearse_semi, request, serve, serve_semi,
 };
 pub use feed_resume::{Keeper, kept};
-pub use feed_text::{TextBuffer, put_cell, put_cell_ref, put_decimal, put_value};
+pub use feed_text::{
+    TextBuffer, Writing, WritingInRoom, put_cell, put_cell_ref, put_decimal, put_value,
+};
 pub use feed_transactions::report;
 pub use rows_cells::{BinlogValue, CellRef, ImageCells, ImagePlan, RowPart, RowPlan, RowsCursor};
 pub use rows_errors::{JsonbError, RowsError};

@@ -1,5 +1,5 @@
 -- Text that grew several times.
-use Rattle.std.proofs.Common.{◌≡◌, ℕ, false, List, ◌++◌, ap, ◌∙◌, append_assoc}
+use Rattle.std.proofs.Common.{ℕ, List, ◌++◌, ap, ◌∙◌, append_assoc}
 use Rattle.changes_commands.specs.GrowingTexts.{bytes_in, Grows, IsLonger}
 use Rattle.changes_commands.specs.declared.text.Text.{Text}
 
@@ -11,3 +11,6 @@ longer_then a b c x y first then whole =
 
 pub grows_then : (a b c : Text) → Grows a b → Grows b c → Grows a c
 grows_then a b c first then = (first.0 ++ then.0, longer_then a b c first.0 then.0 first.1 then.1)
+
+pub grows_by : (a b : Text) (x : List ℕ) → IsLonger a b x → Grows a b
+grows_by a b x longer = (x, longer)

@@ -1,6 +1,6 @@
 mod EventLineLemmas
 mod EventPrintLemmas
-mod EventWalkLemmas
-mod GrowingLemmas
+pub mod EventWalkLemmas
+pub mod GrowingLemmas
 mod MemberNameLemmas
 mod ZoneLemmas

@@ -1,5 +1,6 @@
 pub mod EventLines
 pub mod EventWalks
 pub mod GrowingTexts
+pub mod LogReaders
 pub mod MemberNames
 pub mod TimeZones

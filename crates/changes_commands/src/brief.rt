@@ -39,6 +39,7 @@ fn put_statement(statement: &[u8], out: &mut Text)
 }
 
 /// Appends the GTID in the body of a GTID_EVENT of MariaDB, of this server.
+#[tactic(auto, using(crate::proofs::GrowingLemmas::grows_by))]
 fn put_mariadb_gtid(server: u32, body: &[u8], out: &mut Text)
     ensures { Grows out.old out.new }
 {
@@ -92,6 +93,7 @@ fn put_rows(reader: &EventStreamReader, rows: &RowsEvent<'_>, out: &mut Text)
 }
 
 /// Appends what an event of this kind says.
+#[tactic(auto, using(crate::proofs::GrowingLemmas::grows_by))]
 fn put_kind(reader: &EventStreamReader, kind: &EventKind<'_>, out: &mut Text)
     ensures { Grows out.old out.new }
 {
@@ -133,6 +135,7 @@ fn is_taken<N: Names>(reader: &EventStreamReader, names: &N, kind: &EventKind<'_
 }
 
 /// Appends where the log goes on.
+#[tactic(auto, using(crate::proofs::GrowingLemmas::grows_by))]
 fn put_rotate(body: &[u8], out: &mut Text)
     ensures { Grows out.old out.new }
 {
@@ -146,6 +149,7 @@ fn put_rotate(body: &[u8], out: &mut Text)
 }
 
 /// Appends what an event with these parts says. Returns whether it is listed.
+#[tactic(auto, using(crate::proofs::GrowingLemmas::grows_by))]
 fn put_parts<N: Names>(
     reader: &EventStreamReader,
     names: &N,
@@ -183,6 +187,7 @@ fn put_parts<N: Names>(
 
 /// Appends what an event says. The reader has accepted the events before it. Returns whether it is listed; each event that can't be
 /// read is.
+#[tactic(auto, using(crate::proofs::GrowingLemmas::grows_by))]
 pub(crate) fn put_brief<N: Names>(
     reader: &mut EventStreamReader,
     names: &N,

@@ -1,13 +1,11 @@
 //! The words of the command line.
 
-ghost use Rattle.std.specs.Prelude.{◌≡◌};
-
 use crate::member_names::members_in;
+use crate::refused::Refused;
 use crate::time_zone::Zone;
 use changes_character_sets::CharacterSet;
 use changes_origins::AddedMembers;
-use clap::error::ErrorKind;
-use clap::{Arg, ArgAction, ArgMatches, Command, Error};
+use clap::{Arg, ArgAction, ArgMatches, Command};
 use std::alloc::{AllocError, Global};
 use std::rt::Files;
 
@@ -46,8 +44,12 @@ pub struct Options<'w> {
     pub quotes_numbers: bool,
     /// The members that lines have on request.
     pub added: AddedMembers,
+    /// The path of the schema that completes table maps.
+    pub schema: Option<&'w str>,
     /// The maximum length of the events of a compressed transaction, in bytes.
     pub max_transaction: u32,
+    /// Whether transactions that can't be read are left out.
+    pub skips_unreadable: bool,
     pub range: Range,
     pub databases: Vec<&'w [u8]>,
     /// Tables as `database.table`.
@@ -122,6 +124,20 @@ const MAX_TRANSACTION: Known = Known {
     name: "max-transaction",
     value: "BYTES",
     help: "the maximum length of the events of a compressed transaction; 1073741824, which is 1 GiB, if it isn't given",
+};
+
+const SKIP_UNREADABLE: Known = Known {
+    takes: Takes::Nothing,
+    name: "skip-unreadable",
+    value: "",
+    help: "leave out transactions that can't be read, and print a line of type gap for each",
+};
+
+const SCHEMA: Known = Known {
+    takes: Takes::Value,
+    name: "schema",
+    value: "FILE",
+    help: "what the logs don't say of tables: names, keys, members, signs and character sets, as recipes/schema prints them",
 };
 
 const START: Known = Known {
@@ -218,7 +234,9 @@ const JSON: KnownCommand = KnownCommand {
         CHARACTER_SET,
         NUMBERS_AS_STRINGS,
         WITH,
+        SCHEMA,
         MAX_TRANSACTION,
+        SKIP_UNREADABLE,
         START,
         STOP,
         FROM_TIME,
@@ -236,6 +254,7 @@ const CHECK: KnownCommand = KnownCommand {
     about: "Says whether logs are whole, and where they end; counts the transactions that options select",
     options: &[
         AS_JSON,
+        SCHEMA,
         MAX_TRANSACTION,
         START,
         STOP,
@@ -331,53 +350,6 @@ fn command<'a>(alloc: Global) -> Result<Command<'a>, AllocError> {
         command = command.subcommand(subcommand(alloc, *known)?)?;
     }
     Ok(command)
-}
-
-/// Why the command line can't be used.
-#[derive(Drop)]
-pub enum Refused {
-    /// By the words; help and version are here too.
-    Words(Error),
-    /// The value of this option can't be used.
-    Value(&'static str),
-    /// The value of this option is a list.
-    List(&'static str),
-    /// There is no command.
-    NoCommand,
-    /// Out of memory.
-    Memory,
-}
-
-impl From<AllocError> for Refused {
-    ghost use Rattle.changes_commands.specs.declared.command_line.Refused.TheVariants.{Memory};
-
-    ghost from_gives = { λ _ r. r ≡ Memory };
-
-    fn from(_error: AllocError) -> Refused {
-        Refused::Memory
-    }
-}
-
-impl From<Error> for Refused {
-    fn from(error: Error) -> Refused {
-        match error.kind() {
-            ErrorKind::OutOfMemory => Refused::Memory,
-            _ => Refused::Words(error),
-        }
-    }
-}
-
-impl Refused {
-    /// A value that this option takes.
-    pub fn example(option: &str) -> &'static str {
-        match option {
-            "table" | "exclude-table" => "shop.orders",
-            "character-set" => "utf8mb4",
-            "time-zone" => "UTC, +02:00 or Europe/Berlin",
-            "with" => "xid,row; the names are begin, ts_ms, xid, thread_id, query, row and all",
-            _ => "'2026-11-27 10:00:00'",
-        }
-    }
 }
 
 /// Adds the names that an option gives.
@@ -516,7 +488,9 @@ impl<'w> Options<'w> {
             character_set: None,
             quotes_numbers: matches!(task, Task::Json) && matches.get_flag(NUMBERS_AS_STRINGS.name),
             added: AddedMembers::NONE,
+            schema: None,
             max_transaction: USUAL_MAX_TRANSACTION,
+            skips_unreadable: matches!(task, Task::Json) && matches.get_flag(SKIP_UNREADABLE.name),
             range,
             databases: Vec::new(alloc),
             tables: Vec::new(alloc),
@@ -557,6 +531,9 @@ impl<'w> Options<'w> {
             && let Some(max) = matches.get_one(MAX_TRANSACTION.name)
         {
             self.max_transaction = max;
+        }
+        if let Task::Json | Task::Check = self.task {
+            self.schema = matches.get_str(SCHEMA.name);
         }
         add_names(matches, "database", &mut self.databases)?;
         add_tables(matches, "table", &mut self.tables)?;

@@ -42,7 +42,7 @@ fn explain_no_log(first: &[u8]) -> Explanation {
             "the file is empty",
             "name a file that a server wrote, such as binlog.000001",
         ),
-        [0xfd, b'b', b'i', b'n'] => (
+        [0xfd, b'b', b'i', b'n', ..] => (
             "this binary log is encrypted: it begins with fd 62 69 6e",
             "fetch it decrypted, with mysqlbinlog --read-from-remote-server --raw",
         ),
@@ -59,23 +59,23 @@ fn explain_unshown(event_type: u8) -> Explanation {
     let (meaning, advice) = match EventType::try_from(event_type) {
         Ok(EventType::TRANSACTION_PAYLOAD_EVENT) => (
             "a compressed transaction, which isn't shown",
-            "set binlog_transaction_compression=OFF for later logs; recipes/past_stop leaves the transaction out",
+            "set binlog_transaction_compression=OFF for later logs; --skip-unreadable leaves the transaction out",
         ),
         Ok(EventType::XA_PREPARE_LOG_EVENT | EventType::QUERY_EVENT) => (
             "an XA transaction, which isn't shown",
-            "recipes/past_stop leaves the transaction out",
+            "--skip-unreadable leaves the transaction out",
         ),
         Ok(EventType::INCIDENT_EVENT) => (
             "an incident: the server says that changes are missing from the log",
-            "copy the tables anew; recipes/past_stop goes on after the event",
+            "copy the tables anew; --skip-unreadable goes on after the event",
         ),
         Ok(EventType::EXECUTE_LOAD_QUERY_EVENT) => (
             "a LOAD DATA statement, which isn't shown",
-            "set binlog_format=ROW for later logs; recipes/past_stop leaves the transaction out",
+            "set binlog_format=ROW for later logs; --skip-unreadable leaves the transaction out",
         ),
         _ => (
             "an event that isn't shown",
-            "recipes/past_stop leaves the transaction out",
+            "--skip-unreadable leaves the transaction out",
         ),
     };
     Explanation { meaning, advice }
@@ -102,7 +102,7 @@ fn advice(verdict: Verdict) -> &'static str {
         }
         Verdict::Memory => "free memory, and run again",
         Verdict::Read | Verdict::Write => "check the file and the device, and run again",
-        _ => "recipes/past_stop leaves the transaction out",
+        _ => "--skip-unreadable leaves the transaction out",
     }
 }
 

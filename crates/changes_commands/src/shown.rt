@@ -7,6 +7,7 @@ use events_mariadb::MariadbType;
 use rows_constants::EventType;
 
 /// Appends the name of an event type, or its number if it has none: `WRITE_ROWS_EVENT`, `type 200`.
+#[tactic(auto, using(crate::proofs::GrowingLemmas::grows_by))]
 pub fn put_type(number: u8, out: &mut Text)
     ensures { Grows out.old out.new }
 {

@@ -1,6 +1,7 @@
 //! Text that grows, for messages and JSON.
 
-ghost use Rattle.std.specs.Prelude.{◌≡◌, ◌∷◌, ◌++◌, ◌||◌, [], OnOk, true, false, is_err, length, take};
+ghost use Rattle.std.specs.Prelude.{◌≡◌, ◌∷◌, ◌++◌, ◌||◌, [], OnOk, true, false, codes, is_err, length, take};
+ghost use Rattle.changes_tables.specs.MemberTexts.{utf8_json};
 ghost use Rattle.std.specs.Fmt.{decimal};
 
 use changes_origins::{put_gtid, put_utf8};
@@ -102,14 +103,17 @@ impl Text {
     }
 
     /// Appends a text, which may be short itself.
-    pub fn append(&mut self, other: &Text) {
+    pub fn append(&mut self, other: &Text)
+        ensures bytes { IsLonger self.old self.new (bytes_in other.now) }
+        ensures whole { self.new.is_short ≡ false → other.now.is_short ≡ false }
+    {
         self.put(other.bytes());
         self.is_short |= other.is_short;
     }
 
     /// Appends words.
     pub fn words(&mut self, words: &str)
-        ensures { Grows self.old self.new }
+        ensures { IsLonger self.old self.new words.now }
     {
         self.put(words.as_bytes());
     }
@@ -157,7 +161,9 @@ impl Text {
     }
 
     /// Appends `null`.
-    pub fn null(&mut self) {
+    pub fn null(&mut self)
+        ensures { IsLonger self.old self.new (codes "null") }
+    {
         self.put(b"null");
     }
 
@@ -168,20 +174,21 @@ impl Text {
 
     /// Appends a string of JSON.
     pub fn string(&mut self, text: &str)
-        ensures { Grows self.old self.new }
+        ensures { IsLonger self.old self.new (utf8_json text.now) }
     {
         self.text(text.as_bytes());
     }
 
     /// Appends bytes as a string of JSON if they are UTF-8, and else as `{"base64":..}`.
     pub fn text(&mut self, bytes: &[u8])
-        ensures { Grows self.old self.new }
+        ensures { IsLonger self.old self.new (utf8_json bytes.now) }
     {
         let appended = put_utf8(bytes, &mut self.bytes);
         self.note(appended);
     }
 
     /// Appends a name as a string of JSON, with replacement characters where it isn't UTF-8.
+    #[tactic(auto, using(crate::proofs::GrowingLemmas::grows_by))]
     pub fn name(&mut self, bytes: &[u8])
         ensures { Grows self.old self.new }
     {

@@ -1,6 +1,6 @@
 -- The log in a file, from its first bytes and the others.
-use Rattle.std.proofs.Common.{◌≡◌, ◌⊎◌, ℕ, ◌<◌, ◌≤◌, Bool, List, [], ◌∷◌, ◌++◌, length, Option, Some, None, Result, Ok, Err, zero, suc, inl, inr, refl, sym, ap, subst, ◌∙◌, arith}
-use Rattle.std.specs.Prelude.{IfOk, IfErr, take}
+use Rattle.std.proofs.Common.{◌≡◌, ◌⊎◌, ℕ, ◌<◌, ◌≤◌, Bool, List, [], ◌∷◌, ◌++◌, length, Option, Some, None, zero, suc, inl, inr, refl, sym, ap, subst, ◌∙◌, arith}
+use Rattle.std.specs.Prelude.{take}
 use Rattle.std.proofs.lemmas.List.{append-nil}
 use Rattle.events_frames.specs.Frames.{AppendsNext}
 use Rattle.inflate.specs.Wrappings.{AppendsMembers}
@@ -12,14 +12,6 @@ use Rattle.changes_inputs.specs.declared.unpacking.Compression.{Compression}
 use Rattle.changes_inputs.specs.declared.unpacking.Compression.TheVariants.{Absent, Gzip, Zstandard}
 use Rattle.changes_inputs.specs.declared.unpacking.UnpackFault.{UnpackFault}
 use Rattle.changes_inputs.specs.declared.unpacking.UnpackFault.TheVariants as fault
-
-pub if_ok : {T E : Type 0} {P Q : T → Type 0} (r : Result T E) → IfOk r P → ((x : T) → P x → Q x) → IfOk r Q
-if_ok (Ok x) h f = f x h
-if_ok (Err e) h f = tt
-
-pub if_err : {T E : Type 0} {P Q : E → Type 0} (r : Result T E) → IfErr r P → ((e : E) → P e → Q e) → IfErr r Q
-if_err (Ok x) h f = tt
-if_err (Err e) h f = f e h
 
 -- ---- the first bytes of a file
 

@@ -29,7 +29,7 @@ use Rattle.changes_lines.specs.Origins.{header_members, origin_members}
 use Rattle.changes_lines.specs.FactMembers.{TransactionFacts, transaction_members, row_member_if}
 use Rattle.changes_origins.specs.declared.added_members.AddedMembers.{AddedMembers}
 use Rattle.changes_origins.specs.GtidJson.{IsGtidJson, tagged_json}
-use Rattle.changes_origins.specs.MariadbGtids.{mariadb_json, Gtid as MariadbGtid}
+use Rattle.changes_origins.specs.MariadbGtids.{mariadb_json, MariadbGtid}
 use Rattle.changes_origins.specs.TaggedGtids.{TaggedGtid}
 use Rattle.changes_laws.specs.JsonLines.{IsObjectLine, AreObjectLines, IsLoggedHeader, IsLoggedContent, IsLoggedChange, IsLoggedNumber, AreLoggedFacts, AreLoggedRows, IsTagRead, is_of_tag, tag_characters}
 use Rattle.changes_laws.proofs.WrittenJson.{IsJson, IsObject, AllJson, joined_array, boolean_json, object_value}

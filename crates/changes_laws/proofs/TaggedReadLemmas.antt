@@ -12,7 +12,7 @@ use Rattle.changes_tables.specs.declared.columns.TableOptions.{TableOptions}
 use Rattle.changes_lines.specs.ChangeLines.{AreLines}
 use Rattle.changes_origins.specs.declared.added_members.AddedMembers.{AddedMembers}
 use Rattle.changes_origins.specs.GtidJson.{IsGtidJson, IsTaggedJson, tagged_json}
-use Rattle.changes_origins.specs.MariadbGtids.{mariadb_gtid, mariadb_json, Gtid as MariadbGtid}
+use Rattle.changes_origins.specs.MariadbGtids.{mariadb_gtid, mariadb_json, MariadbGtid}
 use Rattle.changes_origins.specs.TaggedGtids as tagged
 use Rattle.changes_origins.specs.TaggedGtids.{TaggedGtid, IsByte, IsTaggedGtid}
 use Rattle.changes_laws.specs.JsonLines.{AreLoggedFacts, AreLoggedRows, AreObjectLines, IsLoggedChange, IsLoggedGtid, IsLoggedHeader, IsTagRead, is_of_tag}

@@ -28,7 +28,7 @@ ghost use Rattle.changes_lines.specs.Origins.{header_members, origin_members};
 ghost use Rattle.changes_lines.specs.FactMembers.{TransactionFacts, query_member, transaction_members};
 ghost use Rattle.changes_origins.specs.declared.added_members.AddedMembers.{AddedMembers};
 ghost use Rattle.changes_origins.specs.GtidJson.{IsGtidJson, tagged_json};
-ghost use Rattle.changes_origins.specs.MariadbGtids.{mariadb_json, Gtid as MariadbGtid};
+ghost use Rattle.changes_origins.specs.MariadbGtids.{mariadb_json, MariadbGtid};
 ghost use Rattle.changes_origins.specs.TaggedGtids.{IsTaggedGtid, TaggedGtid};
 ghost use Rattle.changes_lines.specs.RowJson.{AreCellsJson, CellJson, IsRowJson, IsUpdate, object_json};
 ghost use Rattle.changes_laws.specs.JsonGrammar.{IsAfterValue, IsChar, IsJsonText, IsNumber, IsString, IsValue, Json, array, boolean, element, member, no_elements, no_members, null, number, object};

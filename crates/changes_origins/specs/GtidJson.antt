@@ -4,7 +4,7 @@ use Rattle.std.specs.Fmt.{decimal}
 use Rattle.feed_checks.specs.Kinds.{Gtid, Anonymous, Numbered, Tagged}
 use Rattle.feed_text.specs.Uuids.{uuid_text}
 use Rattle.changes_writers.specs.Base64Texts.{base64_object}
-use Rattle.changes_origins.specs.MariadbGtids.{mariadb_gtid, mariadb_json, Gtid as MariadbGtid}
+use Rattle.changes_origins.specs.MariadbGtids.{mariadb_gtid, mariadb_json, MariadbGtid}
 use Rattle.changes_origins.specs.TaggedGtids.{TaggedGtid, IsTaggedGtid}
 
 -- a tagged GTID as a string; the Base64 of its event's body if that can't be read

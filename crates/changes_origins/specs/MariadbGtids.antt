@@ -4,7 +4,7 @@ use Rattle.std.specs.Fmt.{decimal}
 use Rattle.byteorder.specs.Endian.{little_number}
 
 -- a GTID
-pub record Gtid : Type 0 where
+pub record MariadbGtid : Type 0 where
   pub domain : ℕ
   pub server : ℕ
   pub sequence : ℕ
@@ -14,9 +14,9 @@ abbrev pub has_mariadb_gtid : List ℕ → Bool
 has_mariadb_gtid body = nat_le 17 (length body) && slice_index body 0 == 0
 
 -- the GTID that a body has
-abbrev pub mariadb_gtid : List ℕ → Option Gtid
+abbrev pub mariadb_gtid : List ℕ → Option MariadbGtid
 mariadb_gtid body = if has_mariadb_gtid body then Some (record { domain = little_number 4 (drop 1 body); server = little_number 4 (drop 5 body); sequence = little_number 8 (drop 9 body) }) else None
 
 -- as a string: domain-server-sequence
-abbrev pub mariadb_json : Gtid → List ℕ
+abbrev pub mariadb_json : MariadbGtid → List ℕ
 mariadb_json g = 34 ∷ (decimal g.domain ++ 45 ∷ (decimal g.server ++ 45 ∷ (decimal g.sequence ++ 34 ∷ [])))

@@ -3,3 +3,4 @@ pub mod AscendingLemmas
 pub mod PassLemmas
 pub mod WalkLemmas
 pub mod CountingLemmas
+pub mod GapLemmas

@@ -1,7 +1,10 @@
 pub mod Selections
 pub mod Locations
 pub mod LogWalks
+pub mod SourceStates
+pub mod LogSources
 pub mod Counting
 pub mod Findings
 pub mod WalkedStops
 pub mod AscendingPositions
+pub mod Gaps

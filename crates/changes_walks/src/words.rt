@@ -1,9 +1,14 @@
 //! What is said to people about logs and errors.
 
+ghost use Rattle.changes_commands.specs.GrowingTexts.{IsLonger};
+ghost use Rattle.changes_walks.specs.Gaps.{gap_json};
+
+use crate::sources::SourceFault;
 use crate::status::is_whole;
 use changes_commands::{Explanation, Text, explain, put_type};
 use events_mariadb::{MariadbFault, is_mariadb_number};
 use events_replaced::ReplacementFault;
+use events_xa::XaFault;
 use feed_change_log::Stop;
 use feed_checks::{Verdict, name_of};
 use rows_constants::EventType;
@@ -29,14 +34,9 @@ pub struct Checked<'l> {
 }
 
 impl<'l> Checked<'l> {
-    /// What is known of a log that was read to its end or its first fault, and begins with these bytes. The fault is that of its newest
-    /// compressed transaction.
-    pub fn new(
-        path: &'l str,
-        stop: Stop,
-        fault: Option<ReplacementFault>,
-        first: &[u8],
-    ) -> Checked<'l> {
+    /// What is known of a log that was read to its end or its first fault, and begins with these bytes. The fault is why the event at
+    /// which it ended is given as it is.
+    pub fn new(path: &'l str, stop: Stop, fault: Option<SourceFault>, first: &[u8]) -> Checked<'l> {
         Checked {
             path,
             stop,
@@ -68,11 +68,11 @@ fn explain_payload(fault: ReplacementFault) -> Explanation {
         ),
         ReplacementFault::Compression => (
             "a transaction is compressed in an unknown way",
-            "set binlog_transaction_compression=OFF for later logs; recipes/past_stop leaves the transaction out",
+            "set binlog_transaction_compression=OFF for later logs; --skip-unreadable leaves the transaction out",
         ),
         ReplacementFault::TooLong => (
             "a compressed transaction is longer than the limit",
-            "raise it with --max-transaction; recipes/past_stop leaves the transaction out",
+            "raise it with --max-transaction; --skip-unreadable leaves the transaction out",
         ),
         ReplacementFault::Nested => (
             "a compressed transaction has another one within it, or the description of a format: the log is damaged",
@@ -97,28 +97,62 @@ fn explain_mariadb(fault: MariadbFault) -> Explanation {
         ),
         MariadbFault::Compression => (
             "an event is compressed in an unknown way",
-            "set log_bin_compress=OFF for later logs; recipes/past_stop leaves the transaction out",
+            "set log_bin_compress=OFF for later logs; --skip-unreadable leaves the transaction out",
         ),
         MariadbFault::TooLong => (
             "a compressed event is longer than the limit",
-            "raise it with --max-transaction; recipes/past_stop leaves the transaction out",
+            "raise it with --max-transaction; --skip-unreadable leaves the transaction out",
         ),
         MariadbFault::Memory => ("out of memory", "free memory, and run again"),
     };
     Explanation { meaning, advice }
 }
 
-/// What the verdict of a log means that ended so, and begins with these bytes. The fault is that of its newest compressed transaction.
-fn explanation_of(stop: Stop, fault: Option<ReplacementFault>, first: &[u8]) -> Explanation {
+/// What it means that an event of an XA transaction isn't taken.
+fn explain_xa(fault: XaFault) -> Explanation {
+    let (meaning, advice) = match fault {
+        XaFault::Checksum => (
+            "the checksum of an event of an XA transaction is wrong: the log is damaged",
+            "fetch the log again from its server",
+        ),
+        XaFault::Unprepared => (
+            "the XA transaction that is committed here was prepared before the log, or before where reading began",
+            "give the log in which it was prepared before this one; --skip-unreadable leaves the transaction out",
+        ),
+        XaFault::Misplaced => (
+            "an XA statement is out of place: the log is damaged",
+            "fetch the log again from its server",
+        ),
+        XaFault::Statement => (
+            "an XA statement can't be read",
+            "fetch the log again from its server",
+        ),
+        XaFault::TooLong => (
+            "an XA transaction is longer than the limit",
+            "raise it with --max-transaction; --skip-unreadable leaves the transaction out",
+        ),
+        XaFault::Memory => ("out of memory", "free memory, and run again"),
+    };
+    Explanation { meaning, advice }
+}
+
+/// What the verdict of a log means that ended so, and begins with these bytes. The fault is why the event at which it ended is given as
+/// it is.
+pub fn explanation_of(stop: Stop, fault: Option<SourceFault>, first: &[u8]) -> Explanation {
     let event_type = match stop.header {
         Some(header) => Some(header.event_type_raw()),
         None => None,
     };
     let is_payload = event_type == Some(EventType::TRANSACTION_PAYLOAD_EVENT as u8);
     let is_mariadb = matches!(event_type, Some(number) if is_mariadb_number(number));
+    // Where rows aren't taken as those of an XA transaction, their table is missing.
+    let is_left = matches!(stop.verdict, Verdict::Unshown | Verdict::NoTableMap);
     match fault {
-        Some(fault) if is_payload => explain_payload(fault),
-        Some(ReplacementFault::Mariadb(fault)) if is_mariadb => explain_mariadb(fault),
+        Some(SourceFault::Xa(fault)) if is_left => explain_xa(fault),
+        Some(SourceFault::Replacement(fault)) if is_payload => explain_payload(fault),
+        Some(SourceFault::Replacement(ReplacementFault::Mariadb(fault))) if is_mariadb => {
+            explain_mariadb(fault)
+        }
         _ => explain(stop.verdict, event_type, first),
     }
 }
@@ -205,6 +239,21 @@ pub fn put_unclosed(path: &str, stop: Stop, out: &mut Text) {
         " without a rotate or stop event, so transactions may be missing; compare its size with SHOW BINARY LOGS, \
 and give the logs after it in a run of their own\n",
     );
+}
+
+/// Appends the line of a gap in a log: its start and its end, and why it is one.
+pub fn put_gap(file: &[u8], from: u64, to: u64, reason: &str, out: &mut Text)
+    ensures { IsLonger out.old out.new (gap_json file.now from to reason.now) }
+{
+    out.words("{\"type\":\"gap\",\"file\":");
+    out.text(file);
+    out.words(",\"from\":");
+    out.unsigned(from);
+    out.words(",\"to\":");
+    out.unsigned(to);
+    out.words(",\"reason\":");
+    out.string(reason);
+    out.words("}\n");
 }
 
 /// Appends the event at which a log ended, as members of an object.

@@ -1,5 +1,5 @@
 -- The events of MySQL that stand for MariaDB's own, as bytes: their header is MySQL's Binlog Event Header, and what they have is on the pages ANNOTATE_ROWS_EVENT, BINLOG_CHECKPOINT_EVENT, GTID_EVENT and GTID_LIST_EVENT of MariaDB's knowledge base.
-use Rattle.std.specs.Prelude.{ℕ, ◌+◌, ◌%◌, ◌==◌, Bool, List, [], ◌∷◌, ◌++◌, codes, length, take, drop, slice_index, if◌then◌else◌}
+use Rattle.std.specs.Prelude.{ℕ, ◌+◌, ◌/◌, ◌%◌, ◌==◌, Bool, List, [], ◌∷◌, ◌++◌, codes, length, take, drop, slice_index, if◌then◌else◌}
 use Rattle.byteorder.specs.Endian.{little_bytes}
 
 -- a header: time, type, server, size, position and flags; time, server and flags are those of another event, the position is 0
@@ -18,10 +18,18 @@ gtid_body event = 0 ∷ (take 4 (drop 27 event) ++ (take 4 (drop 5 event) ++ (ta
 abbrev pub is_standalone : List ℕ → Bool
 is_standalone event = slice_index event 31 % 2 == 1
 
--- BEGIN as the body of a QUERY_EVENT: thread, time, the length of the schema (1), error, the length of the status variables (2), which are all 0, the end of the schema, and the statement
-unfoldable pub begin_body : List ℕ
-begin_body = 0 ∷ 0 ∷ 0 ∷ 0 ∷ 0 ∷ 0 ∷ 0 ∷ 0 ∷ 0 ∷ 0 ∷ 0 ∷ 0 ∷ 0 ∷ 0 ∷ codes "BEGIN"
+-- an XA transaction that is prepared follows: its flag FL_PREPARED_XA (64)
+abbrev pub is_prepared_xa : List ℕ → Bool
+is_prepared_xa event = slice_index event 31 / 64 % 2 == 1
 
--- BEGIN, unless the next event is no transaction
+-- a statement as the body of a QUERY_EVENT: thread (4), time (4), the length of the schema (1), error (2), the length of the status variables (2), the end of the schema, and the statement; all but the thread and the statement is 0
+unfoldable pub statement_body : ℕ → List ℕ → List ℕ
+statement_body thread_id statement = little_bytes 4 thread_id ++ (0 ∷ 0 ∷ 0 ∷ 0 ∷ 0 ∷ 0 ∷ 0 ∷ 0 ∷ 0 ∷ 0 ∷ statement)
+
+-- the statement that begins what follows: XA START before an XA transaction that is prepared, else BEGIN
+abbrev pub first_statement : List ℕ → List ℕ
+first_statement event = if is_prepared_xa event then codes "XA START" else codes "BEGIN"
+
+-- that statement, unless the next event is no transaction
 abbrev pub begin_for : List ℕ → List (List ℕ)
-begin_for event = if is_standalone event then [] else made 2 begin_body event ∷ []
+begin_for event = if is_standalone event then [] else made 2 (statement_body 0 (first_statement event)) event ∷ []

@@ -79,6 +79,7 @@ IsDecoderFault faults.Damaged = ⊤
 IsDecoderFault faults.Memory = ⊤
 IsDecoderFault _ = ⊥
 
+-- those that stand for an event were appended
 pub record AppendsStanding (event old new : List ℕ) : Type 0 where
   pub events : List (List ℕ)
   pub are : AreStanding event events

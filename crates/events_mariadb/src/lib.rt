@@ -12,5 +12,6 @@ mod mariadb_type;
 mod translator;
 
 pub use fault::MariadbFault;
+pub use made::put_statement;
 pub use mariadb_type::{MariadbType, is_mariadb_number};
 pub use translator::MariadbTranslator;

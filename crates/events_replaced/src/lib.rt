@@ -9,5 +9,6 @@ mod replaced_events;
 mod replacements;
 mod stamped;
 
-pub use replaced_events::ReplacedEvents;
-pub use replacements::{ReplacementFault, Replacements};
+pub use replaced_events::{ReplacedEvents, checksums_after};
+pub use replacements::{ReplacementFault, Replacements, checked};
+pub use stamped::{event_len, put_stamped};

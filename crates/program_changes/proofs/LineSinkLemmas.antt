@@ -19,7 +19,7 @@ use Rattle.feed_change_log.specs.declared.filter.Filter.{Filter}
 use Rattle.changes_commands.specs.declared.output.Failure.TheVariants as failed
 use Rattle.changes_lines.specs.ChangeLines.{ChangeJson, AreLines, with_ends, transaction_lines}
 use Rattle.changes_origins.specs.GtidJson.{IsGtidJson, IsTaggedJson, tagged_json}
-use Rattle.changes_origins.specs.MariadbGtids.{mariadb_gtid, mariadb_json, Gtid as MariadbGtid}
+use Rattle.changes_origins.specs.MariadbGtids.{mariadb_gtid, mariadb_json, MariadbGtid}
 use Rattle.changes_origins.proofs.TaggedDecisions.{tagged_known}
 use Rattle.changes_lines.specs.RecordedLines.{IsDoneJson, IsLikeJson, added_of, facts_in, filter_of, has_some, members_of, options_of}
 use Rattle.changes_lines.specs.WrittenLines.{is_by_transaction}

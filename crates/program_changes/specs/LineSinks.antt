@@ -20,6 +20,7 @@ use Rattle.changes_lines.specs.WrittenLines.{is_by_transaction}
 use Rattle.changes_tables.specs.declared.columns.TableOptions.{TableOptions}
 use Rattle.changes_tables.specs.declared.columns.Shown.TheVariants as shown
 use Rattle.changes_walks.specs.LogWalks.{EndsLog}
+use Rattle.changes_walks.specs.SourceStates.{Known}
 use Rattle.changes_walks.specs.Selections.{IsFilterOf, Selected, start_for, stop_for}
 use Rattle.changes_walks.specs.declared.walk.LogEnd.{LogEnd}
 use Rattle.changes_walks.specs.declared.walk.LogEnd.TheVariants as ends
@@ -90,14 +91,14 @@ Finishes contents s new end result =
     ⊎ ((result ≡ unwritten end) × WritesPrefix (contents (inner_of s.writer.now)) (contents (inner_of new.writer.now)) (bytes_of s.waiting.now) × (has_failed new.writer.now ≡ true))
 
 -- the lines of a log were written: `sink` is the state before those that waited at its end were
-pub record WritesLog {W : Type 0} (contents : W → Option (List ℕ)) (judge : Judge) (f : Filter) (start stop : Option ℕ) (b : List ℕ) (first new : LineSink W) (result : LogEnd) : Type 0 where
+pub record WritesLog {W : Type 0} (contents : W → Option (List ℕ)) (judge : Judge) (f : Filter) (start stop : Option ℕ) (known : Known) (b : List ℕ) (first new : LineSink W) (result : LogEnd) : Type 0 where
   pub sink : LineSink W
   pub end : LogEnd
-  pub walked : EndsLog judge (HasLines contents first) (FailsLines contents first) f start stop [] b sink end
+  pub walked : EndsLog judge (HasLines contents first) (FailsLines contents first) f start stop [] known b sink end
   pub finished : Finishes contents sink new end result
 
--- the lines of what the options select of a log were written; `is_first` and `next` are its place among the logs
-pub record WritesSelected {W A : Type 0} (contents : W → Option (List ℕ)) (judge : Judge) (o : Options) (is_first : Bool) (next : Option A) (b : List ℕ) (first new : LineSink W) (result : LogEnd) : Type 0 where
+-- the lines of what the options select of a log were written, by what is known before it; `is_first` and `next` are its place among the logs
+pub record WritesSelected {W A : Type 0} (contents : W → Option (List ℕ)) (judge : Judge) (o : Options) (is_first : Bool) (next : Option A) (known : Known) (b : List ℕ) (first new : LineSink W) (result : LogEnd) : Type 0 where
   pub filter : Filter
   pub filter_is : IsFilterOf o filter
-  pub writes : WritesLog contents judge filter (start_for o.range.start is_first) (stop_for o.range.stop next) b first new result
+  pub writes : WritesLog contents judge filter (start_for o.range.start is_first) (stop_for o.range.stop next) known b first new result

@@ -5,7 +5,9 @@
 #![tactic(auto)]
 
 mod changes;
+mod parts;
 mod run;
+mod schema;
 
 use changes_commands::{Refused, parse};
 use std::env;

@@ -10,6 +10,6 @@ returns-in-Ok-clause-read g c = λ short. Accepted (event_parts_of c.in-Ok.parts
 
 pub returns-in-Err : goal.returns-in-Err
 returns-in-Err g c = record {
-  text = c.words.ensures;
+  text = (_, c.words.ensures);
   read = λ short. unread_listed (g.N.Names.databases c.args.names.now) (g.N.Names.tables c.args.names.now) (reading_of c.args.reader.now) (reading_of c.read_slice.new.self) c.args.event.now c.in-Err.field-0 c.in-Err.ensures.err (λ memory. search rules) c.in-Err.ensures.unchanged;
 }

@@ -1,5 +1,4 @@
 use Rattle.std.proofs.Common.{ap, sym, ◌∙◌}
-use Rattle.rows_constants.specs.EventTypes.{event_type_number}
 use Rattle.events_frames.specs.EventParts.{event_parts_of}
 use Rattle.events_frames.specs.ReadingViews.{reading_of}
 use Rattle.changes_commands.proofs.EventLineLemmas.{mariadb_named, rotate_named}

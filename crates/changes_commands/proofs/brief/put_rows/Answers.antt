@@ -8,6 +8,6 @@ returns c =
     let last = c.label.new.self in
     let more : Grows c.match-get_tme.out last = (_, c.label.ensures) in
     elim c.match-get_tme.branch [
-      | in-Some w ↦ grows_then c.args.out.now w.words.new.self last (grows_then c.args.out.now w.put_table.new.out w.words.new.self w.put_table.ensures w.words.ensures) (rw w.out-is at more)
+      | in-Some w ↦ grows_then c.args.out.now w.words.new.self last (grows_then c.args.out.now w.put_table.new.out w.words.new.self w.put_table.ensures (_, w.words.ensures)) (rw w.out-is at more)
       | in_default w ↦ rw w.out-is at more
     ]

@@ -96,45 +96,31 @@ fn serve_with_a_failing_reader(alloc: Global) -> bool {
 }
 
 /// Whether the result names the one that fails first: the reader, which fails after a prefix of the log, or the writer, which
-/// fails after so many bytes.
-fn names_the_first(alloc: Global, prefix: &[u8], packets: &[u8], room: usize) -> bool {
+/// fails after any number of bytes.
+fn names_the_first(alloc: Global, prefix: &[u8], packets: &[u8]) -> bool {
     let len = whole_packets(prefix.len());
-    let (sent, _) = packets.split_at(len.min(room).min(packets.len()));
-    let fault = if room < len {
-        Verdict::Write
-    } else {
-        Verdict::Read
-    };
-    writes(alloc, prefix, true, room, sent, fault)
+    for room in 0..160 {
+        let (sent, _) = packets.split_at(len.min(room).min(packets.len()));
+        let fault = if room < len {
+            Verdict::Write
+        } else {
+            Verdict::Read
+        };
+        if !writes(alloc, prefix, true, room, sent, fault) {
+            return false;
+        }
+    }
+    true
 }
 
-// Each room with the shortest prefix that has so many complete events.
 #[test]
 fn serve_with_failing_devices(rt: HostRuntime) -> Result<(), Fail> {
     let alloc = rt.alloc();
     let log = one_insert(alloc)?;
     let packets = packets(alloc, false)?;
-    for len in [0usize, 42, 79, 115, 142] {
-        let (prefix, _) = log.split_at(len.min(log.len()));
-        for room in 0..160 {
-            assert!(rt; names_the_first(alloc, prefix, &packets, room));
-        }
-    }
-    Ok(())
-}
-
-// Each prefix with a writer that fails at once, at the last byte of the complete packets, and after them.
-#[test]
-fn serve_prefixes_with_failing_devices(rt: HostRuntime) -> Result<(), Fail> {
-    let alloc = rt.alloc();
-    let log = one_insert(alloc)?;
-    let packets = packets(alloc, false)?;
     for len in 0..143 {
         let (prefix, _) = log.split_at(len.min(log.len()));
-        let complete = whole_packets(len);
-        for room in [0usize, complete.saturating_sub(1), complete] {
-            assert!(rt; names_the_first(alloc, prefix, &packets, room));
-        }
+        assert!(rt; names_the_first(alloc, prefix, &packets));
     }
     Ok(())
 }

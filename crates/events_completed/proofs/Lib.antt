@@ -1,0 +1,3 @@
+mod WholeMapLemmas
+mod GivenLemmas
+mod EmptyLemmas

@@ -1,0 +1,3 @@
+pub mod CompletedEvents
+pub mod CompletingStates
+pub mod CompletedEventLaws

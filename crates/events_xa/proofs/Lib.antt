@@ -1,0 +1,5 @@
+pub mod XidLemmas
+pub mod GivenLemmas
+pub mod StepLemmas
+pub mod WholeLemmas
+mod IndifferentLemmas

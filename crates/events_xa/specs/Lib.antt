@@ -1,0 +1,11 @@
+pub mod XaRoles
+pub mod XaIdentifiers
+pub mod ReadPrepares
+pub mod XaStates
+pub mod XaSteps
+pub mod GivenXaEvents
+pub mod XaTransactionStates
+pub mod FoundXids
+pub mod XaEventStates
+pub mod GivenXaEventLaws
+pub mod WholeXaEvents

@@ -1,0 +1,72 @@
+//! Lines that are JSON objects.
+
+use crate::fault::SchemaFaultKind;
+use crate::numbers::narrowed;
+use crate::rows::Row;
+use serde_json::Value;
+use std::alloc::Global;
+use std::str;
+
+/// The text of a member.
+fn text_of(alloc: Global, object: &Value, name: &str) -> Result<Vec<u8>, SchemaFaultKind> {
+    match object.get(name).and_then(Value::as_str) {
+        Some(text) => Ok(Vec::from_slice(alloc, text.as_bytes())?),
+        None => Err(SchemaFaultKind::Json),
+    }
+}
+
+/// The number of a member that may be missing or null.
+fn optional_number(object: &Value, name: &str) -> Result<Option<u64>, SchemaFaultKind> {
+    match object.get(name) {
+        None | Some(Value::Null) => Ok(None),
+        Some(value) => match value.as_u64() {
+            Some(number) => Ok(Some(number)),
+            None => Err(SchemaFaultKind::Number),
+        },
+    }
+}
+
+/// The number of a collation that may be missing or null.
+fn collation_of(object: &Value) -> Result<Option<u16>, SchemaFaultKind> {
+    let Some(number) = optional_number(object, "collation")? else {
+        return Ok(None);
+    };
+    match narrowed(number) {
+        Some(collation) => Ok(Some(collation)),
+        None => Err(SchemaFaultKind::Number),
+    }
+}
+
+/// The object that a line is.
+fn object_in(alloc: Global, line: &[u8]) -> Result<Value, SchemaFaultKind> {
+    let Ok(text) = str::from_utf8(line) else {
+        return Err(SchemaFaultKind::Json);
+    };
+    match Value::from_str(alloc, text) {
+        Ok(value) => Ok(value),
+        Err(error) if error.is_memory() => Err(SchemaFaultKind::Memory),
+        Err(_) => Err(SchemaFaultKind::Json),
+    }
+}
+
+/// Reads a line.
+///
+/// - `Json`: it isn't a JSON object with the members of a column.
+/// - `Number`: a number can't be read.
+/// - `Memory`: out of memory.
+pub(crate) fn read_line(alloc: Global, line: &[u8]) -> Result<Row, SchemaFaultKind> {
+    let object = object_in(alloc, line)?;
+    let Some(position) = optional_number(&object, "position")? else {
+        return Err(SchemaFaultKind::Json);
+    };
+    Ok(Row {
+        database: text_of(alloc, &object, "database")?,
+        table: text_of(alloc, &object, "table")?,
+        position,
+        name: text_of(alloc, &object, "column")?,
+        type_text: text_of(alloc, &object, "type")?,
+        collation: collation_of(&object)?,
+        key_position: optional_number(&object, "key_position")?,
+        key_prefix: optional_number(&object, "key_prefix")?,
+    })
+}

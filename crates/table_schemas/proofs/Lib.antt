@@ -1,0 +1,2 @@
+mod LoggedLemmas
+mod TableLemmas

@@ -1,0 +1,39 @@
+-- A table that is added to a schema, a table map that can't be read, and values that are made one by one.
+use Rattle.std.proofs.Common.{◌≡◌, inl, inr, ℕ, ◌+◌, false, List, [], ◌∷◌, map, Option, Some, None, ap, sym, ◌∙◌, refl, subst, arith}
+use Rattle.std.specs.Prelude.{OnOk, Result, Ok, Err, ◌++◌}
+use Rattle.std.specs.Global.{Vec}
+use Rattle.std.specs.List.{range_with_len}
+use Rattle.std.proofs.lemmas.List.FromFn.{map-range_with_len_more}
+use Rattle.rows_table_map.specs.TableMaps.{TableMap}
+use Rattle.feed_checks.specs.Kinds.{map_kind}
+use Rattle.feed_checks.specs.KindViews.{IsKindError}
+use Rattle.feed_checks.specs.declared.verdict.Verdict.{Verdict}
+use Rattle.feed_checks.specs.declared.verdict.Verdict.TheVariants as verdicts
+use Rattle.table_schemas.specs.CompletedMaps.{Tables, AddsTable, is_named, table_named, missing, missing_if_known, missing_if_read}
+use Rattle.table_schemas.specs.LoggedFields.{logged_kinds}
+use Rattle.table_schemas.specs.SchemaFits.{first_difference}
+use Rattle.table_schemas.specs.declared.logged.Logged.{Logged}
+use Rattle.table_schemas.specs.declared.schema_table.SchemaTable.{SchemaTable}
+
+-- under the names that a key has
+pub added_by : (key : Vec ℕ) (names : List ℕ) (t : SchemaTable) (old new : Tables) → key.items ≡ names → table_named key.items new ≡ Some t → ((k : Vec ℕ) → is_named key.items k ≡ false → table_named k.items new ≡ table_named k.items old) → AddsTable names t old new
+added_by key names t old new is added others = subst (λ (n : List ℕ). AddsTable n t old new) is (record { added = added; others = others })
+
+-- nothing is known of bytes that are no table map
+pub unread : (tables : Tables) (body : List ℕ) (o : Option TableMap) (v : Verdict) → IsKindError (map_kind o) v → (v ≡ verdicts.Memory → ⊥) → [] ≡ missing_if_read tables body o
+unread tables body None v why other = refl
+unread tables body (Some m) v (inl why) other = absurd (let e = why.1 in cc)
+unread tables body (Some m) v (inr why) other = absurd (other why)
+
+-- the fields that a table which fits adds to a table map
+pub added_fields : {A E : Type 0} (r : Result A E) (m : TableMap) (o : Option SchemaTable) (t : SchemaTable) (l : Logged) (old new : List ℕ) → o ≡ Some t → logged_kinds m ≡ Some l → first_difference t.columns.items m ≡ None → old ≡ [] → OnOk r (new ≡ old ++ missing l t) → OnOk r (new ≡ missing_if_known m o)
+added_fields (Ok x) m o t l old new known read fits none is = is ∙ ap (λ (b : List ℕ). b ++ missing l t) none ∙ rw (known, read, fits) refl
+added_fields (Err e) m o t l old new known read fits none is = tt
+
+-- one more value, of the next number
+pub mapped_more : (f : ℕ → ℕ) (xs ys : List ℕ) (i x : ℕ) → xs ≡ map f (range_with_len 0 i) → x ≡ f i → ys ≡ xs ++ x ∷ [] → ys ≡ map f (range_with_len 0 (i + 1))
+mapped_more f xs ys i x so_far is more =
+    more
+    ∙ ap (λ (l : List ℕ). l ++ x ∷ []) so_far
+    ∙ ap (λ (n : ℕ). map f (range_with_len 0 i) ++ n ∷ []) is
+    ∙ sym (map-range_with_len_more f 0 i i (omega arith))

@@ -1,0 +1,7 @@
+use Rattle.std.proofs.Common.{◌≡◌, take}
+use Rattle.std.specs.List.{flat_map}
+use Rattle.table_schemas.specs.SchemaFields.{collation_entry}
+use Rattle.table_schemas.proofs.values.collations.Given as goal
+
+abbrev pub invariant-loop-column : goal.invariant-loop-column
+invariant-loop-column l = l.out.items ≡ flat_map collation_entry (take l.column-index l.columns)
