@@ -1,6 +1,6 @@
 # The way in: `make` lists the targets. Each is one script; its first lines say more.
 PREFIX ?= /usr/local
-PROGRAMS ?= binlog-feed binlog-kept binlog-changes
+PROGRAMS ?= binlog-feed binlog-kept binlog-changes binlog-capture
 
 help: ## list the targets
 	@sed -n 's/^\([a-z]*\):.*## /\1|/p' Makefile | \
@@ -21,6 +21,9 @@ install: ## prove, build and install PROGRAMS in PREFIX/bin, with their manual p
 uninstall: ## remove what `make install` installed in PREFIX
 	@tools/uninstall $(PREFIX)
 
+deb: ## prove, build and make a Debian package of all programs, in this folder
+	@tools/deb
+
 edits: ## try the wrong programs of CRATE=NAME, which the prover must reject
 	@checks/prover/edits $(or $(CRATE),$(error name a crate, as in make edits CRATE=rows_cells))
 
@@ -33,4 +36,4 @@ docs: ## write the generated pages and drawings anew; LOG=FILE takes the times f
 bench: ## time reports of several kinds of logs; PROGRAM=PATH times that program without proving it first
 	@bench/run $(if $(PROGRAM),--program $(PROGRAM))
 
-.PHONY: help try test quick install uninstall edits docs bench
+.PHONY: help try test quick install uninstall deb edits docs bench

@@ -223,6 +223,19 @@ fn slices_of<'n>(alloc: Global, names: &'n [Vec<u8>]) -> Result<Vec<&'n [u8]>, F
     Ok(slices)
 }
 
+/// The patterns among full names of tables, which have `*`: of the database's name before the first point, and of the table's.
+fn patterns_of<'n>(alloc: Global, names: &[&'n [u8]]) -> Result<Vec<(&'n [u8], &'n [u8])>, Fault> {
+    let mut patterns = Vec::new(alloc);
+    for name in names {
+        if name.contains(&b'*')
+            && let Some(at) = name.iter().position(|byte| *byte == b'.')
+        {
+            patterns.push((&name[..at], &name[at + 1..]))?;
+        }
+    }
+    Ok(patterns)
+}
+
 /// The limits of positions and times of a filter: `after:N`, `up_to:N`, `from:N`, `to:N`.
 fn limited<'f>(filter: Filter<'f>, limits: &[&str]) -> Result<Filter<'f>, Fault> {
     let mut filter = filter;
@@ -264,7 +277,7 @@ fn put_taken(
     Ok(())
 }
 
-/// `filtered LOG DATABASES TABLES EXCLUDED LIMIT..`: names are between commas, `''` for none.
+/// `filtered LOG DATABASES TABLES EXCLUDED LIMIT..`: names are between commas, `''` for none; tables with `*` are patterns too.
 fn put_filtered(alloc: Global, arguments: &[&str], out: &mut Vec<u8>) -> Result<(), Fault> {
     let [log, databases, tables, excluded, limits @ ..] = arguments else {
         return Err(Fault::NoCase);
@@ -276,10 +289,16 @@ fn put_filtered(alloc: Global, arguments: &[&str], out: &mut Vec<u8>) -> Result<
     let excluded = names_of(alloc, plain(excluded))?;
     let (databases, tables) = (slices_of(alloc, &databases)?, slices_of(alloc, &tables)?);
     let excluded = slices_of(alloc, &excluded)?;
+    let (table_patterns, excluded_patterns) = (
+        patterns_of(alloc, &tables)?,
+        patterns_of(alloc, &excluded)?,
+    );
     let mut filter = Filter::all();
     filter.databases = &databases;
     filter.tables = &tables;
+    filter.table_patterns = &table_patterns;
     filter.excluded = &excluded;
+    filter.excluded_patterns = &excluded_patterns;
     put_taken(alloc, &bytes_of(alloc, log)?, limited(filter, limits)?, out)
 }
 

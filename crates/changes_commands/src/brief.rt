@@ -9,11 +9,15 @@ ghost use Rattle.rows_table_map.specs.MapViews.{map_of};
 ghost use Rattle.changes_commands.specs.EventLines.{is_named, IsReadAs};
 ghost use Rattle.changes_commands.specs.GrowingTexts.{Grows};
 
+use crate::brief_mariadb::put_mariadb;
 use crate::events::Names;
 use crate::text::Text;
-use byteorder::{ByteOrder, LittleEndian};
-use events_frames::{EventError, EventParts, EventStreamReader, RotateEvent, read_body};
+use events_frames::{
+    BinlogEventHeader, EventError, EventParts, EventStreamReader, QueryTexts, RotateEvent,
+    read_body,
+};
 use events_mariadb::MariadbType;
+use events_xa::{read_prepared, xid_text};
 use feed_checks::{EventKind, Verdict};
 use rows_constants::EventType;
 use rows_event_body::RowsEvent;
@@ -22,11 +26,8 @@ use rows_table_map::TableMapEvent;
 /// How many bytes of a statement are shown, at most.
 const SHOWN_OF_STATEMENT: usize = 60;
 
-/// The offset of the domain in the body of a GTID_EVENT of MariaDB, after the sequence number.
-const DOMAIN_OFFSET: usize = 8;
-
 /// Appends the beginning of a statement, as a string.
-fn put_statement(statement: &[u8], out: &mut Text)
+pub(crate) fn put_statement(statement: &[u8], out: &mut Text)
     ensures { Grows out.old out.new }
 {
     match statement.get(..SHOWN_OF_STATEMENT) {
@@ -38,33 +39,8 @@ fn put_statement(statement: &[u8], out: &mut Text)
     }
 }
 
-/// Appends the GTID in the body of a GTID_EVENT of MariaDB, of this server.
-#[tactic(auto, using(crate::proofs::GrowingLemmas::grows_by))]
-fn put_mariadb_gtid(server: u32, body: &[u8], out: &mut Text)
-    ensures { Grows out.old out.new }
-{
-    if body.len() < DOMAIN_OFFSET + 4 {
-        out.words("damaged");
-        return;
-    }
-    out.unsigned(u64::from(LittleEndian::read_u32(&body[DOMAIN_OFFSET..])));
-    out.label(b"-", u64::from(server));
-    out.label(b"-", LittleEndian::read_u64(body));
-}
-
-/// Appends what one of MariaDB's own events says.
-fn put_mariadb(mariadb_type: MariadbType, parts: &EventParts<'_>, out: &mut Text)
-    ensures { Grows out.old out.new }
-{
-    match mariadb_type {
-        MariadbType::GTID_EVENT => put_mariadb_gtid(parts.header().server_id(), parts.body(), out),
-        MariadbType::ANNOTATE_ROWS_EVENT => put_statement(parts.body(), out),
-        _ => {}
-    }
-}
-
 /// Appends the names of a table.
-fn put_table(map: &TableMapEvent<'_>, out: &mut Text)
+pub(crate) fn put_table(map: &TableMapEvent<'_>, out: &mut Text)
     ensures { Grows out.old out.new }
 {
     out.name(map.database_name_raw());
@@ -92,7 +68,52 @@ fn put_rows(reader: &EventStreamReader, rows: &RowsEvent<'_>, out: &mut Text)
     out.label(b"table ", rows.table_id());
 }
 
-/// Appends what an event of this kind says.
+/// Appends the statement that an XA_PREPARE_LOG_EVENT stands for, whose bytes before its checksum these are.
+#[tactic(auto, using(crate::proofs::GrowingLemmas::grows_by))]
+fn put_prepared(event: &[u8], out: &mut Text)
+    ensures { Grows out.old out.new }
+{
+    let Some(prepared) = read_prepared(event) else {
+        out.words("damaged");
+        return;
+    };
+    let xid = xid_text(
+        out.alloc(),
+        prepared.format,
+        prepared.global,
+        prepared.branch,
+    );
+    let Ok(xid) = xid else {
+        out.run_short();
+        return;
+    };
+    let (before, after) = if prepared.is_one_phase {
+        ("\"XA COMMIT ", " ONE PHASE\"")
+    } else {
+        ("\"XA PREPARE ", "\"")
+    };
+    out.words(before);
+    out.put(&xid);
+    out.words(after);
+}
+
+/// Appends what an event says that isn't shown by itself: an XA statement, or a transaction that is prepared.
+fn put_unshown(event: &[u8], parts: &EventParts<'_>, out: &mut Text)
+    ensures { Grows out.old out.new }
+{
+    let number = parts.header().event_type_raw();
+    if number == EventType::XA_PREPARE_LOG_EVENT as u8 {
+        let len = BinlogEventHeader::LEN.saturating_add(parts.body().len());
+        put_prepared(event.get(..len).unwrap_or(event), out);
+        return;
+    }
+    match QueryTexts::read(parts.body()) {
+        Some(texts) if number == EventType::QUERY_EVENT as u8 => out.name(texts.query),
+        _ => out.words("not shown"),
+    }
+}
+
+/// Appends what an event of this kind says, unless it isn't shown by itself.
 #[tactic(auto, using(crate::proofs::GrowingLemmas::grows_by))]
 fn put_kind(reader: &EventStreamReader, kind: &EventKind<'_>, out: &mut Text)
     ensures { Grows out.old out.new }
@@ -107,7 +128,7 @@ fn put_kind(reader: &EventStreamReader, kind: &EventKind<'_>, out: &mut Text)
         EventKind::Map(map) => put_map(map, out),
         EventKind::Rows(rows) => put_rows(reader, rows, out),
         EventKind::RealRotate | EventKind::Ignored => {}
-        EventKind::Unshown => out.words("not shown"),
+        EventKind::Unshown => {}
         EventKind::Unknown => out.words("unknown"),
     }
 }
@@ -150,9 +171,10 @@ fn put_rotate(body: &[u8], out: &mut Text)
 
 /// Appends what an event with these parts says. Returns whether it is listed.
 #[tactic(auto, using(crate::proofs::GrowingLemmas::grows_by))]
-fn put_parts<N: Names>(
+pub(crate) fn put_parts<N: Names>(
     reader: &EventStreamReader,
     names: &N,
+    event: &[u8],
     parts: &EventParts<'_>,
     out: &mut Text,
 ) -> bool
@@ -164,10 +186,14 @@ fn put_parts<N: Names>(
         return true;
     }
     if let Some(mariadb_type) = MariadbType::of(parts.header().event_type_raw()) {
-        put_mariadb(mariadb_type, parts, out);
+        put_mariadb(reader, mariadb_type, parts, out);
         return true;
     }
     match EventKind::of(out.alloc(), reader.get_fde(), parts) {
+        Ok(EventKind::Unshown) => {
+            put_unshown(event, parts, out);
+            true
+        }
         Ok(kind) => {
             put_kind(reader, &kind, out);
             let is_taken = is_taken(reader, names, &kind);
@@ -198,7 +224,7 @@ pub(crate) fn put_brief<N: Names>(
     ensures read { out.new.is_short ≡ false → IsReadAs (N.databases names.now) (N.tables names.now) (reading_of reader.old) (reading_of reader.new) event.now result }
 {
     match reader.read_slice(event) {
-        Ok(parts) => put_parts(reader, names, &parts, out),
+        Ok(parts) => put_parts(reader, names, event, &parts, out),
         Err(EventError::Memory) => {
             out.run_short();
             true

@@ -2,28 +2,38 @@
 #![tactic(auto)]
 
 mod brief;
+mod brief_mariadb;
 mod command_line;
 mod event_walk;
 mod events;
+mod follow_options;
+mod known_commands;
 mod log_reader;
 mod logs;
 mod member_names;
 mod messages;
 mod output;
+mod payload_lines;
+mod plain;
 mod progress;
 mod refused;
 mod rotation;
 mod shown;
+mod table_names;
 mod text;
 mod time_zone;
 
 pub use command_line::{Options, Range, Task, parse};
 pub use event_walk::Listed;
 pub use events::{Names, list};
+pub use follow_options::FollowOptions;
 pub use log_reader::LogReader;
 pub use logs::{Log, are_in_order, are_of_one_server};
-pub use messages::{Explanation, explain, put_led_astray, put_no_start, put_remaining};
+pub use messages::{
+    Explanation, explain, put_led_astray, put_no_start, put_no_transaction, put_remaining,
+};
 pub use output::{Failure, Output, Written, write};
+pub use plain::{PlainEnd, Unplain, write_plain};
 pub use progress::Progress;
 pub use refused::Refused;
 pub use rotation::leads_to;

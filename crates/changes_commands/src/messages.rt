@@ -145,6 +145,21 @@ pub fn put_no_start(path: &str, before: Option<u32>, after: Option<u32>, out: &m
     out.push(b'\n');
 }
 
+/// Appends that no transaction ends where the options say, and where the last before it ends.
+pub fn put_no_transaction(path: &str, before: Option<u32>, out: &mut Text) {
+    out.words("binlog-changes: ");
+    out.words(path);
+    out.words(": no transaction ends at the position of --transaction; ");
+    match before {
+        Some(before) => {
+            out.words("the last before it ends at ");
+            out.unsigned(u64::from(before));
+        }
+        None => out.words("there is none before it"),
+    }
+    out.words("; json prints the positions, and check the last one\n");
+}
+
 /// Appends that a log ends within an event, of which it has this many bytes.
 pub fn put_remaining(path: &str, remaining: usize, out: &mut Text) {
     out.words("binlog-changes: ");

@@ -13,8 +13,6 @@ pub enum Refused {
     Words(Error),
     /// The value of this option can't be used.
     Value(&'static str),
-    /// The value of this option is a list.
-    List(&'static str),
     /// There is no command.
     NoCommand,
     /// Out of memory.
@@ -48,6 +46,7 @@ impl Refused {
     /// A value that this option takes.
     pub fn example(option: &str) -> &'static str {
         match option {
+            "database" => "shop",
             "table" | "exclude-table" => "shop.orders",
             "character-set" => "utf8mb4",
             "time-zone" => "UTC, +02:00 or Europe/Berlin",

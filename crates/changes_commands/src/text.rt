@@ -8,7 +8,7 @@ use changes_origins::{put_gtid, put_utf8};
 use feed_checks::Gtid;
 use feed_text::TextBuffer;
 use std::alloc::{AllocError, Global};
-use std::fmt::Debug;
+use std::fmt::{Debug, Display};
 use std::io::Write;
 use std::str;
 
@@ -124,6 +124,17 @@ impl Text {
     {
         let mut shown = Vec::new(self.alloc);
         if write!(shown, "{value:?}").is_err() {
+            self.is_short = true;
+        }
+        self.put(&shown);
+    }
+
+    /// Appends what a value is shown as to people.
+    pub(crate) fn shown<T: Display>(&mut self, value: &T)
+        ensures { Grows self.old self.new }
+    {
+        let mut shown = Vec::new(self.alloc);
+        if write!(shown, "{value}").is_err() {
             self.is_short = true;
         }
         self.put(&shown);

@@ -13,7 +13,9 @@ abbrev pub with_positions : Filter → Option ℕ → Option ℕ → Filter
 with_positions f after up_to = record {
   databases = f.databases;
   tables = f.tables;
+  table_patterns = f.table_patterns;
   excluded = f.excluded;
+  excluded_patterns = f.excluded_patterns;
   after = after;
   up_to = up_to;
   from_time = f.from_time;

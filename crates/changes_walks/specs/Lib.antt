@@ -3,8 +3,10 @@ pub mod Locations
 pub mod LogWalks
 pub mod SourceStates
 pub mod LogSources
+pub mod CheckedWords
 pub mod Counting
 pub mod Findings
 pub mod WalkedStops
 pub mod AscendingPositions
 pub mod Gaps
+pub mod IdleSources

@@ -1,10 +1,13 @@
 //! Walks of logs: which transactions and changes positions and options select, how a log ended, and what `binlog-changes check` says of it.
 #![tactic(auto)]
 
+mod checked_json;
 mod checking;
 mod gaps;
 mod laws;
+mod log_events;
 mod positions;
+mod pushed;
 mod selection;
 mod sink;
 mod sources;
@@ -12,17 +15,21 @@ mod status;
 mod walk;
 mod words;
 
-pub use checking::check;
+pub use checked_json::put_checked_json;
+pub use checking::{TransactionCounter, checked, count};
 pub use gaps::{beginning_of, is_passable, leave_out};
 pub use laws::filters_select_by_the_same_positions;
+pub use log_events::LogEvents;
 pub use positions::PositionRange;
+pub use pushed::pushed_log;
 pub use selection::{FilteredNames, filter_of, selection_of};
-pub use sink::TransactionSink;
-pub use sources::{LogEvents, SourceFault, SourceStates};
+pub use sink::{EachChange, TransactionSink};
+pub use sources::{SourceFault, SourceStates};
 pub use status::{
-    DAMAGED, FAILED, Finding, USAGE, WHOLE, finding_of, status_of, status_of_verdict,
+    DAMAGED, FAILED, Finding, USAGE, WHOLE, finding_of, last_before, misses, status_of,
+    status_of_verdict,
 };
 pub use walk::{EndedWalk, LogEnd, Selection, walk_log};
 pub use words::{
-    Checked, Selected, explanation_of, put_checked, put_checked_json, put_gap, put_unclosed,
+    Checked, Selected, explanation_of, put_checked, put_gap, put_gap_words, put_unclosed,
 };

@@ -1,16 +1,17 @@
 //! What is said to people about logs and errors.
 
 ghost use Rattle.changes_commands.specs.GrowingTexts.{IsLonger};
+ghost use Rattle.std.specs.Prelude.{◌≡◌, None};
+ghost use Rattle.changes_walks.specs.CheckedWords.{gap_words, has_gaps, last_commit_of};
 ghost use Rattle.changes_walks.specs.Gaps.{gap_json};
 
 use crate::sources::SourceFault;
-use crate::status::is_whole;
 use changes_commands::{Explanation, Text, explain, put_type};
 use events_mariadb::{MariadbFault, is_mariadb_number};
 use events_replaced::ReplacementFault;
 use events_xa::XaFault;
 use feed_change_log::Stop;
-use feed_checks::{Verdict, name_of};
+use feed_checks::Verdict;
 use rows_constants::EventType;
 
 /// The transactions of a log that the options select.
@@ -29,6 +30,8 @@ pub struct Checked<'l> {
     pub explanation: Explanation,
     /// The position up to which it was read, if that isn't its end.
     pub up_to: Option<u32>,
+    /// How much was left out, if transactions that can't be read are.
+    pub gaps: Option<u64>,
     /// The transactions that the options select, if there are such options.
     pub selected: Option<Selected>,
 }
@@ -36,18 +39,32 @@ pub struct Checked<'l> {
 impl<'l> Checked<'l> {
     /// What is known of a log that was read to its end or its first fault, and begins with these bytes. The fault is why the event at
     /// which it ended is given as it is.
-    pub fn new(path: &'l str, stop: Stop, fault: Option<SourceFault>, first: &[u8]) -> Checked<'l> {
+    pub fn new(path: &'l str, stop: Stop, fault: Option<SourceFault>, first: &[u8]) -> Checked<'l>
+        ensures path { result.path.now ≡ path.now }
+        ensures stop { result.stop ≡ stop }
+        ensures none { (result.up_to ≡ None) × (result.gaps ≡ None) × (result.selected ≡ None) }
+    {
         Checked {
             path,
             stop,
             explanation: explanation_of(stop, fault, first),
             up_to: None,
+            gaps: None,
             selected: None,
         }
     }
 
+    /// Whether something was left out.
+    fn has_gaps(self) -> bool
+        ensures { result ≡ has_gaps self.entry }
+    {
+        matches!(self.gaps, Some(gaps) if gaps > 0)
+    }
+
     /// Where the last transaction ends; of those that the options select, if there are such options.
-    fn last_commit(self) -> Option<u32> {
+    pub(crate) fn last_commit(self) -> Option<u32>
+        ensures { result ≡ last_commit_of self.entry }
+    {
         match self.selected {
             Some(selected) => selected.last,
             None => self.stop.last_commit,
@@ -158,7 +175,8 @@ pub fn explanation_of(stop: Stop, fault: Option<SourceFault>, first: &[u8]) -> E
 }
 
 /// Appends why a log ended.
-fn put_cause(stop: Stop, explanation: Explanation, out: &mut Text) {
+fn put_cause(checked: Checked<'_>, out: &mut Text) {
+    let stop = checked.stop;
     if stop.is_cut {
         out.words("the log ends within an event, ");
         out.unsigned(stop.remaining as u64);
@@ -166,8 +184,10 @@ fn put_cause(stop: Stop, explanation: Explanation, out: &mut Text) {
         out.unsigned(stop.offset);
     } else if stop.verdict == Verdict::End && stop.is_open {
         out.words("the log ends within a transaction");
+    } else if stop.verdict == Verdict::End && checked.has_gaps() {
+        out.words("the log is whole but for its gaps");
     } else {
-        out.words(explanation.meaning);
+        out.words(checked.explanation.meaning);
     }
 }
 
@@ -209,7 +229,7 @@ pub fn put_checked(checked: Checked<'_>, out: &mut Text) {
     let is_end = stop.verdict == Verdict::End;
     out.words(checked.path);
     out.words(": ");
-    put_cause(stop, checked.explanation, out);
+    put_cause(checked, out);
     if let Some(position) = checked.up_to {
         out.words(" up to ");
         out.unsigned(u64::from(position));
@@ -217,6 +237,12 @@ pub fn put_checked(checked: Checked<'_>, out: &mut Text) {
     }
     if !is_end && stop.offset > 0 {
         put_place(stop, out);
+    }
+    if let Some(gaps) = checked.gaps
+        && gaps > 0
+    {
+        out.words("; gaps: ");
+        out.unsigned(gaps);
     }
     put_transactions(checked, out);
     if stop.is_open && (!is_end || stop.is_cut) {
@@ -256,59 +282,16 @@ pub fn put_gap(file: &[u8], from: u64, to: u64, reason: &str, out: &mut Text)
     out.words("}\n");
 }
 
-/// Appends the event at which a log ended, as members of an object.
-fn put_event_json(stop: Stop, out: &mut Text) {
-    if let Some(header) = stop.header {
-        out.key("event_type");
-        out.push(b'"');
-        put_type(header.event_type_raw(), out);
-        out.push(b'"');
-        out.key("event_size");
-        out.unsigned(u64::from(header.event_size()));
-    }
-}
-
-/// Appends a number, or null.
-fn put_number(number: Option<u64>, out: &mut Text) {
-    match number {
-        Some(number) => out.unsigned(number),
-        None => out.null(),
-    }
-}
-
-/// Appends what the options select of a log, as members of an object.
-fn put_selected_json(checked: Checked<'_>, out: &mut Text) {
-    if let Some(selected) = checked.selected {
-        out.key("transactions");
-        out.unsigned(selected.count);
-        out.key("checked_up_to");
-        put_number(checked.up_to.map(u64::from), out);
-    }
-}
-
-/// Appends how a log ended, as JSON.
-pub fn put_checked_json(checked: Checked<'_>, out: &mut Text) {
-    let stop = checked.stop;
-    out.push(b'{');
-    out.key("file");
-    out.string(checked.path);
-    out.key("verdict");
-    out.string(name_of(&stop.verdict));
-    out.key("is_whole");
-    out.boolean(is_whole(stop));
-    out.key("offset");
-    out.unsigned(stop.offset);
-    put_event_json(stop, out);
-    out.key("last_commit");
-    put_number(checked.last_commit().map(u64::from), out);
-    out.key("is_open");
-    out.boolean(stop.is_open);
-    out.key("is_cut");
-    out.boolean(stop.is_cut);
-    out.key("remaining");
-    out.unsigned(stop.remaining as u64);
-    out.key("next_offset");
-    put_number(stop.next_offset(), out);
-    put_selected_json(checked, out);
-    out.words("}\n");
+/// Appends where a gap in a log is and why it is one, for people.
+pub fn put_gap_words(path: &str, from: u64, to: u64, reason: &str, out: &mut Text)
+    ensures { IsLonger out.old out.new (gap_words path.now from to reason.now) }
+{
+    out.words(path);
+    out.words(": a gap from ");
+    out.unsigned(from);
+    out.words(" to ");
+    out.unsigned(to);
+    out.words(": ");
+    out.words(reason);
+    out.push(b'\n');
 }

@@ -13,7 +13,7 @@ none_completed : (has_checksum : Bool) (event : List ℕ) (o : Option (List ℕ)
 none_completed has_checksum event None = refl
 none_completed has_checksum event (Some bytes) = rw (no_fields _ _) refl
 
-same_event : (has_checksum : Bool) (event : List ℕ) (is : Bool) → is_table_map event ≡ is → completed_event [] has_checksum event ≡ event
+pub same_event : (has_checksum : Bool) (event : List ℕ) (is : Bool) → is_table_map event ≡ is → completed_event [] has_checksum event ≡ event
 same_event has_checksum event true e = rw e (none_completed has_checksum event (before_checksum has_checksum event))
 same_event has_checksum event false e = rw e refl
 

@@ -1,3 +1,4 @@
 mod WholeMapLemmas
 mod GivenLemmas
 mod EmptyLemmas
+mod PlainLemmas

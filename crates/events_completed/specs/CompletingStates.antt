@@ -81,3 +81,10 @@ pub record WaitsNow {S : Type 0} (old new : CompletedEvents S) : Type 0 where
   pub has_checksum : new.has_checksum ≡ old.has_checksum
   pub waits : new.waits ≡ true
   pub newest : new.newest ≡ newest.None
+
+-- its newest event is the other source's, which is idle, none waits to be given, and the schema has no tables
+pub record IsIdleOver {S : Type 0} (IsIdle : S → Type 0) (s : CompletedEvents S) : Type 0 where
+  pub own : s.newest ≡ newest.Own
+  pub none : s.waits ≡ false
+  pub tables : tables_in s ≡ []
+  pub below : IsIdle s.source

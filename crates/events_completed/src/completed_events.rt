@@ -7,7 +7,7 @@ ghost use Rattle.table_schemas.specs.CompletedMaps.{tables_of};
 ghost use Rattle.events_completed.specs.CompletedEvents.{is_table_map, completed_event};
 
 use events_frames::{BinlogEventHeader, EventError, Events, NextFrame, event_size, has_type};
-use events_replaced::checksums_after;
+use events_replaced::{PlainEvents, checksums_after};
 use rows_constants::EventType;
 use std::alloc::{AllocError, Global};
 use std::io::Read;
@@ -169,6 +169,30 @@ impl<R: Read, S: Events<R>> Events<R> for CompletedEvents<'_, S> {
                 Err(fault)
             }
         }
+    }
+}
+
+impl<R: Read, S: PlainEvents<R>> PlainEvents<R> for CompletedEvents<'_, S> {
+    ghost use Rattle.events_completed.specs.CompletingStates.{IsIdleOver};
+
+    ghost IsIdle = { λ s. IsIdleOver S.IsIdle s };
+
+    #[inline(always)]
+    fn is_idle(&self) -> bool {
+        matches!(self.newest, Newest::Own)
+            && !self.waits
+            && self.schemas.is_empty()
+            && self.source.is_idle()
+    }
+
+    #[inline(always)]
+    fn next_plain(&mut self, reader: &mut Watched<R>) -> bool {
+        self.source.next_plain(reader)
+    }
+
+    #[inline(always)]
+    fn own_event(&self) -> &[u8] {
+        self.source.own_event()
     }
 }
 

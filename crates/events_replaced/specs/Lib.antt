@@ -6,3 +6,4 @@ pub mod ReplacementStates
 pub mod GivenReplacements
 pub mod UnpackingStates
 pub mod GivenReplacementLaws
+pub mod PlainEvents

@@ -24,7 +24,7 @@ same_type (suc (suc (suc zero))) (a ∷ b ∷ c ∷ d ∷ x ∷ rest) h l = absu
 same_type (suc (suc (suc (suc zero)))) (a ∷ b ∷ c ∷ d ∷ x ∷ rest) h l = absurd (omega (arith, h))
 same_type (suc (suc (suc (suc (suc k))))) (a ∷ b ∷ c ∷ d ∷ x ∷ rest) h l = refl
 
-type_before_sum : (has_checksum : Bool) (e : List ℕ) → 19 ≤ length e → header_field 4 1 (before_sum has_checksum e) ≡ header_field 4 1 e
+pub type_before_sum : (has_checksum : Bool) (e : List ℕ) → 19 ≤ length e → header_field 4 1 (before_sum has_checksum e) ≡ header_field 4 1 e
 type_before_sum false e l = refl
 type_before_sum true e l = by (nat_le 23 (length e)) refl
   where
@@ -36,7 +36,7 @@ type_before_sum true e l = by (nat_le 23 (length e)) refl
 by_number : (n : ℕ) (e : List ℕ) → (n == 2) ≡ false → (n == 38) ≡ false → (n == 15) ≡ false → role_by n e ≡ (if is_part n then roles.Part else roles.None)
 by_number n e h k j = rw (h, k, j) refl
 
-parts : (s : XaState) (event : List ℕ) → is_open s ≡ false → (b : Bool) (role : XaRole) → role ≡ (if b then roles.Part else roles.None) → (passes s role ≡ true) × (passed s role event ≡ s)
+pub parts : (s : XaState) (event : List ℕ) → is_open s ≡ false → (b : Bool) (role : XaRole) → role ≡ (if b then roles.Part else roles.None) → (passes s role ≡ true) × (passed s role event ≡ s)
 parts s event closed b role is = rw is (either b s.has_failed refl)
   where
     either : (b failed : Bool) → s.has_failed ≡ failed → (passes s (if b then roles.Part else roles.None) ≡ true) × (passed s (if b then roles.Part else roles.None) event ≡ s)

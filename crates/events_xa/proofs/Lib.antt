@@ -3,3 +3,4 @@ pub mod GivenLemmas
 pub mod StepLemmas
 pub mod WholeLemmas
 mod IndifferentLemmas
+mod PlainLemmas

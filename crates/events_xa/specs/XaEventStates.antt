@@ -6,7 +6,7 @@ use Rattle.events_frames.specs.declared.event_error.EventError.{EventError}
 use Rattle.events_frames.specs.declared.event_error.EventError.TheVariants as faults
 use Rattle.events_replaced.specs.StampedEvents.{stamped}
 use Rattle.events_xa.specs.GivenXaEvents.{GivesXa}
-use Rattle.events_xa.specs.XaStates.{XaState}
+use Rattle.events_xa.specs.XaStates.{XaState, is_open}
 use Rattle.events_xa.specs.XaTransactionStates.{content_of, state_of}
 use Rattle.events_xa.specs.declared.xa_events.XaEvents.{XaEvents}
 use Rattle.events_xa.specs.declared.xa_events.Newest.{Newest}
@@ -97,3 +97,10 @@ pub record PassesNone {S : Type 0} (old new : XaEvents S) : Type 0 where
 abbrev pub PassesMade : {S : Type 0} → XaEvents S → Bool → XaEvents S → Type 0
 PassesMade old true new = PassesOne old new
 PassesMade old false new = PassesNone old new
+
+-- its newest event is the other source's, which is idle, nothing is left in place of one, and no transaction is open
+pub record IsIdleOver {S : Type 0} (IsIdle : S → Type 0) (s : XaEvents S) : Type 0 where
+  pub own : s.newest ≡ newest.Own
+  pub none : has_event (content_left s) ≡ false
+  pub closed : is_open (xa_of s) ≡ false
+  pub below : IsIdle s.source

@@ -14,5 +14,7 @@ mod xid;
 
 pub use fault::XaFault;
 pub use laws::xa_transactions_are_whole_events;
+pub use role::statement_of;
 pub use transactions::XaTransactions;
 pub use xa_events::XaEvents;
+pub use xid::{PreparedXid, read_prepared, xid_text};

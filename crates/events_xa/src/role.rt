@@ -47,7 +47,7 @@ pub(crate) enum XaRole {
 }
 
 /// The statement of a QUERY_EVENT without its checksum; no bytes, if it is too short.
-pub(crate) fn statement_of(event: &[u8]) -> &[u8]
+pub fn statement_of(event: &[u8]) -> &[u8]
     ensures { result.now ≡ statement_of event.now }
 {
     if event.len() < STATEMENT_START {

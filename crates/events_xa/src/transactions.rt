@@ -172,6 +172,14 @@ impl XaTransactions {
         role_of(bytes)
     }
 
+    /// Whether a transaction is open.
+    #[inline(always)]
+    pub(crate) fn is_open(&self) -> bool
+        ensures { result ≡ is_open (state_of self.now) }
+    {
+        self.is_open
+    }
+
     /// Whether an event is given as it is by its type alone, and changes nothing: most are.
     #[inline(always)]
     pub(crate) fn passes_at_once(&self, event: &[u8]) -> bool

@@ -22,17 +22,18 @@ const PARTS_OFFSET: usize = 32;
 
 /// What an XA_PREPARE_LOG_EVENT has.
 #[derive(Clone, Copy)]
-pub(crate) struct PreparedXid<'e> {
+pub struct PreparedXid<'e> {
     /// Whether the transaction is committed by it.
-    pub(crate) is_one_phase: bool,
-    pub(crate) format: u32,
+    pub is_one_phase: bool,
+    /// The format of the XID.
+    pub format: u32,
     /// The global transaction's part of the XID, and the branch's.
-    pub(crate) global: &'e [u8],
-    pub(crate) branch: &'e [u8],
+    pub global: &'e [u8],
+    pub branch: &'e [u8],
 }
 
 /// Reads an XA_PREPARE_LOG_EVENT without its checksum. Returns None if its parts don't end where it does.
-pub(crate) fn read_prepared(event: &[u8]) -> Option<PreparedXid<'_>>
+pub fn read_prepared(event: &[u8]) -> Option<PreparedXid<'_>>
     ensures some { IfSome result (ReadsPrepared event.now) }
     ensures none { IfNone result (is_prepare event.now ≡ false) }
 {
@@ -56,7 +57,7 @@ pub(crate) fn read_prepared(event: &[u8]) -> Option<PreparedXid<'_>>
 
 /// An XID as servers write it in XA COMMIT: `X'..',X'..',1`, both parts in hexadecimal digits, and the format. `AllocError`: out of
 /// memory.
-pub(crate) fn xid_text(
+pub fn xid_text(
     alloc: Global,
     format: u32,
     global: &[u8],

@@ -1,7 +1,20 @@
 -- A payload that is borrowed from the received bytes.
-use Rattle.std.proofs.Common.{◌≡◌, ℕ, ◌+◌, List, [], ◌∷◌, length, take, drop, refl, sym, subst, ◌∙◌}
+use Rattle.std.proofs.Common.{◌≡◌, ℕ, ◌+◌, ◌≤◌, List, [], ◌∷◌, length, take, drop, Some, refl, sym, subst, ◌∙◌, arith}
 use Rattle.wire_packets.specs.CodecState.{HasRead, GivesPacket, codec_gathered}
 use Rattle.wire_packets.specs.declared.packet_codec.PacketCodec.{PacketCodec}
+use Rattle.feed_replication.specs.Incoming.{IsFound, found_end}
+use Rattle.feed_replication.specs.declared.incoming.Found.{Found}
+use Rattle.feed_replication.specs.declared.incoming.Found.TheVariants.{Received, Gathered}
+use Rattle.feed_replication.specs.declared.incoming.Incoming.{Incoming}
+
+-- a packet that was found ends within the received bytes
+pub is_found : (i : Incoming) (f : Found) → found_end (Some f) ≤ length i.received.items → IsFound i f
+is_found i (Received n) h = h
+is_found i Gathered h = tt
+
+pub found_ends : (i : Incoming) (f : Found) → IsFound i f → found_end (Some f) ≤ length i.received.items
+found_ends i (Received n) h = h
+found_ends i Gathered h = omega arith
 
 none_long : (g : List ℕ) → length g ≡ 0 → g ≡ []
 none_long [] h = refl

@@ -2,6 +2,7 @@ pub mod IncomingLemmas
 pub mod StreamLemmas
 pub mod ResumePositionLemmas
 pub mod AnswerLemmas
+pub mod AnswerEventLemmas
 pub mod FollowLemmas
 pub mod FeedingLemmas
 pub mod AcknowledgementLemmas

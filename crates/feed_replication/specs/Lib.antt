@@ -3,6 +3,7 @@ pub mod ResumePositions
 pub mod Incoming
 pub mod AnswerReaders
 pub mod AnswerSteps
+pub mod AnswerEvents
 pub mod Following
 pub mod FollowingSteps
 pub mod PrefixLists

@@ -1,6 +1,6 @@
 //! The packets of an answer that arrives in pieces of any lengths.
 
-ghost use Rattle.std.specs.Prelude.{◌≡◌, ◌<◌, ◌+◌, ◌++◌, List, ℕ, [], IfOk, IfSome, OnOk, OnErr, length};
+ghost use Rattle.std.specs.Prelude.{◌≡◌, ◌<◌, ◌+◌, ◌++◌, List, ℕ, [], IfOk, IfSome, OnOk, OnErr, IsTrue, length};
 ghost use Rattle.wire_packets.specs.CodecState.{HasRead, codec_limit};
 ghost use Rattle.feed_replication.specs.Incoming.{IsFresh, IsFound, FindsNext, found_payload, after};
 
@@ -61,6 +61,17 @@ impl Incoming {
         ensures gathered { self.new.gathered ≡ self.old.gathered }
     {
         self.received.extend_from_slice(piece)
+    }
+
+    /// Whether no bytes were received of a packet that isn't taken yet.
+    pub(crate) fn is_empty(&self) -> bool
+        ensures received { IsTrue result → self.now.received.items ≡ [] }
+        ensures gathered { IsTrue result → self.now.gathered.items ≡ [] }
+    {
+        if !self.received.is_empty() {
+            return false;
+        }
+        self.gathered.is_empty()
     }
 
     /// Finds the payload of the next packet; returns `None` if there is no further complete packet. Call `drop_found` on it before the

@@ -6,6 +6,7 @@
 #![tactic(auto)]
 
 mod acknowledgements;
+mod answer_events;
 mod answer_reader;
 mod follower;
 mod format;
@@ -20,7 +21,9 @@ mod serving;
 mod skipping;
 mod step;
 mod waiting;
+mod without_checksum;
 
+pub use answer_events::AnswerEvents;
 pub use answer_reader::{AnswerReader, TakenEvent};
 pub use follower::Follower;
 pub use format::PayloadFormat;

@@ -12,6 +12,7 @@ pub mod RowLineLemmas
 pub mod CheckedRowLemmas
 pub mod CheckedEventLemmas
 mod CountedRowLemmas
+mod NamePatternLemmas
 mod TableFilterLemmas
 pub mod TableLemmas
 pub mod MapBodyLemmas

@@ -16,6 +16,7 @@ pub mod MappedRows
 pub mod RowTexts
 pub mod RowLines
 pub mod CheckedRows
+pub mod NamePatterns
 pub mod TableFilters
 pub mod KnownImages
 pub mod Tables

@@ -10,6 +10,7 @@ mod kept_gtid;
 mod known_images;
 pub mod laws;
 mod lines;
+mod name_pattern;
 mod open_transaction;
 mod planned_rows;
 mod recorder;

@@ -21,7 +21,7 @@ use Rattle.changes_tables.specs.declared.columns.TableOptions.{TableOptions}
 use Rattle.changes_tables.specs.declared.columns.Shown.TheVariants as shown
 use Rattle.changes_walks.specs.LogWalks.{EndsLog}
 use Rattle.changes_walks.specs.SourceStates.{Known}
-use Rattle.changes_walks.specs.Selections.{IsFilterOf, Selected, start_for, stop_for}
+use Rattle.changes_walks.specs.Selections.{after_for, IsFilterOf, Selected, start_for, stop_for}
 use Rattle.changes_walks.specs.declared.walk.LogEnd.{LogEnd}
 use Rattle.changes_walks.specs.declared.walk.LogEnd.TheVariants as ends
 use Rattle.program_changes.specs.declared.changes.LineSink.{LineSink}
@@ -100,5 +100,5 @@ pub record WritesLog {W : Type 0} (contents : W → Option (List ℕ)) (judge : 
 -- the lines of what the options select of a log were written, by what is known before it; `is_first` and `next` are its place among the logs
 pub record WritesSelected {W A : Type 0} (contents : W → Option (List ℕ)) (judge : Judge) (o : Options) (is_first : Bool) (next : Option A) (known : Known) (b : List ℕ) (first new : LineSink W) (result : LogEnd) : Type 0 where
   pub filter : Filter
-  pub filter_is : IsFilterOf o filter
+  pub filter_is : IsFilterOf o (after_for o.range.after next) filter
   pub writes : WritesLog contents judge filter (start_for o.range.start is_first) (stop_for o.range.stop next) known b first new result

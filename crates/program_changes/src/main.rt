@@ -5,7 +5,11 @@
 #![tactic(auto)]
 
 mod changes;
+mod checking;
+mod follow;
+mod follow_messages;
 mod parts;
+mod reached;
 mod run;
 mod schema;
 
@@ -27,14 +31,10 @@ fn refuse(rt: &HostRuntime, refused: Refused) -> ExitCode {
             let _ = eprintln!(rt; "binlog-changes: --{option} wants a value such as {example}");
             ExitCode::from(2)
         }
-        Refused::List(option) => {
-            let _ = eprintln!(rt;
-                "binlog-changes: --{option} takes one name: give it once for each"
-            );
-            ExitCode::from(2)
-        }
         Refused::NoCommand => {
-            let _ = eprintln!(rt; "binlog-changes: the commands are json, check and events");
+            let _ = eprintln!(rt;
+                "binlog-changes: the commands are json, check, events, follow and plain"
+            );
             ExitCode::from(2)
         }
         Refused::Memory => {

@@ -1,22 +1,22 @@
 //! A log in parts, between which transactions that can't be read are left out.
 
-use crate::changes::{LineSink, write_changes};
-use changes_commands::{Explanation, Failure, Log, LogReader, Options, Progress, Text};
+use changes_commands::{Explanation, Failure, Log, LogReader, Options, Progress};
 use changes_walks::{
-    LogEnd, SourceStates, beginning_of, explanation_of, is_passable, leave_out, put_gap,
+    EndedWalk, LogEnd, LogEvents, SourceStates, beginning_of, explanation_of, is_passable,
+    leave_out,
 };
-use crc32::crc32;
 use events_frames::BinlogFileHeader;
 use feed_change_log::Stop;
 use feed_checks::Verdict;
+use feed_transactions::Recorder;
 use std::alloc::Global;
-use std::io::{Read, Write};
+use std::io::Read;
 
 /// A part of a log.
 #[derive(Clone, Copy)]
-struct Part<'l> {
+pub(crate) struct Part<'l> {
     /// The log. It is the first if the start position is to be found in this part, or after it.
-    log: Log<'l>,
+    pub(crate) log: Log<'l>,
     /// The offset at which it begins.
     begin: u64,
     /// What is added to the offsets in it.
@@ -98,15 +98,24 @@ impl<'l> Part<'l> {
     }
 }
 
+/// What was left out of a log: from an offset to another, and why.
+#[derive(Clone, Copy)]
+pub(crate) struct FoundGap<'g> {
+    pub(crate) log: Log<'g>,
+    pub(crate) from: u64,
+    pub(crate) to: u64,
+    pub(crate) reason: &'g str,
+}
+
 /// What can't be read: how the log ended before it, and those bytes of it and after it that were read.
 #[derive(Drop)]
-struct Unreadable {
+pub(crate) struct Unreadable {
     stop: Stop,
     bytes: Vec<u8>,
 }
 
 /// What comes next in a log: something, or its end.
-enum Next<T> {
+pub(crate) enum Next<T> {
     GoesOn(T),
     Ended(LogEnd),
 }
@@ -119,26 +128,30 @@ fn is_left_out(options: &Options<'_>, end: LogEnd) -> bool {
     }
 }
 
-/// Writes the lines of the selected transactions of a part of a log. What comes next is what can't be read, if it is to be left out.
-fn write_part<R: Read + Drop, W: Write>(
+/// Gets the selected transactions of a log, part by part, and the gaps between the parts.
+pub(crate) trait PartSink {
+    /// Reads a part of a log, and gets its transactions. What comes next is what can't be read, if it is to be left out.
+    fn take_part<R: Read + Drop>(
+        &mut self,
+        alloc: Global,
+        options: &Options<'_>,
+        part: Part<'_>,
+        reader: &mut LogReader<R>,
+        sources: &mut SourceStates,
+        progress: &mut Progress<'_>,
+    ) -> Next<Unreadable>;
+
+    /// Gets a gap.
+    fn take_gap(&mut self, alloc: Global, gap: FoundGap<'_>) -> Result<(), Failure>;
+}
+
+/// What comes after a part whose walk ended so.
+pub(crate) fn next_of<R: Read + Drop, F: Fn(&[u8]) -> u32 + Drop, C: Recorder>(
     alloc: Global,
     options: &Options<'_>,
     part: Part<'_>,
-    reader: &mut LogReader<R>,
-    sources: &mut SourceStates,
-    progress: &mut Progress<'_>,
-    sink: &mut LineSink<'_, W>,
+    ended: EndedWalk<R, F, C, LogEvents<'_>>,
 ) -> Next<Unreadable> {
-    let ended = write_changes(
-        alloc,
-        &*options,
-        part.log,
-        &mut *reader,
-        &mut *sources,
-        crc32,
-        &mut *progress,
-        &mut *sink,
-    );
     let end = part.end_of(ended.end_in_log());
     let unread = if is_left_out(options, end) {
         ended.unread(alloc)
@@ -155,40 +168,37 @@ fn write_part<R: Read + Drop, W: Write>(
     }
 }
 
-/// Writes the line of a gap up to this offset.
-fn write_gap<W: Write>(
+/// Passes a gap up to this offset to a sink.
+fn pass_gap<S: PartSink>(
     alloc: Global,
     part: Part<'_>,
     stop: Stop,
     to: u64,
     reason: &str,
-    sink: &mut LineSink<'_, W>,
+    sink: &mut S,
 ) -> Result<(), Failure> {
     let last = u64::from(stop.last_commit.unwrap_or(0));
-    let from = last.max(part.begin);
-    let mut line = Text::new(alloc);
-    put_gap(part.log.name().as_bytes(), from, to, reason, &mut line);
-    if line.ended().is_err() {
-        return Err(Failure::Memory);
-    }
-    match sink.write_gap(line.bytes()) {
-        Ok(()) => Ok(()),
-        Err(_) => Err(Failure::Unwritten),
-    }
+    let gap = FoundGap {
+        log: part.log,
+        from: last.max(part.begin),
+        to,
+        reason,
+    };
+    sink.take_gap(alloc, gap)
 }
 
-/// The part behind a gap up to this offset, whose line it writes unless the start position follows it.
-fn part_behind<'l, W: Write>(
+/// The part behind a gap up to this offset, which it passes to the sink unless the start position follows it.
+fn part_behind<'l, S: PartSink>(
     alloc: Global,
     options: &Options<'_>,
     part: Part<'l>,
     gap: Gap,
     reason: &str,
-    sink: &mut LineSink<'_, W>,
+    sink: &mut S,
 ) -> Next<Part<'l>> {
     let Gap { stop, to, .. } = gap;
     if part.has_start(options, stop)
-        && let Err(failure) = write_gap(alloc, part, stop, to, reason, sink)
+        && let Err(failure) = pass_gap(alloc, part, stop, to, reason, sink)
     {
         return Next::Ended(LogEnd::Failed(failure));
     }
@@ -226,28 +236,28 @@ fn pass<R: Read + Drop>(
     (next, reader)
 }
 
-/// Writes the lines of the selected transactions of a log. It ends at the first event that can't be read, unless the options say that
-/// such transactions are left out; then a line stands for each gap. Returns the reader too.
-pub(crate) fn write_parts<R: Read + Drop, W: Write>(
+/// Passes the selected transactions of a log to a sink. It ends at the first event that can't be read, unless the options say that such
+/// transactions are left out; then the sink gets a gap for each. Returns the reader too.
+pub(crate) fn read_parts<R: Read + Drop, S: PartSink>(
     alloc: Global,
     options: &Options<'_>,
     log: Log<'_>,
     mut reader: LogReader<R>,
     sources: &mut SourceStates,
     progress: &mut Progress<'_>,
-    sink: &mut LineSink<'_, W>,
+    sink: &mut S,
 ) -> (LogEnd, LogReader<R>) {
     let mut part = Part::first(log);
     for _ in 0..u64::MAX {
-        let unreadable = match write_part(
+        let next = sink.take_part(
             alloc,
             options,
             part,
             &mut reader,
             &mut *sources,
             &mut *progress,
-            &mut *sink,
-        ) {
+        );
+        let unreadable = match next {
             Next::GoesOn(unreadable) => unreadable,
             Next::Ended(end) => return (end, reader),
         };

@@ -134,7 +134,9 @@ fn run(rt: &HostRuntime) -> Result<(), &'static str> {
     let filter = Filter {
         databases: &[],
         tables: &names,
+        table_patterns: &[],
         excluded: &[],
+        excluded_patterns: &[],
         after: None,
         up_to: None,
         from_time: None,

@@ -1,0 +1,2 @@
+pub mod PushedBytes
+pub mod PushedLogs
