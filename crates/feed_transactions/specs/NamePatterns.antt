@@ -13,6 +13,7 @@ abbrev pub has_end : (List ℕ → Bool) → List ℕ → Bool
 has_end Has [] = Has []
 has_end Has (x ∷ l) = Has (x ∷ l) || has_end Has l
 
+-- whether a list has nothing
 abbrev pub is_empty : List ℕ → Bool
 is_empty [] = true
 is_empty (x ∷ l) = false
