@@ -34,6 +34,13 @@ def built(crate, path=None):
     return f"{folder}/crates/{crate}/out/{crate}"
 
 
+def all_built(paths, *names):
+    """The paths of the programs of several crates. Either all are given, or none: then they are proved and built first."""
+    if len(paths) not in (0, len(names)):
+        sys.exit(f"give the paths of all of {', '.join(names)}, or of none, which proves and builds them")
+    return [built(name, *paths[at : at + 1]) for at, name in enumerate(names)]
+
+
 def preloaded(name, folder):
     """The path of a library, compiled into a folder from a C file of checks/programs, that LD_PRELOAD takes."""
     library = Path(folder) / f"{name}.so"
