@@ -155,7 +155,7 @@ fn run_step<F: Fn(&[u8]) -> u32, A: Applier>(
         Ok(answer) => answer,
         Err(fault) => return fault,
     };
-    match apply_piece(follower, &answer[..step.count.min(answer.len())], applier) {
+    match apply_piece(follower, step.arrived(&answer), applier) {
         Ok(()) => Verdict::Closed,
         Err(verdict) => verdict,
     }

@@ -120,7 +120,7 @@ fn run_step<W: Write, F: Fn(&[u8]) -> u32>(
         Ok(answer) => answer,
         Err(fault) => return fault,
     };
-    let _ = follower.feed(&answer[..step.count.min(answer.len())], writer);
+    let _ = follower.feed(step.arrived(&answer), writer);
     follower.finish()
 }
 

@@ -26,7 +26,7 @@ returns-in-Ok-apply_piece-clause-applies g c = λ sum k before h i.
     ∙ ap (λ q. dump_request q (server_of c.args.follower.now) (name_of c.args.follower.now)) (h.asks ∙ sym asks)
     ∙ ap (dump_request (asked_position_of c.again.new.self) (server_of c.args.follower.now)) h.name_is in
     let there = prefix-is c.args.step.size c.args.binlog.now c.min.result c.min.ensures in
-    let piece = prefix-is c.args.step.count c.deref-2.result.now c.min-2.result (c.min-2.ensures ∙ ap (λ n. min c.args.step.count n) (c.len.ensures ∙ sym c.deref-2.ensures.len)) in
+    let piece = c.arrived.ensures in
     let bytes = c.deref-2.ensures.value ∙ c.in-Ok-whole_answer.ensures.ok sum k (asked_position_of c.again.new.self) (server_of c.args.follower.now) c.in-Ok.ensures.position request in
     let stream_is = piece
     ∙ ap (take c.args.step.count) bytes
@@ -36,8 +36,8 @@ returns-in-Ok-apply_piece-clause-applies g c = λ sum k before h i.
     let later = c.in-Ok-apply_piece.ensures.settings in
     let reading = is_run_reading sum c.args.format c.again.new.self (settings.format ∙ h.format_is) (settings.limit ∙ h.limit_is) (settings.name ∙ h.name_is) in
     let applied = c.in-Ok-apply_piece.ensures.applies sum (λ bytes v small fits e. k bytes v small fits (record { shown = e.shown; shows = e.shows; says = record { met = subst (λ f. g.F.Fn.post f (e.shown, tt) v) (ap (λ f. f.now) settings.checksum ∙ c.requires.keeps) e.says.met } })) (c.in-Ok.ensures.at sum) in
-    step_applied g.A.Applier.has_applied sum c.args.format c.args.binlog.now before c.args.step i c.apply_piece.new.follower (take c.min-2.result c.deref-2.result.now) stream_is (c.in-Ok-apply_piece.ensures.asked_position ∙ asks) (later.limit ∙ settings.limit ∙ h.limit_is) (later.name ∙ settings.name ∙ h.name_is) (later.format ∙ settings.format ∙ h.format_is) c.args.applier.now c.apply_piece.new.applier Closed
-    (subst (λ x. AppliesBy g.A.Applier.has_applied x c.apply_piece.new.follower (take c.min-2.result c.deref-2.result.now) c.args.applier.now c.apply_piece.new.applier Closed) reading applied)
+    step_applied g.A.Applier.has_applied sum c.args.format c.args.binlog.now before c.args.step i c.apply_piece.new.follower c.arrived.result.now stream_is (c.in-Ok-apply_piece.ensures.asked_position ∙ asks) (later.limit ∙ settings.limit ∙ h.limit_is) (later.name ∙ settings.name ∙ h.name_is) (later.format ∙ settings.format ∙ h.format_is) c.args.applier.now c.apply_piece.new.applier Closed
+    (subst (λ x. AppliesBy g.A.Applier.has_applied x c.apply_piece.new.follower c.arrived.result.now c.args.applier.now c.apply_piece.new.applier Closed) reading applied)
 
 pub returns-clause-applies : goal.returns-clause-applies
 returns-clause-applies g c = λ sum k before h i.
@@ -47,7 +47,7 @@ returns-clause-applies g c = λ sum k before h i.
     ∙ ap (λ q. dump_request q (server_of c.args.follower.now) (name_of c.args.follower.now)) (h.asks ∙ sym asks)
     ∙ ap (dump_request (asked_position_of c.again.new.self) (server_of c.args.follower.now)) h.name_is in
     let there = prefix-is c.args.step.size c.args.binlog.now c.min.result c.min.ensures in
-    let piece = prefix-is c.args.step.count c.deref-2.result.now c.min-2.result (c.min-2.ensures ∙ ap (λ n. min c.args.step.count n) (c.len.ensures ∙ sym c.deref-2.ensures.len)) in
+    let piece = c.arrived.ensures in
     let bytes = c.deref-2.ensures.value ∙ c.in-Ok-whole_answer.ensures.ok sum k (asked_position_of c.again.new.self) (server_of c.args.follower.now) c.in-Ok.ensures.position request in
     let stream_is = piece
     ∙ ap (take c.args.step.count) bytes
@@ -57,5 +57,5 @@ returns-clause-applies g c = λ sum k before h i.
     let later = c.in-Err-apply_piece.ensures.settings in
     let reading = is_run_reading sum c.args.format c.again.new.self (settings.format ∙ h.format_is) (settings.limit ∙ h.limit_is) (settings.name ∙ h.name_is) in
     let applied = c.in-Err-apply_piece.ensures.applies sum (λ bytes v small fits e. k bytes v small fits (record { shown = e.shown; shows = e.shows; says = record { met = subst (λ f. g.F.Fn.post f (e.shown, tt) v) (ap (λ f. f.now) settings.checksum ∙ c.requires.keeps) e.says.met } })) (c.in-Ok.ensures.at sum) in
-    step_applied g.A.Applier.has_applied sum c.args.format c.args.binlog.now before c.args.step i c.apply_piece.new.follower (take c.min-2.result c.deref-2.result.now) stream_is (c.in-Err-apply_piece.ensures.asked_position ∙ asks) (later.limit ∙ settings.limit ∙ h.limit_is) (later.name ∙ settings.name ∙ h.name_is) (later.format ∙ settings.format ∙ h.format_is) c.args.applier.now c.apply_piece.new.applier c.in-Err-apply_piece.verdict
-    (subst (λ x. AppliesBy g.A.Applier.has_applied x c.apply_piece.new.follower (take c.min-2.result c.deref-2.result.now) c.args.applier.now c.apply_piece.new.applier c.in-Err-apply_piece.verdict) reading applied)
+    step_applied g.A.Applier.has_applied sum c.args.format c.args.binlog.now before c.args.step i c.apply_piece.new.follower c.arrived.result.now stream_is (c.in-Err-apply_piece.ensures.asked_position ∙ asks) (later.limit ∙ settings.limit ∙ h.limit_is) (later.name ∙ settings.name ∙ h.name_is) (later.format ∙ settings.format ∙ h.format_is) c.args.applier.now c.apply_piece.new.applier c.in-Err-apply_piece.verdict
+    (subst (λ x. AppliesBy g.A.Applier.has_applied x c.apply_piece.new.follower c.arrived.result.now c.args.applier.now c.apply_piece.new.applier c.in-Err-apply_piece.verdict) reading applied)

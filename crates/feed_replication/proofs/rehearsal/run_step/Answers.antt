@@ -40,12 +40,12 @@ returns-clause-takes g c = λ sum k before h i.
     let same : format_of c.again.new.self ≡ c.args.format = c.in-Ok.ensures.settings.format ∙ h.format_is in
     let after : format_of c.feed.new.self ≡ c.args.format = c.feed.ensures.settings.format ∙ same in
     let there = prefix-is c.args.step.size c.args.binlog.now c.min.result c.min.ensures in
-    let piece = prefix-is c.args.step.count c.deref-2.result.now c.min-2.result (c.min-2.ensures ∙ ap (λ n. min c.args.step.count n) (c.len.ensures ∙ sym c.deref-2.ensures.len)) in
+    let piece = c.arrived.ensures in
     let bytes = c.deref-2.ensures.value ∙ c.in-Ok-whole_answer_to.ensures.ok sum k (asked_position_of c.again.new.self) (server_of c.args.follower.now) c.in-Ok.ensures.position request in
     let none = λ (x : Format). acknowledgements r x (limit_of c.again.new.self) (name_of c.again.new.self) [] in
-    let asked = λ (x : Format). acknowledgements r x (limit_of c.again.new.self) (name_of c.again.new.self) (take c.min-2.result c.deref-2.result.now) in
+    let asked = λ (x : Format). acknowledgements r x (limit_of c.again.new.self) (name_of c.again.new.self) c.arrived.result.now in
     let heard = c.feed.ensures.acknowledged sum (λ bytes v small fits e. k bytes v small fits (record { shown = e.shown; shows = e.shows; says = record { met = subst (λ f. g.F.Fn.post f (e.shown, tt) v) (ap (λ f. f.now) c.in-Ok.ensures.settings.checksum ∙ c.requires.keeps) e.says.met } })) [] (c.in-Ok.ensures.after r) in
-    let step : Steps r c.args.format c.args.name.now c.args.binlog.now before c.args.step c.feed.new.self c.finish.new.self (take c.min-2.result c.deref-2.result.now) c.feed.result c.finish.result = record {
+    let step : Steps r c.args.format c.args.name.now c.args.binlog.now before c.args.step c.feed.new.self c.finish.new.self c.arrived.result.now c.feed.result c.finish.result = record {
       piece_is = piece
           ∙ ap (take c.args.step.count) bytes
           ∙ ap (λ x. take c.args.step.count (answer_bytes (answer r c.args.format program_limit x (asked_position_of c.again.new.self)))) there
@@ -54,14 +54,14 @@ returns-clause-takes g c = λ sum k before h i.
       asked_is = c.finish.ensures.asked_position ∙ c.feed.ensures.asked_position ∙ asks;
       name_is = c.finish.ensures.settings.name ∙ c.feed.ensures.settings.name ∙ c.in-Ok.ensures.settings.name ∙ h.name_is;
       format_is = c.finish.ensures.settings.format ∙ after;
-      printed = subst (λ (x : Format). ResumesAfter r x c.feed.new.self (take c.min-2.result c.deref-2.result.now) → ResumesAfter r x c.finish.new.self (take c.min-2.result c.deref-2.result.now)) after (c.finish.ensures.printed r (take c.min-2.result c.deref-2.result.now));
+      printed = subst (λ (x : Format). ResumesAfter r x c.feed.new.self c.arrived.result.now → ResumesAfter r x c.finish.new.self c.arrived.result.now) after (c.finish.ensures.printed r c.arrived.result.now);
       answer_is = answer-of c.finish.result _ _ _ c.feed.result c.feed.ensures.verdict c.finish.ensures.stays;
-      verdict_is = λ st. subst (λ (x : Format). RepresentsStream r x c.feed.new.self (take c.min-2.result c.deref-2.result.now) → c.finish.result ≡ stream_verdict r x (limit_of c.feed.new.self) (take c.min-2.result c.deref-2.result.now)) after (c.finish.ensures.verdict r (take c.min-2.result c.deref-2.result.now)) st ∙ ap (λ n. stream_verdict r c.args.format n (take c.min-2.result c.deref-2.result.now)) (c.feed.ensures.settings.limit ∙ c.in-Ok.ensures.settings.limit ∙ h.limit_is);
+      verdict_is = λ st. subst (λ (x : Format). RepresentsStream r x c.feed.new.self c.arrived.result.now → c.finish.result ≡ stream_verdict r x (limit_of c.feed.new.self) c.arrived.result.now) after (c.finish.ensures.verdict r c.arrived.result.now) st ∙ ap (λ n. stream_verdict r c.args.format n c.arrived.result.now) (c.feed.ensures.settings.limit ∙ c.in-Ok.ensures.settings.limit ∙ h.limit_is);
     } in
-    let fed : IsFed r c.args.format (limit_of c.again.new.self) [] (take c.min-2.result c.deref-2.result.now) c.feed.new.self (g.W.Write.contents (inner_of c.args.writer.now)) (g.W.Write.contents (inner_of c.feed.new.writer)) c.feed.result =
-    subst (λ (x : Format). IsFed r x (limit_of c.again.new.self) [] (take c.min-2.result c.deref-2.result.now) c.feed.new.self (g.W.Write.contents (inner_of c.args.writer.now)) (g.W.Write.contents (inner_of c.feed.new.writer)) c.feed.result) same (c.feed.ensures.fed sum (λ bytes v small fits e. k bytes v small fits (record { shown = e.shown; shows = e.shows; says = record { met = subst (λ f. g.F.Fn.post f (e.shown, tt) v) (ap (λ f. f.now) c.in-Ok.ensures.settings.checksum ∙ c.requires.keeps) e.says.met } })) [] (c.in-Ok.ensures.after r)) in (
+    let fed : IsFed r c.args.format (limit_of c.again.new.self) [] c.arrived.result.now c.feed.new.self (g.W.Write.contents (inner_of c.args.writer.now)) (g.W.Write.contents (inner_of c.feed.new.writer)) c.feed.result =
+    subst (λ (x : Format). IsFed r x (limit_of c.again.new.self) [] c.arrived.result.now c.feed.new.self (g.W.Write.contents (inner_of c.args.writer.now)) (g.W.Write.contents (inner_of c.feed.new.writer)) c.feed.result) same (c.feed.ensures.fed sum (λ bytes v small fits e. k bytes v small fits (record { shown = e.shown; shows = e.shows; says = record { met = subst (λ f. g.F.Fn.post f (e.shown, tt) v) (ap (λ f. f.now) c.in-Ok.ensures.settings.checksum ∙ c.requires.keeps) e.says.met } })) [] (c.in-Ok.ensures.after r)) in (
       takes r c.args.format c.args.name.now c.args.binlog.now before c.args.step c.again.new.self c.feed.new.self c.finish.new.self _ _ _ c.feed.result c.finish.result i (c.in-Ok.ensures.settings.limit ∙ h.limit_is) step fed,
-      acknowledges r c.args.format c.args.name.now c.args.binlog.now before c.args.step c.again.new.self c.feed.new.self c.finish.new.self (take c.min-2.result c.deref-2.result.now) (g.W.Write.contents (inner_of c.args.writer.now)) (g.W.Write.contents (inner_of c.feed.new.writer)) (due_of c.args.follower.now) (due_of c.finish.new.self) c.feed.result c.finish.result i (c.in-Ok.ensures.settings.limit ∙ h.limit_is) (c.in-Ok.ensures.settings.name ∙ h.name_is) step fed
+      acknowledges r c.args.format c.args.name.now c.args.binlog.now before c.args.step c.again.new.self c.feed.new.self c.finish.new.self c.arrived.result.now (g.W.Write.contents (inner_of c.args.writer.now)) (g.W.Write.contents (inner_of c.feed.new.writer)) (due_of c.args.follower.now) (due_of c.finish.new.self) c.feed.result c.finish.result i (c.in-Ok.ensures.settings.limit ∙ h.limit_is) (c.in-Ok.ensures.settings.name ∙ h.name_is) step fed
           (subst (λ (x : List ℕ). AddsDue (none c.args.format) (asked c.args.format) x (due_of c.finish.new.self) c.feed.result) c.again.ensures.due_acks
           (subst (λ (x : List ℕ). AddsDue (none c.args.format) (asked c.args.format) (due_of c.again.new.self) x c.feed.result) (sym c.finish.ensures.due_acks)
           (subst (λ (x : Format). AddsDue (none x) (asked x) (due_of c.again.new.self) (due_of c.feed.new.self) c.feed.result) same heard))),
