@@ -3,17 +3,27 @@ import re
 from pathlib import Path
 
 FUNCTION = re.compile(r"( *)(?:pub(?:\([^)]*\))? )?(?:(?:const|unsafe|final) )*fn (\w+)")
+# A block of methods of a type's own.
+METHODS = re.compile(r"impl(?:<.*?>)? (\w+)(?:<.*>)? \{$")
 CONSTANT = re.compile(r" *(?:pub(?:\([^)]*\))? )?(?:const|static) (\w+)")
 # A constant that more functions name is tried on the whole crate.
 MAX_USES = 12
 
 
+def type_at(lines, number):
+    """The name of the type whose own method has this line, and two colons; empty: none has."""
+    block = next((line for line in reversed(lines[:number]) if line and line[0] not in " /#"), "")
+    found = METHODS.match(block)
+    return f"{found[1]}::" if found else ""
+
+
 def function_at(lines, number):
-    """The name of the function that has this line; None: none has."""
+    """The name of the function that has this line, with that of its type; None: none has."""
     for at in range(number, -1, -1):
         found = FUNCTION.match(lines[at])
         if found:
-            return None if f"{found[1]}}}" in lines[at + 1 : number] else found[2]
+            is_other = f"{found[1]}}}" in lines[at + 1 : number]
+            return None if is_other else (type_at(lines, at) if found[1] else "") + found[2]
     return None
 
 
