@@ -7,12 +7,14 @@ use serde_json::Value;
 use std::alloc::Global;
 use std::str;
 
-/// The text of a member.
-fn text_of(alloc: Global, object: &Value, name: &str) -> Result<Vec<u8>, SchemaFaultKind> {
-    match object.get(name).and_then(Value::as_str) {
-        Some(text) => Ok(Vec::from_slice(alloc, text.as_bytes())?),
-        None => Err(SchemaFaultKind::Json),
-    }
+/// Reads the text of a member.
+fn read_text(object: &Value, name: &str, text: &mut Vec<u8>) -> Result<(), SchemaFaultKind> {
+    let Some(value) = object.get(name).and_then(Value::as_str) else {
+        return Err(SchemaFaultKind::Json);
+    };
+    text.clear();
+    text.extend_from_slice(value.as_bytes())?;
+    Ok(())
 }
 
 /// The number of a member that may be missing or null.
@@ -49,24 +51,30 @@ fn object_in(alloc: Global, line: &[u8]) -> Result<Value, SchemaFaultKind> {
     }
 }
 
+/// Reads the members of a column.
+fn read_object(object: &Value, row: &mut Row) -> Result<(), SchemaFaultKind> {
+    let Some(position) = optional_number(object, "position")? else {
+        return Err(SchemaFaultKind::Json);
+    };
+    row.position = position;
+    read_text(object, "database", &mut row.database)?;
+    read_text(object, "table", &mut row.table)?;
+    read_text(object, "column", &mut row.name)?;
+    read_text(object, "type", &mut row.type_text)?;
+    row.collation = collation_of(object)?;
+    row.key_position = optional_number(object, "key_position")?;
+    row.key_prefix = optional_number(object, "key_prefix")?;
+    Ok(())
+}
+
 /// Reads a line.
 ///
 /// - `Json`: it isn't a JSON object with the members of a column.
 /// - `Number`: a number can't be read.
 /// - `Memory`: out of memory.
-pub(crate) fn read_line(alloc: Global, line: &[u8]) -> Result<Row, SchemaFaultKind> {
+pub(crate) fn read_line(alloc: Global, line: &[u8], row: &mut Row) -> Result<(), SchemaFaultKind> {
     let object = object_in(alloc, line)?;
-    let Some(position) = optional_number(&object, "position")? else {
-        return Err(SchemaFaultKind::Json);
-    };
-    Ok(Row {
-        database: text_of(alloc, &object, "database")?,
-        table: text_of(alloc, &object, "table")?,
-        position,
-        name: text_of(alloc, &object, "column")?,
-        type_text: text_of(alloc, &object, "type")?,
-        collation: collation_of(&object)?,
-        key_position: optional_number(&object, "key_position")?,
-        key_prefix: optional_number(&object, "key_prefix")?,
-    })
+    let read = read_object(&object, row);
+    drop(object);
+    read
 }

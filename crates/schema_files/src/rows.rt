@@ -1,5 +1,7 @@
 //! A column of a table as a line of a schema's file has it.
 
+use std::alloc::Global;
+
 /// A line of a schema's file: a column of a table.
 #[derive(Drop)]
 pub(crate) struct Row {
@@ -16,4 +18,20 @@ pub(crate) struct Row {
     pub(crate) key_position: Option<u64>,
     /// The length of its prefix in the primary key, in characters.
     pub(crate) key_prefix: Option<u64>,
+}
+
+impl Row {
+    /// No line yet. It takes no memory.
+    pub(crate) fn new(alloc: Global) -> Row {
+        Row {
+            database: Vec::new(alloc),
+            table: Vec::new(alloc),
+            position: 0,
+            name: Vec::new(alloc),
+            type_text: Vec::new(alloc),
+            collation: None,
+            key_position: None,
+            key_prefix: None,
+        }
+    }
 }

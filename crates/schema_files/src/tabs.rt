@@ -3,7 +3,6 @@
 use crate::fault::SchemaFaultKind;
 use crate::numbers::{narrowed, number_in};
 use crate::rows::Row;
-use std::alloc::{AllocError, Global};
 
 /// The first line of a file.
 pub(crate) const HEADER: &[u8] =
@@ -23,9 +22,9 @@ fn escaped(letter: u8) -> Option<u8> {
     }
 }
 
-/// The text of a cell.
-fn text_of(alloc: Global, cell: &[u8]) -> Result<Vec<u8>, SchemaFaultKind> {
-    let mut text = Vec::new(alloc);
+/// Reads the text of a cell.
+fn read_text(cell: &[u8], text: &mut Vec<u8>) -> Result<(), SchemaFaultKind> {
+    text.clear();
     let mut is_escape = false;
     for byte in cell {
         if is_escape {
@@ -43,7 +42,7 @@ fn text_of(alloc: Global, cell: &[u8]) -> Result<Vec<u8>, SchemaFaultKind> {
     if is_escape {
         return Err(SchemaFaultKind::Escape);
     }
-    Ok(text)
+    Ok(())
 }
 
 /// The number of a cell that may be NULL.
@@ -68,21 +67,20 @@ fn collation_of(cell: &[u8]) -> Result<Option<u16>, SchemaFaultKind> {
     }
 }
 
-/// The cells of a line.
-fn cells_of<'l>(alloc: Global, line: &'l [u8]) -> Result<Vec<&'l [u8]>, AllocError> {
-    let mut cells = Vec::new(alloc);
-    let mut rest = line;
-    for _ in 0..line.len() {
-        let Some(at) = rest.iter().position(|byte| *byte == b'\t') else {
-            break;
-        };
-        let (cell, after) = rest.split_at(at);
-        let (_, next) = after.split_at(1);
-        cells.push(cell)?;
-        rest = next;
+/// How many cells a line has.
+const CELLS: usize = 8;
+
+/// Splits a line into its cells. Returns whether it has eight.
+fn split_cells<'l>(line: &'l [u8], cells: &mut [&'l [u8]; CELLS]) -> bool {
+    let mut count = 0;
+    for cell in line.split(|byte| *byte == b'\t') {
+        if count >= CELLS {
+            return false;
+        }
+        cells[count] = cell;
+        count += 1;
     }
-    cells.push(rest)?;
-    Ok(cells)
+    count == CELLS
 }
 
 /// Reads a line.
@@ -90,8 +88,11 @@ fn cells_of<'l>(alloc: Global, line: &'l [u8]) -> Result<Vec<&'l [u8]>, AllocErr
 /// - `Cells`: it hasn't eight cells. `Escape`: a backslash is followed by another letter than t, n, 0 or a backslash.
 /// - `Number`: a number can't be read.
 /// - `Memory`: out of memory.
-pub(crate) fn read_line(alloc: Global, line: &[u8]) -> Result<Row, SchemaFaultKind> {
-    let cells = cells_of(alloc, line)?;
+pub(crate) fn read_line(line: &[u8], row: &mut Row) -> Result<(), SchemaFaultKind> {
+    let mut cells: [&[u8]; CELLS] = [&[]; CELLS];
+    if !split_cells(line, &mut cells) {
+        return Err(SchemaFaultKind::Cells);
+    }
     let [
         database,
         table,
@@ -101,21 +102,17 @@ pub(crate) fn read_line(alloc: Global, line: &[u8]) -> Result<Row, SchemaFaultKi
         collation,
         key_position,
         key_prefix,
-    ] = cells.as_slice()
-    else {
-        return Err(SchemaFaultKind::Cells);
-    };
+    ] = cells;
     let Some(position) = number_in(position) else {
         return Err(SchemaFaultKind::Number);
     };
-    Ok(Row {
-        database: text_of(alloc, database)?,
-        table: text_of(alloc, table)?,
-        position,
-        name: text_of(alloc, name)?,
-        type_text: text_of(alloc, type_text)?,
-        collation: collation_of(collation)?,
-        key_position: optional_number(key_position)?,
-        key_prefix: optional_number(key_prefix)?,
-    })
+    row.position = position;
+    read_text(database, &mut row.database)?;
+    read_text(table, &mut row.table)?;
+    read_text(name, &mut row.name)?;
+    read_text(type_text, &mut row.type_text)?;
+    row.collation = collation_of(collation)?;
+    row.key_position = optional_number(key_position)?;
+    row.key_prefix = optional_number(key_prefix)?;
+    Ok(())
 }

@@ -12,42 +12,60 @@ pub(crate) struct ReadType {
     pub(crate) members: Vec<Vec<u8>>,
 }
 
+/// The names of the types that servers have, and their formats today.
+const TYPES: &[(&str, ColumnType)] = &[
+    ("tinyint", ColumnType::MYSQL_TYPE_TINY),
+    ("smallint", ColumnType::MYSQL_TYPE_SHORT),
+    ("mediumint", ColumnType::MYSQL_TYPE_INT24),
+    ("int", ColumnType::MYSQL_TYPE_LONG),
+    ("bigint", ColumnType::MYSQL_TYPE_LONGLONG),
+    ("float", ColumnType::MYSQL_TYPE_FLOAT),
+    ("double", ColumnType::MYSQL_TYPE_DOUBLE),
+    ("decimal", ColumnType::MYSQL_TYPE_NEWDECIMAL),
+    ("bit", ColumnType::MYSQL_TYPE_BIT),
+    ("year", ColumnType::MYSQL_TYPE_YEAR),
+    ("date", ColumnType::MYSQL_TYPE_NEWDATE),
+    ("time", ColumnType::MYSQL_TYPE_TIME2),
+    ("datetime", ColumnType::MYSQL_TYPE_DATETIME2),
+    ("timestamp", ColumnType::MYSQL_TYPE_TIMESTAMP2),
+    ("char", ColumnType::MYSQL_TYPE_STRING),
+    ("binary", ColumnType::MYSQL_TYPE_STRING),
+    ("uuid", ColumnType::MYSQL_TYPE_STRING),
+    ("inet4", ColumnType::MYSQL_TYPE_STRING),
+    ("inet6", ColumnType::MYSQL_TYPE_STRING),
+    ("varchar", ColumnType::MYSQL_TYPE_VARCHAR),
+    ("varbinary", ColumnType::MYSQL_TYPE_VARCHAR),
+    ("tinytext", ColumnType::MYSQL_TYPE_BLOB),
+    ("text", ColumnType::MYSQL_TYPE_BLOB),
+    ("mediumtext", ColumnType::MYSQL_TYPE_BLOB),
+    ("longtext", ColumnType::MYSQL_TYPE_BLOB),
+    ("tinyblob", ColumnType::MYSQL_TYPE_BLOB),
+    ("blob", ColumnType::MYSQL_TYPE_BLOB),
+    ("mediumblob", ColumnType::MYSQL_TYPE_BLOB),
+    ("longblob", ColumnType::MYSQL_TYPE_BLOB),
+    ("enum", ColumnType::MYSQL_TYPE_ENUM),
+    ("set", ColumnType::MYSQL_TYPE_SET),
+    ("json", ColumnType::MYSQL_TYPE_JSON),
+    ("vector", ColumnType::MYSQL_TYPE_VECTOR),
+    ("geometry", ColumnType::MYSQL_TYPE_GEOMETRY),
+    ("point", ColumnType::MYSQL_TYPE_GEOMETRY),
+    ("linestring", ColumnType::MYSQL_TYPE_GEOMETRY),
+    ("polygon", ColumnType::MYSQL_TYPE_GEOMETRY),
+    ("multipoint", ColumnType::MYSQL_TYPE_GEOMETRY),
+    ("multilinestring", ColumnType::MYSQL_TYPE_GEOMETRY),
+    ("multipolygon", ColumnType::MYSQL_TYPE_GEOMETRY),
+    ("geometrycollection", ColumnType::MYSQL_TYPE_GEOMETRY),
+    ("geomcollection", ColumnType::MYSQL_TYPE_GEOMETRY),
+];
+
 /// The type with this name, in the format that servers write today; UNKNOWN for another name.
 fn type_named(name: &[u8]) -> ColumnType {
-    match name {
-        b"tinyint" => ColumnType::MYSQL_TYPE_TINY,
-        b"smallint" => ColumnType::MYSQL_TYPE_SHORT,
-        b"mediumint" => ColumnType::MYSQL_TYPE_INT24,
-        b"int" => ColumnType::MYSQL_TYPE_LONG,
-        b"bigint" => ColumnType::MYSQL_TYPE_LONGLONG,
-        b"float" => ColumnType::MYSQL_TYPE_FLOAT,
-        b"double" => ColumnType::MYSQL_TYPE_DOUBLE,
-        b"decimal" => ColumnType::MYSQL_TYPE_NEWDECIMAL,
-        b"bit" => ColumnType::MYSQL_TYPE_BIT,
-        b"year" => ColumnType::MYSQL_TYPE_YEAR,
-        b"date" => ColumnType::MYSQL_TYPE_NEWDATE,
-        b"time" => ColumnType::MYSQL_TYPE_TIME2,
-        b"datetime" => ColumnType::MYSQL_TYPE_DATETIME2,
-        b"timestamp" => ColumnType::MYSQL_TYPE_TIMESTAMP2,
-        b"char" | b"binary" | b"uuid" | b"inet4" | b"inet6" => ColumnType::MYSQL_TYPE_STRING,
-        b"varchar" | b"varbinary" => ColumnType::MYSQL_TYPE_VARCHAR,
-        b"tinytext" | b"text" | b"mediumtext" | b"longtext" => ColumnType::MYSQL_TYPE_BLOB,
-        b"tinyblob" | b"blob" | b"mediumblob" | b"longblob" => ColumnType::MYSQL_TYPE_BLOB,
-        b"enum" => ColumnType::MYSQL_TYPE_ENUM,
-        b"set" => ColumnType::MYSQL_TYPE_SET,
-        b"json" => ColumnType::MYSQL_TYPE_JSON,
-        b"vector" => ColumnType::MYSQL_TYPE_VECTOR,
-        b"geometry"
-        | b"point"
-        | b"linestring"
-        | b"polygon"
-        | b"multipoint"
-        | b"multilinestring"
-        | b"multipolygon"
-        | b"geometrycollection"
-        | b"geomcollection" => { ColumnType::MYSQL_TYPE_GEOMETRY }
-        _ => ColumnType::MYSQL_TYPE_UNKNOWN,
+    for (known, column_type) in TYPES {
+        if known.as_bytes() == name {
+            return *column_type;
+        }
     }
+    ColumnType::MYSQL_TYPE_UNKNOWN
 }
 
 /// Splits off the name that a type begins with: letters and digits.
