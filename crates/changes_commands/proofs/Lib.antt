@@ -4,3 +4,4 @@ pub mod EventWalkLemmas
 pub mod GrowingLemmas
 mod MemberNameLemmas
 mod ZoneLemmas
+pub mod LogReaderLemmas

@@ -6,7 +6,7 @@ use crate::known_commands::{
     SKIP_UNREADABLE, TABLE, TIME_ZONE, TRANSACTION, WITH, command,
 };
 use crate::member_names::members_in;
-use crate::refused::Refused;
+use crate::refused::{Refused, Unusable};
 use crate::table_names::{add_databases, add_tables};
 use crate::time_zone::Zone;
 use changes_character_sets::CharacterSet;
@@ -80,14 +80,14 @@ pub struct Options<'w> {
 const USUAL_MAX_TRANSACTION: u32 = 1 << 30;
 
 /// The time zone that an option names; UTC if it isn't given.
-fn zone_of<R: Files + AllocGlobal>(rt: &R, matches: &ArgMatches<'_>) -> Result<Zone, Refused> {
+fn zone_of<R: Files + AllocGlobal>(rt: &R, matches: &ArgMatches<'_>) -> Result<Zone, Unusable> {
     let Some(name) = matches.get_str(TIME_ZONE.name) else {
         return Ok(Zone::UTC);
     };
     match Zone::named(rt, name) {
         Ok(zone) => Ok(zone),
-        Err(jiff::Error::OutOfMemory) => Err(Refused::Memory),
-        Err(_) => Err(Refused::Value(TIME_ZONE.name)),
+        Err(jiff::Error::OutOfMemory) => Err(Unusable::Memory),
+        Err(_) => Err(Unusable::Value(TIME_ZONE.name)),
     }
 }
 
@@ -96,35 +96,35 @@ fn time_of(
     matches: &ArgMatches<'_>,
     zone: &Zone,
     option: &'static str,
-) -> Result<Option<u64>, Refused> {
+) -> Result<Option<u64>, Unusable> {
     let Some(text) = matches.get_str(option) else {
         return Ok(None);
     };
     match zone.seconds_of(text) {
         Some(seconds) => Ok(Some(seconds)),
-        None => Err(Refused::Value(option)),
+        None => Err(Unusable::Value(option)),
     }
 }
 
 /// The character set that an option names, if it is given.
-fn character_set_of(matches: &ArgMatches<'_>) -> Result<Option<CharacterSet>, Refused> {
+fn character_set_of(matches: &ArgMatches<'_>) -> Result<Option<CharacterSet>, Unusable> {
     let Some(name) = matches.get_str(CHARACTER_SET.name) else {
         return Ok(None);
     };
     match CharacterSet::named(name) {
         Some(set) => Ok(Some(set)),
-        None => Err(Refused::Value(CHARACTER_SET.name)),
+        None => Err(Unusable::Value(CHARACTER_SET.name)),
     }
 }
 
 /// The members that an option names, if it is given.
-fn added_of(matches: &ArgMatches<'_>) -> Result<AddedMembers, Refused> {
+fn added_of(matches: &ArgMatches<'_>) -> Result<AddedMembers, Unusable> {
     let Some(names) = matches.get_str(WITH.name) else {
         return Ok(AddedMembers::NONE);
     };
     match members_in(names) {
         Some(added) => Ok(added),
-        None => Err(Refused::Value(WITH.name)),
+        None => Err(Unusable::Value(WITH.name)),
     }
 }
 
@@ -137,7 +137,7 @@ fn position_of(task: Task, matches: &ArgMatches<'_>, option: &str) -> Option<u32
 }
 
 /// Where to begin, and where to end: with a transaction there.
-fn range_of(task: Task, matches: &ArgMatches<'_>, zone: &Zone) -> Result<Range, Refused> {
+fn range_of(task: Task, matches: &ArgMatches<'_>, zone: &Zone) -> Result<Range, Unusable> {
     let transaction: Option<u32> = match task {
         Task::Json | Task::Check => matches.get_one(TRANSACTION.name),
         Task::Events | Task::Follow | Task::Plain => None,
@@ -212,7 +212,7 @@ impl<'w> Options<'w> {
     }
 
     /// Adds the names and the files that a command has.
-    fn add(&mut self, matches: &ArgMatches<'w>) -> Result<(), Refused> {
+    fn add(&mut self, matches: &ArgMatches<'w>) -> Result<(), Unusable> {
         if prints_changes(self.task) {
             self.character_set = character_set_of(matches)?;
             self.added = added_of(matches)?;
@@ -249,18 +249,18 @@ fn options_of<'w, R: Files + AllocGlobal>(
     rt: &R,
     task: Task,
     matches: &ArgMatches<'w>,
-) -> Result<Options<'w>, Refused> {
+) -> Result<Options<'w>, Unusable> {
     let zone = zone_of(rt, matches)?;
     let range = range_of(task, matches, &zone)?;
     let mut options = Options::new(rt.alloc(), task, matches, range);
     match options.add(matches) {
         Ok(()) => Ok(options),
-        Err(refused) => Err(refused),
+        Err(unusable) => Err(unusable),
     }
 }
 
 /// What the command `plain` is to do.
-fn plain_options<'w>(alloc: Global, matches: &ArgMatches<'w>) -> Result<Options<'w>, Refused> {
+fn plain_options<'w>(alloc: Global, matches: &ArgMatches<'w>) -> Result<Options<'w>, Unusable> {
     let range = Range {
         start: None,
         stop: None,
@@ -271,7 +271,7 @@ fn plain_options<'w>(alloc: Global, matches: &ArgMatches<'w>) -> Result<Options<
     let mut options = Options::new(alloc, Task::Plain, matches, range);
     match add_files(matches, &mut options.files) {
         Ok(()) => Ok(options),
-        Err(_) => Err(Refused::Memory),
+        Err(_) => Err(Unusable::Memory),
     }
 }
 
@@ -279,14 +279,14 @@ fn plain_options<'w>(alloc: Global, matches: &ArgMatches<'w>) -> Result<Options<
 fn options_in<'w, R: Files + AllocGlobal>(
     rt: &R,
     matches: &ArgMatches<'w>,
-) -> Result<Options<'w>, Refused> {
+) -> Result<Options<'w>, Unusable> {
     match matches.subcommand() {
         Some(("check", matches)) => options_of(rt, Task::Check, matches),
         Some(("events", matches)) => options_of(rt, Task::Events, matches),
         Some(("follow", matches)) => options_of(rt, Task::Follow, matches),
         Some(("plain", matches)) => plain_options(rt.alloc(), matches),
         Some((_, matches)) => options_of(rt, Task::Json, matches),
-        None => Err(Refused::NoCommand),
+        None => Err(Unusable::NoCommand),
     }
 }
 
@@ -301,5 +301,8 @@ pub fn parse<'w, R: Files + AllocGlobal>(
     words: &'w [String],
 ) -> Result<Options<'w>, Refused> {
     let matches = command(rt.alloc())?.try_get_matches_from(words)?;
-    options_in(rt, &matches)
+    match options_in(rt, &matches) {
+        Ok(options) => Ok(options),
+        Err(unusable) => Err(Refused::from(unusable)),
+    }
 }

@@ -42,6 +42,37 @@ impl From<Error> for Refused {
     }
 }
 
+/// Why a command can't be run with its options.
+#[derive(Clone, Copy)]
+pub(crate) enum Unusable {
+    /// The value of this option can't be used.
+    Value(&'static str),
+    /// There is no command.
+    NoCommand,
+    /// Out of memory.
+    Memory,
+}
+
+impl From<AllocError> for Unusable {
+    ghost use Rattle.changes_commands.specs.declared.refused.Unusable.TheVariants.{Memory};
+
+    ghost from_gives = { λ _ r. r ≡ Memory };
+
+    fn from(_error: AllocError) -> Unusable {
+        Unusable::Memory
+    }
+}
+
+impl From<Unusable> for Refused {
+    fn from(unusable: Unusable) -> Refused {
+        match unusable {
+            Unusable::Value(option) => Refused::Value(option),
+            Unusable::NoCommand => Refused::NoCommand,
+            Unusable::Memory => Refused::Memory,
+        }
+    }
+}
+
 impl Refused {
     /// A value that this option takes.
     pub fn example(option: &str) -> &'static str {

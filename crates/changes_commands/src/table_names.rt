@@ -1,6 +1,6 @@
 //! The databases and tables that options name.
 
-use crate::refused::Refused;
+use crate::refused::Unusable;
 use clap::ArgMatches;
 
 /// What stands for any bytes in the names of a table and its database.
@@ -17,7 +17,7 @@ pub(crate) fn add_databases<'w>(
     matches: &ArgMatches<'w>,
     option: &'static str,
     databases: &mut Vec<&'w [u8]>,
-) -> Result<(), Refused> {
+) -> Result<(), Unusable> {
     let Some(values) = matches.get_strs(option) else {
         return Ok(());
     };
@@ -26,10 +26,10 @@ pub(crate) fn add_databases<'w>(
         for name in value.split(',') {
             let name = name.as_bytes();
             if name.is_empty() || name.contains(&ANY) {
-                return Err(Refused::Value(option));
+                return Err(Unusable::Value(option));
             }
             if let Err(_) = databases.push(name) {
-                return Err(Refused::Memory);
+                return Err(Unusable::Memory);
             }
         }
     }
@@ -46,7 +46,7 @@ pub(crate) fn add_tables<'w>(
     option: &'static str,
     tables: &mut Vec<&'w [u8]>,
     patterns: &mut Vec<(&'w [u8], &'w [u8])>,
-) -> Result<(), Refused> {
+) -> Result<(), Unusable> {
     let Some(values) = matches.get_strs(option) else {
         return Ok(());
     };
@@ -54,7 +54,7 @@ pub(crate) fn add_tables<'w>(
         let value: &'w str = *value;
         for name in value.split(',') {
             let Some((database, table)) = parts_of(name.as_bytes()) else {
-                return Err(Refused::Value(option));
+                return Err(Unusable::Value(option));
             };
             let is_full = if name.as_bytes().contains(&ANY) {
                 patterns.push((database, table)).is_err()
@@ -62,7 +62,7 @@ pub(crate) fn add_tables<'w>(
                 tables.push(name.as_bytes()).is_err()
             };
             if is_full {
-                return Err(Refused::Memory);
+                return Err(Unusable::Memory);
             }
         }
     }

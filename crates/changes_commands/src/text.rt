@@ -1,6 +1,6 @@
 //! Text that grows, for messages and JSON.
 
-ghost use Rattle.std.specs.Prelude.{◌≡◌, ◌∷◌, ◌++◌, ◌||◌, [], OnOk, true, false, codes, is_err, length, take};
+ghost use Rattle.std.specs.Prelude.{◌≡◌, ◌∷◌, ◌++◌, ◌||◌, [], OnOk, true, false, codes, is_err, length};
 ghost use Rattle.changes_tables.specs.MemberTexts.{utf8_json};
 ghost use Rattle.std.specs.Fmt.{decimal};
 
@@ -60,14 +60,6 @@ impl Text {
         ensures whole { self.new.is_short ≡ self.old.is_short }
     {
         self.bytes.clear();
-    }
-
-    /// Drops the bytes from this index on.
-    pub fn truncate(&mut self, len: usize)
-        ensures bytes { bytes_in self.new ≡ take len (bytes_in self.old) }
-        ensures whole { self.new.is_short ≡ self.old.is_short }
-    {
-        self.bytes.truncate(len);
     }
 
     /// Remembers that memory ran out, if it did.
@@ -156,31 +148,11 @@ impl Text {
         self.unsigned(number);
     }
 
-    /// Appends a key of JSON that needs no escape, after a comma unless it is the first member: `,"key":`.
-    pub fn key(&mut self, key: &str) {
-        self.comma();
-        self.push(b'"');
-        self.put(key.as_bytes());
-        self.put(b"\":");
-    }
-
-    /// Appends a comma, unless an object or an array begins here.
-    pub fn comma(&mut self) {
-        if !matches!(self.bytes().last(), Some(b'{' | b'[')) {
-            self.push(b',');
-        }
-    }
-
     /// Appends `null`.
     pub fn null(&mut self)
         ensures { IsLonger self.old self.new (codes "null") }
     {
         self.put(b"null");
-    }
-
-    /// Appends a Boolean.
-    pub fn boolean(&mut self, value: bool) {
-        self.put(if value { b"true" } else { b"false" });
     }
 
     /// Appends a string of JSON.
