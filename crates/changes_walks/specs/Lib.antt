@@ -1,9 +1,11 @@
 pub mod Selections
 pub mod Locations
 pub mod LogWalks
+pub mod PushedWalks
 pub mod SourceStates
 pub mod LogSources
 pub mod CheckedWords
+pub mod CheckedSentences
 pub mod Counting
 pub mod Findings
 pub mod WalkedStops

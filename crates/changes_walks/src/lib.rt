@@ -21,7 +21,7 @@ pub use gaps::{beginning_of, is_passable, leave_out};
 pub use laws::filters_select_by_the_same_positions;
 pub use log_events::LogEvents;
 pub use positions::PositionRange;
-pub use pushed::pushed_log;
+pub use pushed::{PushedEnd, PushedWalk, pushed_log, walk_pushed};
 pub use selection::{FilteredNames, filter_of, selection_of};
 pub use sink::{EachChange, TransactionSink};
 pub use sources::{SourceFault, SourceStates};

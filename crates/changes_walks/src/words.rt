@@ -1,12 +1,14 @@
 //! What is said to people about logs and errors.
 
 ghost use Rattle.changes_commands.specs.GrowingTexts.{IsLonger};
-ghost use Rattle.std.specs.Prelude.{◌≡◌, None};
+ghost use Rattle.std.specs.Prelude.{◌≡◌, List, ℕ, None};
+ghost use Rattle.changes_walks.specs.CheckedSentences.{advice_words, cause_words, gaps_words, has_place, meaning_words, open_words, position_words, says_open, transactions_words, unclosed_words, up_to_words, AreCheckedWords, EventWords, PlaceWords};
 ghost use Rattle.changes_walks.specs.CheckedWords.{gap_words, has_gaps, last_commit_of};
 ghost use Rattle.changes_walks.specs.Gaps.{gap_json};
 
 use crate::sources::SourceFault;
 use changes_commands::{Explanation, Text, explain, put_type};
+use events_frames::BinlogEventHeader;
 use events_mariadb::{MariadbFault, is_mariadb_number};
 use events_replaced::ReplacementFault;
 use events_xa::XaFault;
@@ -174,28 +176,54 @@ pub fn explanation_of(stop: Stop, fault: Option<SourceFault>, first: &[u8]) -> E
     }
 }
 
+/// What it means that a log ended so, after an event.
+fn meaning_of(checked: Checked<'_>) -> &'static str
+    ensures { result.now ≡ meaning_words checked.entry }
+{
+    let stop = checked.stop;
+    if stop.verdict != Verdict::End {
+        return checked.explanation.meaning;
+    }
+    if stop.is_open {
+        return "the log ends within a transaction";
+    }
+    if checked.has_gaps() {
+        return "the log is whole but for its gaps";
+    }
+    checked.explanation.meaning
+}
+
 /// Appends why a log ended.
-fn put_cause(checked: Checked<'_>, out: &mut Text) {
+fn put_cause(checked: Checked<'_>, out: &mut Text)
+    ensures { IsLonger out.old out.new (cause_words checked.entry) }
+{
     let stop = checked.stop;
     if stop.is_cut {
         out.words("the log ends within an event, ");
         out.unsigned(stop.remaining as u64);
         out.words(" bytes after position ");
         out.unsigned(stop.offset);
-    } else if stop.verdict == Verdict::End && stop.is_open {
-        out.words("the log ends within a transaction");
-    } else if stop.verdict == Verdict::End && checked.has_gaps() {
-        out.words("the log is whole but for its gaps");
-    } else {
-        out.words(checked.explanation.meaning);
+        return;
+    }
+    out.words(meaning_of(checked));
+}
+
+/// Appends up to where a log was read, if that isn't its end.
+fn put_up_to(up_to: Option<u32>, out: &mut Text)
+    ensures { IsLonger out.old out.new (up_to_words up_to) }
+{
+    if let Some(position) = up_to {
+        out.words(" up to ");
+        out.unsigned(u64::from(position));
+        out.words(", and isn't checked after it");
     }
 }
 
-/// Appends where a log ended, and at which event.
-fn put_place(stop: Stop, out: &mut Text) {
-    out.words(", at position ");
-    out.unsigned(stop.offset);
-    if let Some(header) = stop.header {
+/// Appends at which event a log ended, if there is one.
+fn put_event(header: Option<BinlogEventHeader>, out: &mut Text)
+    ensures { (more : List ℕ) × EventWords header more × IsLonger out.old out.new more }
+{
+    if let Some(header) = header {
         out.words(", ");
         put_type(header.event_type_raw(), out);
         out.words(" of ");
@@ -204,59 +232,117 @@ fn put_place(stop: Stop, out: &mut Text) {
     }
 }
 
-/// Appends where the last transaction ends, if there is one; if there are options, how many transactions they select.
-fn put_transactions(checked: Checked<'_>, out: &mut Text) {
-    match (checked.selected, checked.last_commit()) {
-        (Some(selected), last) => {
-            out.words("; selected transactions: ");
-            out.unsigned(selected.count);
-            if let Some(position) = last {
-                out.words(", the last ends at ");
-                out.unsigned(u64::from(position));
-            }
-        }
-        (None, Some(position)) => {
-            out.words("; the last transaction ends at ");
-            out.unsigned(u64::from(position));
-        }
-        (None, None) => {}
+/// Whether a log ended by a fault after its first bytes.
+fn has_place(stop: Stop) -> bool
+    ensures { result ≡ has_place stop }
+{
+    if matches!(stop.verdict, Verdict::End) {
+        return false;
     }
+    stop.offset > 0
 }
 
-/// Appends how a log ended, for people.
-pub fn put_checked(checked: Checked<'_>, out: &mut Text) {
-    let stop = checked.stop;
-    let is_end = stop.verdict == Verdict::End;
-    out.words(checked.path);
-    out.words(": ");
-    put_cause(checked, out);
-    if let Some(position) = checked.up_to {
-        out.words(" up to ");
-        out.unsigned(u64::from(position));
-        out.words(", and isn't checked after it");
+/// Appends where a log ended, and at which event, if it ended by a fault.
+fn put_place(stop: Stop, out: &mut Text)
+    ensures { (more : List ℕ) × PlaceWords stop more × IsLonger out.old out.new more }
+{
+    if !has_place(stop) {
+        return;
     }
-    if !is_end && stop.offset > 0 {
-        put_place(stop, out);
-    }
-    if let Some(gaps) = checked.gaps
+    out.words(", at position ");
+    out.unsigned(stop.offset);
+    put_event(stop.header, out);
+}
+
+/// Appends how many gaps a log has, if it has some.
+fn put_gaps(gaps: Option<u64>, out: &mut Text)
+    ensures { IsLonger out.old out.new (gaps_words gaps) }
+{
+    if let Some(gaps) = gaps
         && gaps > 0
     {
         out.words("; gaps: ");
         out.unsigned(gaps);
     }
-    put_transactions(checked, out);
-    if stop.is_open && (!is_end || stop.is_cut) {
+}
+
+/// Appends words and a position, if there is one.
+fn put_position(words: &str, position: Option<u32>, out: &mut Text)
+    ensures { IsLonger out.old out.new (position_words words.now position) }
+{
+    if let Some(position) = position {
+        out.words(words);
+        out.unsigned(u64::from(position));
+    }
+}
+
+/// Appends where the last transaction ends, if there is one; if there are options, how many transactions they select.
+fn put_transactions(checked: Checked<'_>, out: &mut Text)
+    ensures { IsLonger out.old out.new (transactions_words checked.entry) }
+{
+    let last = checked.last_commit();
+    match checked.selected {
+        Some(selected) => {
+            out.words("; selected transactions: ");
+            out.unsigned(selected.count);
+            put_position(", the last ends at ", last, out);
+        }
+        None => put_position("; the last transaction ends at ", last, out),
+    }
+}
+
+/// Whether a transaction is open where a log ended by a fault, or within an event.
+fn says_open(stop: Stop) -> bool
+    ensures { result ≡ says_open stop }
+{
+    if !stop.is_open {
+        return false;
+    }
+    if matches!(stop.verdict, Verdict::End) {
+        return stop.is_cut;
+    }
+    true
+}
+
+/// Appends that a transaction is open where a log ended, if that is to be said.
+fn put_open(stop: Stop, out: &mut Text)
+    ensures { IsLonger out.old out.new (open_words stop) }
+{
+    if says_open(stop) {
         out.words("; a transaction is open");
     }
-    if !is_end {
+}
+
+/// Appends what can be done about a fault.
+fn put_advice(checked: Checked<'_>, out: &mut Text)
+    ensures { IsLonger out.old out.new (advice_words checked.entry) }
+{
+    if checked.stop.verdict != Verdict::End {
         out.words("; ");
         out.words(checked.explanation.advice);
     }
+}
+
+/// Appends how a log ended, for people.
+pub fn put_checked(checked: Checked<'_>, out: &mut Text)
+    ensures { (more : List ℕ) × AreCheckedWords checked.entry more × IsLonger out.old out.new more }
+{
+    out.words(checked.path);
+    out.words(": ");
+    put_cause(checked, out);
+    put_up_to(checked.up_to, out);
+    put_place(checked.stop, out);
+    put_gaps(checked.gaps, out);
+    put_transactions(checked, out);
+    put_open(checked.stop, out);
+    put_advice(checked, out);
     out.push(b'\n');
 }
 
 /// Appends that a log before another isn't closed.
-pub fn put_unclosed(path: &str, stop: Stop, out: &mut Text) {
+pub fn put_unclosed(path: &str, stop: Stop, out: &mut Text)
+    ensures { IsLonger out.old out.new (unclosed_words path.now stop.offset) }
+{
     out.words("binlog-changes: ");
     out.words(path);
     out.words(": the log ends at ");
