@@ -124,9 +124,5 @@ class Running:
 
 def json_lines(folder, logs):
     """What `binlog-changes json` prints of each log: a killed server leaves logs that don't lead to the next one."""
-    made = b""
-    for log in logs:
-        made += subprocess.run(
-            [folder / "bin/binlog-changes", "json", log], stdout=subprocess.PIPE, stderr=subprocess.DEVNULL
-        ).stdout
-    return made
+    how = {"stdout": subprocess.PIPE, "stderr": subprocess.DEVNULL}
+    return b"".join(subprocess.run([folder / "bin/binlog-changes", "json", log], **how).stdout for log in logs)
