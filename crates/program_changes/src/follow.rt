@@ -1,8 +1,7 @@
 //! The command `follow`: the changes of a server's answer, each transaction once its commit has arrived.
 
 ghost use Rattle.std.specs.Prelude.{◌≡◌, IfOk};
-ghost use Rattle.feed_pushed_log.specs.PushedLogs.{checksum_of};
-ghost use Rattle.feed_replication.specs.AnswerEvents.{checksum_of as sum_of_answer};
+ghost use Rattle.feed_replication.specs.AnswerEvents.{checksum_of};
 
 use crate::changes::{LineSink, RunState, table_options};
 use crate::follow_messages::{say_fault, say_packet, say_wrong};
@@ -74,17 +73,17 @@ fn is_heartbeat(event: &[u8]) -> bool {
 }
 
 /// Writes the lines of the transactions that the pushed bytes complete.
-fn take_transactions<'f, F: Fn(&[u8]) -> u32 + Drop, W: Write>(
+fn take_transactions<'f, F: Fn(&[u8]) -> u32, W: Write>(
     filter: Filter<'_>,
-    log: &mut PushedLog<F, JsonRecorder<'f>, LogEvents<'_>>,
+    checksum: &F,
+    log: &mut PushedLog<JsonRecorder<'f>, LogEvents<'_>>,
     sink: &mut LineSink<'_, W>,
     reached: &mut Reached,
 ) -> Result<(), FollowEnd>
-    requires callable { F.IsAlwaysCallable (checksum_of log.old) }
-    ensures checksum { checksum_of log.new ≡ checksum_of log.old }
+    requires callable { F.IsAlwaysCallable checksum.now }
 {
     for _ in 0..u64::MAX {
-        match log.advance() {
+        match log.advance(checksum) {
             Ok(true) => {}
             Ok(false) => return Ok(()),
             Err(_) => return Err(FollowEnd::Fault),
@@ -99,14 +98,14 @@ fn take_transactions<'f, F: Fn(&[u8]) -> u32 + Drop, W: Write>(
 }
 
 /// Writes the lines of the transactions that the pushed bytes of a log with this name complete.
-fn take_pushed<'f, F: Fn(&[u8]) -> u32 + Drop, W: Write>(
+fn take_pushed<'f, F: Fn(&[u8]) -> u32, W: Write>(
     options: &Options<'_>,
+    checksum: &F,
     name: &[u8],
-    log: &mut PushedLog<F, JsonRecorder<'f>, LogEvents<'_>>,
+    log: &mut PushedLog<JsonRecorder<'f>, LogEvents<'_>>,
     printer: &mut Printer<W>,
 ) -> Result<(), FollowEnd>
-    requires callable { F.IsAlwaysCallable (checksum_of log.old) }
-    ensures checksum { checksum_of log.new ≡ checksum_of log.old }
+    requires callable { F.IsAlwaysCallable checksum.now }
 {
     let mut sink = LineSink::new(
         options,
@@ -116,26 +115,32 @@ fn take_pushed<'f, F: Fn(&[u8]) -> u32 + Drop, W: Write>(
         &mut printer.waiting,
         &mut printer.writer,
     );
-    take_transactions(filter_of(options), log, &mut sink, &mut printer.reached)
+    take_transactions(
+        filter_of(options),
+        checksum,
+        log,
+        &mut sink,
+        &mut printer.reached,
+    )
 }
 
 /// Takes the newest event of an answer: writes the lines of the transactions that it completes, and acknowledges it if the source asks
 /// for that.
-fn take_event<'f, F: Fn(&[u8]) -> u32 + Drop, G: Fn(&[u8]) -> u32, W: Write>(
+fn take_event<'f, F: Fn(&[u8]) -> u32, G: Fn(&[u8]) -> u32, W: Write>(
     options: &Options<'_>,
+    checksum: &F,
     answer: &mut AnswerEvents<G>,
-    log: &mut PushedLog<F, JsonRecorder<'f>, LogEvents<'_>>,
+    log: &mut PushedLog<JsonRecorder<'f>, LogEvents<'_>>,
     printer: &mut Printer<W>,
 ) -> Result<(), FollowEnd>
-    requires callable { F.IsAlwaysCallable (checksum_of log.old) }
-    ensures checksum { checksum_of log.new ≡ checksum_of log.old }
-    ensures sum_of_answer { sum_of_answer answer.new ≡ sum_of_answer answer.old }
+    requires callable { F.IsAlwaysCallable checksum.now }
+    ensures checksum { checksum_of answer.new ≡ checksum_of answer.old }
 {
     if !is_heartbeat(answer.event()) {
         if let Err(_) = log.push(answer.event()) {
             return Err(FollowEnd::Fault);
         }
-        if let Err(end) = take_pushed(options, answer.name(), &mut *log, &mut *printer) {
+        if let Err(end) = take_pushed(options, checksum, answer.name(), &mut *log, &mut *printer) {
             return Err(end);
         }
     }
@@ -147,16 +152,16 @@ fn take_event<'f, F: Fn(&[u8]) -> u32 + Drop, G: Fn(&[u8]) -> u32, W: Write>(
 }
 
 /// Takes the events of the packets that arrived.
-fn take_packets<'f, F: Fn(&[u8]) -> u32 + Drop, G: Fn(&[u8]) -> u32, W: Write>(
+fn take_packets<'f, F: Fn(&[u8]) -> u32, G: Fn(&[u8]) -> u32, W: Write>(
     options: &Options<'_>,
+    checksum: &F,
     answer: &mut AnswerEvents<G>,
-    log: &mut PushedLog<F, JsonRecorder<'f>, LogEvents<'_>>,
+    log: &mut PushedLog<JsonRecorder<'f>, LogEvents<'_>>,
     printer: &mut Printer<W>,
 ) -> Result<(), FollowEnd>
-    requires callable { F.IsAlwaysCallable (checksum_of log.old) }
-    requires answer { G.IsAlwaysCallable (sum_of_answer answer.old) }
-    ensures checksum { checksum_of log.new ≡ checksum_of log.old }
-    ensures sum_of_answer { sum_of_answer answer.new ≡ sum_of_answer answer.old }
+    requires callable { F.IsAlwaysCallable checksum.now }
+    requires answer { G.IsAlwaysCallable (checksum_of answer.old) }
+    ensures checksum { checksum_of answer.new ≡ checksum_of answer.old }
 {
     for _ in 0..u64::MAX {
         match answer.next_event() {
@@ -165,7 +170,7 @@ fn take_packets<'f, F: Fn(&[u8]) -> u32 + Drop, G: Fn(&[u8]) -> u32, W: Write>(
             Err(Verdict::End) => return Err(FollowEnd::Ended),
             Err(verdict) => return Err(FollowEnd::Packet(verdict)),
         }
-        if let Err(end) = take_event(options, answer, log, printer) {
+        if let Err(end) = take_event(options, checksum, answer, log, printer) {
             return Err(end);
         }
     }
@@ -178,7 +183,7 @@ fn write_out<G: Fn(&[u8]) -> u32, W: Write>(
     answer: &mut AnswerEvents<G>,
     printer: &mut Printer<W>,
 ) -> Result<(), Failure>
-    ensures sum_of_answer { sum_of_answer answer.new ≡ sum_of_answer answer.old }
+    ensures checksum { checksum_of answer.new ≡ checksum_of answer.old }
 {
     let mut line = Text::new(rt.alloc());
     if printer.reached.is_due(rt) {
@@ -205,17 +210,18 @@ fn write_out<G: Fn(&[u8]) -> u32, W: Write>(
 }
 
 /// Reads an answer to its end; after each read the lines of the transactions that it completed are written.
-fn follow_answer<'f, R: Read, F: Fn(&[u8]) -> u32 + Drop, G: Fn(&[u8]) -> u32, W: Write>(
+fn follow_answer<'f, R: Read, F: Fn(&[u8]) -> u32, G: Fn(&[u8]) -> u32, W: Write>(
     rt: &HostRuntime,
     options: &Options<'_>,
+    checksum: &F,
     input: &mut Watched<R>,
     piece: &mut [u8],
     answer: &mut AnswerEvents<G>,
-    log: &mut PushedLog<F, JsonRecorder<'f>, LogEvents<'_>>,
+    log: &mut PushedLog<JsonRecorder<'f>, LogEvents<'_>>,
     printer: &mut Printer<W>,
 ) -> FollowEnd
-    requires callable { F.IsAlwaysCallable (checksum_of log.old) }
-    requires answer { G.IsAlwaysCallable (sum_of_answer answer.old) }
+    requires callable { F.IsAlwaysCallable checksum.now }
+    requires answer { G.IsAlwaysCallable (checksum_of answer.old) }
 {
     for _ in 0..u64::MAX {
         let taken = match input.pull_uninterrupted(&mut *piece) {
@@ -227,7 +233,7 @@ fn follow_answer<'f, R: Read, F: Fn(&[u8]) -> u32 + Drop, G: Fn(&[u8]) -> u32, W
         if answer.receive(&piece[..taken]).is_err() {
             return FollowEnd::Failed(Failure::Memory);
         }
-        let outcome = take_packets(options, answer, log, printer);
+        let outcome = take_packets(options, checksum, answer, log, printer);
         if let Err(failure) = write_out(rt, answer, printer) {
             return FollowEnd::Failed(failure);
         }
@@ -258,7 +264,7 @@ fn answer_of<G: Fn(&[u8]) -> u32 + Drop>(
     options: &Options<'_>,
     checksum: G,
 ) -> Result<AnswerEvents<G>, u8>
-    ensures checksum { IfOk result (λ answer. sum_of_answer answer ≡ checksum) }
+    ensures checksum { IfOk result (λ answer. checksum_of answer ≡ checksum) }
 {
     let name = options.follow.log_name.unwrap_or("").as_bytes();
     let format = match options.follow.semi_sync {
@@ -341,12 +347,13 @@ fn follow_input(rt: &HostRuntime, options: &Options<'_>, state: &mut RunState) -
         table_options(options),
         options.added,
     );
-    let Ok(mut log) = pushed_log(rt.alloc(), &mut state.sources, crc32, recorder) else {
+    let Ok(mut log) = pushed_log(rt.alloc(), &mut state.sources, recorder) else {
         return Err(say_wrong(rt, "out of memory", FAILED));
     };
     let end = follow_answer(
         rt,
         options,
+        &crc32,
         &mut Watched::new(rt.reader()),
         piece.as_mut_slice(),
         &mut answer,
