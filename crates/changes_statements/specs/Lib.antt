@@ -1,0 +1,5 @@
+pub mod PlainDocuments
+pub mod SqlTexts
+pub mod SqlTimes
+pub mod SqlNumbers
+pub mod SqlLiterals
