@@ -33,3 +33,8 @@ hexadecimal padded_len bytes = codes "X'" ++ (encode_lower bytes ++ (zeros (padd
 -- a text in UTF-8 with its character set
 abbrev pub utf8_text : List ℕ → List ℕ
 utf8_text text = codes "_utf8mb4" ++ (if list_all is_plain text then string_text text else 32 ∷ hexadecimal 0 text)
+
+-- whether a text begins with a byte
+abbrev pub begins_with : ℕ → List ℕ → Bool
+begins_with b [] = false
+begins_with b (x ∷ xs) = x == b

@@ -6,6 +6,7 @@
 #![tactic(auto)]
 
 mod documents;
+pub mod laws;
 mod literals;
 mod no_statement;
 mod numbers;

@@ -90,7 +90,7 @@ pub(crate) fn put_bits(
 {
     out.put_text(b"b'")?;
     for index in 0..count {
-        let bit = (number >> (count - 1 - index)) & 1;
+        let bit = (number >> (count - 1 - index)) % 2;
         out.put(b'0' + bit as u8)?;
     }
     out.put(b'\'')
