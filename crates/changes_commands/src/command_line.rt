@@ -226,8 +226,8 @@ impl<'w> Options<'w> {
     fn add_statement_options(&mut self, matches: &ArgMatches<'w>) -> Result<(), Refused> {
         match self.task {
             Task::Sql | Task::Undo => {
-                self.sql.has_statements =
-                    matches!(self.task, Task::Sql) && matches.get_flag(STATEMENTS.name);
+                self.sql.has_statements = matches!(self.task, Task::Sql)
+                    && matches.get_flag(STATEMENTS.name);
                 self.sql.leaves_out = matches.get_flag(LEAVE_OUT.name);
                 self.sql.is_dry = matches.get_flag(DRY_RUN.name);
                 self.sql.add_conditions(matches)

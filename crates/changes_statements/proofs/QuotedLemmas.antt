@@ -40,8 +40,10 @@ content_end q (x ∷ a) (y ∷ b) s t hs ht e = go (content_end q a b s t hs ht)
   where
     joined : (x ≡ y) → (a ≡ b) × (s ≡ t) → (x ∷ a ≡ y ∷ b) × (s ≡ t)
     joined p h = ((λ i. p i ∷ h.0 i), h.1)
+
     is_quote : (z : ℕ) → (z == q) ≡ true → z ≡ q
     is_quote z h = grind arith
+
     go : (flat_map (doubled q) a ++ q ∷ s ≡ flat_map (doubled q) b ++ q ∷ t → (a ≡ b) × (s ≡ t)) → (w z : Bool) → (x == q) ≡ w → (y == q) ≡ z
         → ((if w then q ∷ q ∷ [] else x ∷ []) ++ flat_map (doubled q) a) ++ q ∷ s ≡ ((if z then q ∷ q ∷ [] else y ∷ []) ++ flat_map (doubled q) b) ++ q ∷ t
         → (x ∷ a ≡ y ∷ b) × (s ≡ t)

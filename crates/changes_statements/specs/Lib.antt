@@ -3,3 +3,4 @@ pub mod SqlTexts
 pub mod SqlTimes
 pub mod SqlNumbers
 pub mod SqlLiterals
+pub mod RowsOfCells

@@ -1,5 +1,5 @@
 -- Numbers in SQL (MySQL Reference Manual, "Numeric Literals", "Bit-Value Literals").
-use Rattle.std.specs.Prelude.{◌≡◌, ℕ, zero, suc, ◌+◌, ◌/◌, ◌%◌, ◌^◌, ◌-◌, ◌==◌, List, [], ◌∷◌, ◌++◌, map, Some, IsTrue, from_bits, codes, if◌then◌else◌}
+use Rattle.std.specs.Prelude.{◌≡◌, ℕ, zero, suc, ◌+◌, ◌/◌, ◌%◌, ◌^◌, ◌-◌, ◌==◌, Bool, true, false, List, [], ◌∷◌, ◌++◌, map, Some, IsTrue, from_bits, codes, if◌then◌else◌}
 use Rattle.std.specs.Fmt.{decimal}
 use Rattle.std.specs.List.{range_with_len}
 use Rattle.std.specs.Float.{binary32, binary64, float_is_finite}
@@ -18,12 +18,17 @@ pub record IsNumberText (x : Float) (text : List ℕ) : Type 0 where
 abbrev pub minus_zero : List ℕ
 minus_zero = codes "-0e0"
 
+-- a float, or the zero with a minus
+abbrev pub IsFloatOrZero : Bool → Float → List ℕ → Type 0
+IsFloatOrZero true x text = text ≡ minus_zero
+IsFloatOrZero false x text = IsNumberText x text
+
 -- a float of 8 bytes and one of 4 bytes, by its bits
 abbrev pub IsDoubleText : ℕ → List ℕ → Type 0
-IsDoubleText bits text = if bits == 2 ^ 63 then text ≡ minus_zero else IsNumberText (from_bits binary64 bits) text
+IsDoubleText bits text = IsFloatOrZero (bits == 2 ^ 63) (from_bits binary64 bits) text
 
 abbrev pub IsFloatText : ℕ → List ℕ → Type 0
-IsFloatText bits text = if bits == 2 ^ 31 then text ≡ minus_zero else IsNumberText (from_bits binary32 bits) text
+IsFloatText bits text = IsFloatOrZero (bits == 2 ^ 31) (from_bits binary32 bits) text
 
 -- the digit of bit i of a number
 abbrev pub bit_digit : ℕ → ℕ → ℕ

@@ -1,5 +1,5 @@
 -- Names, strings and bytes in SQL (MySQL Reference Manual, "Schema Object Names", "String Literals", "Hexadecimal Literals").
-use Rattle.std.specs.Prelude.{ℕ, ◌-◌, ◌==◌, Bool, true, false, not, ◌&&◌, List, [], ◌∷◌, ◌++◌, length, nat_le, if◌then◌else◌, codes}
+use Rattle.std.specs.Prelude.{ℕ, ◌-◌, ◌*◌, map, ◌==◌, Bool, true, false, not, ◌&&◌, List, [], ◌∷◌, ◌++◌, length, nat_le, if◌then◌else◌, codes}
 use Rattle.std.specs.List.{flat_map, list_all, range_with_len}
 use Rattle.hex.specs.Hex.{encode_lower}
 
@@ -22,13 +22,13 @@ string_text bytes = between 39 bytes
 abbrev pub is_plain : ℕ → Bool
 is_plain b = nat_le 32 b && not (b == 127) && not (b == 92)
 
--- two zeros for each of so many bytes
+-- so many zeros
 abbrev pub zeros : ℕ → List ℕ
-zeros count = flat_map (λ i. 48 ∷ 48 ∷ []) (range_with_len 0 count)
+zeros count = map (λ i. 48) (range_with_len 0 count)
 
 -- bytes in hexadecimal, with zeros after them up to a length
 abbrev pub hexadecimal : ℕ → List ℕ → List ℕ
-hexadecimal padded_len bytes = codes "X'" ++ (encode_lower bytes ++ (zeros (padded_len - length bytes) ++ 39 ∷ []))
+hexadecimal padded_len bytes = codes "X'" ++ (encode_lower bytes ++ (zeros (2 * (padded_len - length bytes)) ++ 39 ∷ []))
 
 -- a text in UTF-8 with its character set
 abbrev pub utf8_text : List ℕ → List ℕ

@@ -1,5 +1,5 @@
 -- Dates and times in SQL, with a fraction if it isn't zero (MySQL Reference Manual, "Date and Time Literals").
-use Rattle.std.specs.Prelude.{◌≡◌, ℕ, ◌+◌, ◌*◌, ◌==◌, Bool, List, [], ◌∷◌, ◌++◌, codes, if◌then◌else◌}
+use Rattle.std.specs.Prelude.{◌≡◌, ℕ, zero, suc, ◌+◌, ◌*◌, ◌==◌, Bool, List, [], ◌∷◌, ◌++◌, codes, if◌then◌else◌}
 use Rattle.std.specs.Fmt.{sign_text}
 use Rattle.rows_values.specs.TimeTexts.{padded_decimal}
 use Rattle.feed_writers.specs.TimesOfDay.{day_text}
@@ -41,4 +41,6 @@ pub record IsUtcText (seconds micros : ℕ) (x : List ℕ) : Type 0 where
 
 -- the same; all zero for 0
 abbrev pub IsInstantText : ℕ → ℕ → List ℕ → Type 0
-IsInstantText seconds micros x = if (seconds + micros) == 0 then (x ≡ codes "'0000-00-00 00:00:00'") else IsUtcText seconds micros x
+IsInstantText zero zero x = x ≡ codes "'0000-00-00 00:00:00'"
+IsInstantText zero (suc micros) x = IsUtcText zero (suc micros) x
+IsInstantText (suc seconds) micros x = IsUtcText (suc seconds) micros x

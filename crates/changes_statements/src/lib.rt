@@ -1,8 +1,8 @@
 //! SQL statements of the changes of rows: `INSERT`, `UPDATE` and `DELETE`, as a MySQL or MariaDB server executes them.
 //!
-//! [`SqlTable`] is a table by its table map: its name, the names of its columns and its key. [`Statements`] keeps the texts of
-//! statements, and [`put_statement`] appends the statement of a change. A statement's text is right in any `sql_mode`: strings have no
-//! backslash, and names are in backticks.
+//! [`SqlTable`] is a table by its table map: its name, the names of its columns and its key. [`put_statement`] appends the statement of a
+//! change, and [`put_literal`] the literal of a cell, which `specs/SqlLiterals.antt` defines. Texts are right in any `sql_mode`: strings have
+//! no backslash, and names are in backticks. [`TextList`] keeps texts in one buffer.
 #![tactic(auto)]
 
 mod documents;
@@ -20,9 +20,9 @@ mod times;
 
 pub use literals::{Scratch, put_literal};
 pub use no_statement::NoStatement;
+pub use quoting::put_name;
 pub use row_cells::RowCells;
 pub use sql_table::{SqlColumn, SqlTable};
-pub use quoting::put_name;
 pub use statements::put_statement;
 pub use text_list::TextList;
 pub use texts::put_utf8;

@@ -50,11 +50,7 @@ impl Scratch {
 
 /// Appends a signed integer; that of a TIMESTAMP is a date and a time.
 #[tactic(auto, unfolding(crate::specs::SqlLiterals::IsIntegerLiteral))]
-fn put_int(
-    column: &SqlColumn,
-    number: i64,
-    out: &mut TextBuffer<Global>,
-) -> Result<(), NoStatement>
+fn put_int(column: &SqlColumn, number: i64, out: &mut TextBuffer<Global>) -> Result<(), NoStatement>
     ensures { OnOk result (AppendsSuch (IsIntegerLiteral column.now.shown number) (text_in out.old) (text_in out.new)) }
 {
     if let Shown::Timestamp = column.shown
@@ -68,11 +64,7 @@ fn put_int(
 }
 
 /// Appends a TIMESTAMP2.
-fn put_timestamp(
-    seconds: i32,
-    micros: i32,
-    out: &mut TextBuffer<Global>,
-) -> Result<(), NoStatement>
+fn put_timestamp(seconds: i32, micros: i32, out: &mut TextBuffer<Global>) -> Result<(), NoStatement>
     ensures { OnOk result (AppendsSuch (IsInstantText (cast_unsigned w32 seconds) (unsigned_abs micros)) (text_in out.old) (text_in out.new)) }
 {
     put_instant(seconds.cast_unsigned(), micros.unsigned_abs(), out)?;

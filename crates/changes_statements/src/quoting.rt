@@ -65,12 +65,12 @@ pub(crate) fn are_plain(bytes: &[u8]) -> bool
     true
 }
 
-/// Appends two zeros for each of so many bytes.
+/// Appends so many zeros.
 fn put_zeros(count: usize, out: &mut TextBuffer<Global>) -> Result<(), AllocError>
     ensures { OnOk result (text_in out.new ≡ text_in out.old ++ zeros count) }
 {
     for index in 0..count {
-        out.put_text(b"00")?;
+        out.put(b'0')?;
     }
     Ok(())
 }
@@ -78,13 +78,13 @@ fn put_zeros(count: usize, out: &mut TextBuffer<Global>) -> Result<(), AllocErro
 /// Appends bytes as a hexadecimal literal, with zeros after them up to a length.
 pub(crate) fn put_hexadecimal(
     bytes: &[u8],
-    padded_len: usize,
+    padded_len: u8,
     out: &mut TextBuffer<Global>,
 ) -> Result<(), AllocError>
     ensures { OnOk result (text_in out.new ≡ text_in out.old ++ hexadecimal padded_len bytes.now) }
 {
     out.put_text(b"X'")?;
     out.put_hexadecimal(bytes)?;
-    put_zeros(padded_len.saturating_sub(bytes.len()), out)?;
+    put_zeros(2 * usize::from(padded_len).saturating_sub(bytes.len()), out)?;
     out.put(b'\'')
 }

@@ -1,5 +1,8 @@
 //! The cells of a row by their columns.
 
+ghost use Rattle.std.specs.Prelude.{◌≡◌};
+ghost use Rattle.changes_statements.specs.RowsOfCells.{cell_in};
+
 use rows_cells::CellRef;
 use std::alloc::{AllocError, Global};
 
@@ -38,7 +41,9 @@ impl<'a> RowCells<'a> {
     }
 
     /// The cell of a column, if the image has it.
-    pub fn get(&self, column: usize) -> Option<CellRef<'a>> {
+    pub fn get(&self, column: usize) -> Option<CellRef<'a>>
+        ensures { result ≡ cell_in self.now.cells.items column }
+    {
         match self.cells.get(column) {
             Some(cell) => *cell,
             None => None,

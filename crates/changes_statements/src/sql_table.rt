@@ -24,7 +24,7 @@ pub struct SqlColumn {
     /// How its values are shown.
     pub shown: Shown,
     /// The length of the values of a BINARY column, whose zeros at the end the log doesn't have; 0 for another column.
-    pub padded_len: usize,
+    pub padded_len: u8,
 }
 
 /// A table: its name, its columns, and its key.
@@ -135,13 +135,10 @@ fn full_name(alloc: Global, map: &TableMapEvent<'_>) -> Result<Vec<u8>, AllocErr
 }
 
 /// The length to which values of a column are padded.
-fn padded_len(column: ColumnMeta<'_>, shown: Shown) -> usize {
+fn padded_len(column: ColumnMeta<'_>, shown: Shown) -> u8 {
     match (shown, column.metadata) {
-        (Shown::Binary, [real_type, len, ..])
-            if column.number == STRING && *real_type == STRING =>
-        {
-            usize::from(*len)
-        }
+        (Shown::Binary, [real_type, len, ..]) if column.number == STRING && *real_type == STRING =>
+            { *len }
         _ => 0,
     }
 }

@@ -35,14 +35,7 @@ impl Parts<'_> {
         cell: CellRef<'_>,
         is_exact: bool,
     ) -> Result<(), NoStatement> {
-        put_literal(
-            self.alloc,
-            column,
-            cell,
-            is_exact,
-            self.scratch,
-            self.out,
-        )
+        put_literal(self.alloc, column, cell, is_exact, self.scratch, self.out)
     }
 
     /// Appends the names of the columns of an image.

@@ -4,7 +4,7 @@ ghost use Rattle.std.specs.Prelude.{◌≡◌, ◌≤◌, ◌+◌, ◌/◌, ◌%
 ghost use Rattle.feed_text.specs.Buffers.{text_in};
 ghost use Rattle.changes_writers.specs.FloatTexts.{AppendsSuch};
 ghost use Rattle.rows_cells.specs.CellValues.{cell_date, cell_time, date, new_date, old_datetime, old_time, time};
-ghost use Rattle.changes_statements.specs.SqlTimes.{time_of_day, date_text, datetime_text, duration_text, IsInstantText};
+ghost use Rattle.changes_statements.specs.SqlTimes.{time_of_day, date_text, datetime_text, duration_text, IsInstantText, IsUtcText};
 
 use changes_writers::utc_of_seconds;
 use feed_text::TextBuffer;
@@ -86,9 +86,18 @@ pub fn put_instant(
 ) -> Result<(), AllocError>
     ensures { OnOk result (AppendsSuch (IsInstantText seconds micros) (text_in out.old) (text_in out.new)) }
 {
-    if seconds == 0 && micros == 0 {
-        return out.put_text(b"'0000-00-00 00:00:00'");
+    if seconds == 0 {
+        if micros == 0 {
+            return out.put_text(b"'0000-00-00 00:00:00'");
+        }
     }
+    put_utc(seconds, micros, out)
+}
+
+/// Appends the date and the time in UTC of so many seconds since 1970, and microseconds.
+fn put_utc(seconds: u32, micros: u32, out: &mut TextBuffer<Global>) -> Result<(), AllocError>
+    ensures { OnOk result (AppendsSuch (IsUtcText seconds micros) (text_in out.old) (text_in out.new)) }
+{
     let (day, clock) = utc_of_seconds(i64::from(seconds), micros);
     put_datetime(day, clock, out)
 }

@@ -70,7 +70,9 @@ fn put_course(totals: &Totals, text: &mut Text) {
     };
     let period = u64::from(totals.period.max(1));
     let begin = u64::from(first) / period;
-    let count = (u64::from(last) / period).saturating_sub(begin).saturating_add(1);
+    let count = (u64::from(last) / period)
+        .saturating_sub(begin)
+        .saturating_add(1);
     let width = (WIDTH / count).max(1);
     let most = totals.most_of_period();
     for (start, rows) in &totals.course {
@@ -121,7 +123,9 @@ fn put_shares(totals: &Totals, text: &mut Text) -> Result<(), AllocError> {
 /// Appends a drawing of the course and of the shares of the tables. `AllocError`: out of memory.
 pub fn put_drawing(totals: &Totals, text: &mut Text) -> Result<(), AllocError> {
     let lines = totals.tables.len().min(TABLES) as u64;
-    text.words("<svg xmlns=\"http://www.w3.org/2000/svg\" font-family=\"sans-serif\" font-size=\"12\"");
+    text.words(
+        "<svg xmlns=\"http://www.w3.org/2000/svg\" font-family=\"sans-serif\" font-size=\"12\"",
+    );
     put_number("width", WIDTH, text);
     put_number("height", HEIGHT + (lines + 3) * LINE, text);
     text.words(">\n");

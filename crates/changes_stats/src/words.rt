@@ -56,9 +56,7 @@ fn put_counts(counts: RowCounts, transactions: u64, name: &[u8], text: &mut Text
 
 /// Appends the rows by table.
 fn put_tables(totals: &Totals, text: &mut Text) -> Result<(), AllocError> {
-    text.words(
-        "      inserted       updated       deleted   event bytes  transactions  table\n",
-    );
+    text.words("      inserted       updated       deleted   event bytes  transactions  table\n");
     for index in &totals.by_rows()? {
         if let Some(table) = totals.tables.get(*index) {
             put_counts(table.counts, table.transactions, &table.name, text);
@@ -85,7 +83,9 @@ fn put_largest(totals: &Totals, text: &mut Text) {
     if totals.largest.is_empty() {
         return;
     }
-    text.words("\nthe largest transactions\n          rows         bytes  log, from and to position, time, GTID, tables\n");
+    text.words(
+        "\nthe largest transactions\n          rows         bytes  log, from and to position, time, GTID, tables\n",
+    );
     for large in &totals.largest {
         put_right(large.rows, NUMBER_WIDTH, text);
         put_right(large.bytes, NUMBER_WIDTH, text);

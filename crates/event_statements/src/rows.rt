@@ -38,7 +38,11 @@ pub struct RowsTaken<'t> {
 }
 
 /// Whether a literal is that of a value of the command line: the value itself, or a string of it.
-fn is_value(literal: &[u8], value: &[u8], text: &mut TextBuffer<Global>) -> Result<bool, NoStatement> {
+fn is_value(
+    literal: &[u8],
+    value: &[u8],
+    text: &mut TextBuffer<Global>,
+) -> Result<bool, NoStatement> {
     if literal == value {
         return Ok(true);
     }
@@ -135,7 +139,11 @@ fn read_row<'a>(
 }
 
 /// Whether the change of a row can be taken back: an image with all columns that the change had.
-fn check_back(images: RowImages, first: &RowCells<'_>, second: &RowCells<'_>) -> Result<(), NoStatement> {
+fn check_back(
+    images: RowImages,
+    first: &RowCells<'_>,
+    second: &RowCells<'_>,
+) -> Result<(), NoStatement> {
     let has_all = match images {
         RowImages::After => true,
         RowImages::Before => first.is_full(),

@@ -19,7 +19,6 @@ pub struct SqlTables {
     names: BTreeMap<Vec<u8>, usize>,
 }
 
-
 impl SqlTables {
     /// No tables.
     pub fn new(alloc: Global) -> SqlTables {
