@@ -9,9 +9,11 @@ use crc32::crc32;
 use event_statements::{Direction, RowCounts, RowsTaken, SqlTables, add_rows};
 use events_frames::QueryTexts;
 use feed_change_log::{Change, ChangeRecorder, CommittedTransaction, Filter, TableRows, What};
+use feed_checks::Verdict;
 use feed_text::TextBuffer;
 use feed_transactions::WaitingBytes;
-use std::alloc::Global;
+use newest_first::NewestFirst;
+use std::alloc::{AllocError, Global};
 use std::collections::BTreeMap;
 use std::io::{Read, Write};
 use wire_buf::Watched;
@@ -31,8 +33,10 @@ pub(crate) struct RefusedChange {
 pub(crate) struct SqlState {
     tables: SqlTables,
     scratch: Scratch,
-    /// The statements of the open transaction; of all, for `undo`.
+    /// The statements of the open transaction.
     texts: TextList,
+    /// Those that take all transactions back.
+    back: NewestFirst,
     /// How many rows of each table are taken.
     pub(crate) counts: BTreeMap<Vec<u8>, RowCounts>,
     pub(crate) transactions: u64,
@@ -48,6 +52,7 @@ impl SqlState {
             tables: SqlTables::new(alloc),
             scratch: Scratch::new(alloc),
             texts: TextList::new(alloc),
+            back: NewestFirst::new(alloc),
             counts: BTreeMap::new(alloc),
             transactions: 0,
             refused: None,
@@ -274,6 +279,21 @@ impl<W: Write> SqlSink<'_, W> {
         Ok(())
     }
 
+    /// Keeps the texts of a transaction that take it back, so that its heading comes first when they are written, the newest first.
+    fn keep_back(&mut self) -> Result<(), AllocError> {
+        let texts = &self.state.texts;
+        let back = &mut self.state.back;
+        back.add(b"COMMIT;\n")?;
+        let Some(last) = texts.len().checked_sub(1) else {
+            return Ok(());
+        };
+        for index in 0..last {
+            back.add(texts.get(index))?;
+        }
+        back.add(b"BEGIN;\n")?;
+        back.add(texts.get(last))
+    }
+
     /// Ends a transaction with texts: those that take it back wait for the end, others are written.
     fn end(
         &mut self,
@@ -284,32 +304,14 @@ impl<W: Write> SqlSink<'_, W> {
         if let Err(why) = heading {
             return Err(failure_of(why));
         }
-        if self.is_back() {
-            let Ok(()) = self.state.texts.open().put_text(b"BEGIN;\n") else {
-                return Err(Failure::Memory);
-            };
-        }
         let Ok(()) = self.state.texts.close() else {
             return Err(Failure::Memory);
         };
-        if self.is_back() {
-            return Ok(());
-        }
-        self.write_texts(has_rows)
-    }
-
-    /// Begins a transaction: its end comes first, if it is taken back.
-    fn begin(&mut self) -> Result<usize, Failure> {
         if !self.is_back() {
-            self.state.texts.clear();
-            return Ok(0);
+            return self.write_texts(has_rows);
         }
-        let start = self.state.texts.len();
-        let Ok(()) = self.state.texts.open().put_text(b"COMMIT;\n") else {
-            return Err(Failure::Memory);
-        };
-        match self.state.texts.close() {
-            Ok(()) => Ok(start),
+        match self.keep_back() {
+            Ok(()) => Ok(()),
             Err(_) => Err(Failure::Memory),
         }
     }
@@ -320,8 +322,7 @@ impl<W: Write> SqlSink<'_, W> {
         filter: Filter<'_>,
         transaction: CommittedTransaction<'_>,
     ) -> Result<(), Failure> {
-        let start = self.begin()?;
-        let first = self.state.texts.len();
+        self.state.texts.clear();
         let mut has_rows = false;
         let mut has_change = false;
         for change in transaction.changes().taken_by(filter) {
@@ -332,8 +333,7 @@ impl<W: Write> SqlSink<'_, W> {
         if has_change {
             self.state.transactions = self.state.transactions.saturating_add(1);
         }
-        if self.state.texts.len() == first {
-            self.state.texts.truncate(start);
+        if self.state.texts.is_empty() {
             return Ok(());
         }
         self.end(transaction, has_rows)
@@ -456,36 +456,28 @@ pub(crate) fn show_sql<R: Read + Drop>(
 
 /// Writes the statements that take the changes back, the last one first.
 fn write_back<W: Write>(
-    texts: &TextList,
+    back: &mut NewestFirst,
     waiting: &mut WaitingBytes,
     writer: &mut Watched<W>,
-) -> Result<(), Failure> {
-    if texts.is_empty() {
+) -> Result<(), Verdict> {
+    if back.is_empty() {
         return Ok(());
     }
-    let Ok(()) = waiting.put(SESSION, writer) else {
-        return Err(Failure::Unwritten);
-    };
-    for index in (0..texts.len()).rev() {
-        let Ok(()) = waiting.put(texts.get(index), writer) else {
-            return Err(Failure::Unwritten);
-        };
-    }
-    match waiting.write_all(writer) {
-        Ok(()) => Ok(()),
-        Err(_) => Err(Failure::Unwritten),
-    }
+    waiting.put(SESSION, writer)?;
+    back.write_all(waiting, writer)?;
+    waiting.write_all(writer)
 }
 
 /// Prints the statements that take the changes of all logs back.
-pub(crate) fn show_undo(rt: &HostRuntime, state: &SqlState) -> Result<(), Failure> {
+pub(crate) fn show_undo(rt: &HostRuntime, state: &mut SqlState) -> Result<(), Failure> {
     let Ok(mut waiting) = WaitingBytes::new(rt.alloc()) else {
         return Err(Failure::Memory);
     };
     let mut writer = Watched::new(Output::new(rt));
-    match write_back(&state.texts, &mut waiting, &mut writer) {
-        Err(Failure::Unwritten) if writer.into_inner().is_closed() => Err(Failure::Closed),
-        written => written,
+    match write_back(&mut state.back, &mut waiting, &mut writer) {
+        Ok(()) => Ok(()),
+        Err(_) if writer.into_inner().is_closed() => Err(Failure::Closed),
+        Err(_) => Err(Failure::Unwritten),
     }
 }
 
