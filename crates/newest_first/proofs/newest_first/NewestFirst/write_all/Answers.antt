@@ -1,4 +1,4 @@
-use Rattle.std.proofs.Common.{◌≡◌, ◌<◌, ◌+◌, ℕ, List, length, sym, ◌∙◌, arith, rules}
+use Rattle.std.proofs.Common.{◌≡◌, ◌<◌, length, arith, rules}
 use Rattle.newest_first.proofs.NewestLemmas.{as_many, wrote_all, wrote_more}
 use Rattle.newest_first.proofs.newest_first.NewestFirst.write_all.Goals as goal
 

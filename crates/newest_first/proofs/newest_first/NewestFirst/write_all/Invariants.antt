@@ -1,4 +1,4 @@
-use Rattle.std.proofs.Common.{◌≡◌, ℕ, List}
+use Rattle.std.proofs.Common.{ℕ, List}
 use Rattle.wire_buf.specs.Watched.{inner_of}
 use Rattle.feed_transactions.specs.Waiting.{bytes_of}
 use Rattle.newest_first.specs.NewestTexts.{HasTexts}
