@@ -1,0 +1,6 @@
+pub mod PlainDocuments
+pub mod SqlTexts
+pub mod SqlTimes
+pub mod SqlNumbers
+pub mod SqlLiterals
+pub mod RowsOfCells
