@@ -81,23 +81,15 @@ pub struct StatsOptions<'w> {
     pub svg: Option<&'w str>,
 }
 
-/// The position of the first `=` of a condition.
-fn equals_at(bytes: &[u8]) -> Option<usize> {
-    for (index, byte) in bytes.iter().enumerate() {
-        if *byte == b'=' {
-            return Some(index);
-        }
+/// The column of a condition, and its value: what is before the first `=`, and after it. None if there is no column.
+fn condition_of(condition: &[u8]) -> Option<(&[u8], &[u8])> {
+    let at = condition.iter().position(|byte| *byte == b'=')?;
+    let (column, rest) = condition.split_at(at);
+    let (_, value) = rest.split_first()?;
+    if column.is_empty() {
+        return None;
     }
-    None
-}
-
-/// The condition that a value of the option `--where` has. The error is a value without `=`.
-fn condition_of(value: &str) -> Result<(&[u8], &[u8]), Unusable> {
-    let bytes = value.as_bytes();
-    match equals_at(bytes) {
-        Some(at) if at < bytes.len() => Ok((&bytes[..at], &bytes[at + 1..])),
-        _ => Err(Unusable::Value(WHERE.name)),
-    }
+    Some((column, value))
 }
 
 impl<'w> SqlOptions<'w> {
@@ -117,8 +109,11 @@ impl<'w> SqlOptions<'w> {
             return Ok(());
         };
         for value in values {
-            let condition = condition_of(*value)?;
-            if let Err(_) = self.conditions.push(condition) {
+            let value: &'w str = *value;
+            let Some(condition) = condition_of(value.as_bytes()) else {
+                return Err(Unusable::Value(WHERE.name));
+            };
+            if self.conditions.push(condition).is_err() {
                 return Err(Unusable::Memory);
             }
         }

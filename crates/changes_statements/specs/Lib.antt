@@ -4,3 +4,4 @@ pub mod SqlTimes
 pub mod SqlNumbers
 pub mod SqlLiterals
 pub mod RowsOfCells
+pub mod SqlStatements

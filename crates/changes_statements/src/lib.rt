@@ -2,7 +2,8 @@
 //!
 //! [`SqlTable`] is a table by its table map: its name, the names of its columns and its key. [`put_statement`] appends the statement of a
 //! change, and [`put_literal`] the literal of a cell, which `specs/SqlLiterals.antt` defines. Texts are right in any `sql_mode`: strings have
-//! no backslash, and names are in backticks. [`TextList`] keeps texts in one buffer.
+//! no backslash, and
+//! names are in backticks.
 #![tactic(auto)]
 
 mod documents;
@@ -14,7 +15,6 @@ mod quoting;
 mod row_cells;
 mod sql_table;
 mod statements;
-mod text_list;
 mod texts;
 mod times;
 
@@ -24,6 +24,5 @@ pub use quoting::put_name;
 pub use row_cells::RowCells;
 pub use sql_table::{SqlColumn, SqlTable};
 pub use statements::put_statement;
-pub use text_list::TextList;
 pub use texts::put_utf8;
 pub use times::put_instant;

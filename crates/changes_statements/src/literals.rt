@@ -29,6 +29,7 @@ const DECIMAL_ROOM: usize = 258;
 /// Buffers that literals use on the way.
 #[derive(Drop)]
 pub struct Scratch {
+    alloc: Global,
     pub(crate) decoded: Vec<u8>,
     pub(crate) text: TextBuffer<Global>,
 }
@@ -37,6 +38,7 @@ impl Scratch {
     /// Empty buffers.
     pub fn new(alloc: Global) -> Scratch {
         Scratch {
+            alloc,
             decoded: Vec::new(alloc),
             text: TextBuffer::new(alloc),
         }
@@ -99,7 +101,6 @@ fn put_decimal(
 /// - `Memory`: out of memory.
 #[tactic(auto, unfolding(crate::specs::SqlLiterals::IsLiteral))]
 pub fn put_literal(
-    alloc: Global,
     column: &SqlColumn,
     cell: CellRef<'_>,
     is_exact: bool,
@@ -137,7 +138,7 @@ pub fn put_literal(
         CellRef::Decimal(precision, scale, bytes) => {
             return put_decimal(precision, scale, bytes, out);
         }
-        CellRef::Json(bytes) => return put_json(alloc, bytes, &mut scratch.text, out),
+        CellRef::Json(bytes) => return put_json(scratch.alloc, bytes, &mut scratch.text, out),
         CellRef::JsonDiffs(_) => return Err(NoStatement::PartialUpdate),
     }
     Ok(())

@@ -1,7 +1,7 @@
 //! The cells of a row by their columns.
 
 ghost use Rattle.std.specs.Prelude.{◌≡◌};
-ghost use Rattle.changes_statements.specs.RowsOfCells.{cell_in};
+ghost use Rattle.changes_statements.specs.RowsOfCells.{cell_in, cells_in};
 
 use rows_cells::CellRef;
 use std::alloc::{AllocError, Global};
@@ -42,7 +42,7 @@ impl<'a> RowCells<'a> {
 
     /// The cell of a column, if the image has it.
     pub fn get(&self, column: usize) -> Option<CellRef<'a>>
-        ensures { result ≡ cell_in self.now.cells.items column }
+        ensures { result ≡ cell_in (cells_in self.now) column }
     {
         match self.cells.get(column) {
             Some(cell) => *cell,

@@ -1,5 +1,11 @@
 //! The statement of a change.
 
+ghost use Rattle.std.specs.Prelude.{◌≡◌, ◌+◌, ◌++◌, List, ℕ, [], IfOk, OnOk, codes, not, if◌then◌else◌};
+ghost use Rattle.feed_text.specs.Buffers.{text_in};
+ghost use Rattle.changes_writers.specs.FloatTexts.{AppendsSuch};
+ghost use Rattle.changes_statements.specs.RowsOfCells.{cells_in};
+ghost use Rattle.changes_statements.specs.SqlStatements.{cells_of, compared, HasComparisons, HasItems, IsComparison, IsComparisonOfAll, IsComparisonOfKey, IsCondition, IsDelete, IsInsert, IsItem, IsItemList, IsStatement, IsUpdate, may_be_text};
+
 use crate::literals::{Scratch, put_literal};
 use crate::no_statement::NoStatement;
 use crate::row_cells::RowCells;
@@ -10,197 +16,278 @@ use feed_text::TextBuffer;
 use rows_cells::CellRef;
 use std::alloc::Global;
 
-/// What the parts of a statement use.
-#[derive(Drop)]
-struct Parts<'p> {
-    alloc: Global,
-    table: &'p SqlTable,
-    scratch: &'p mut Scratch,
-    out: &'p mut TextBuffer<Global>,
+/// What a list has of each column.
+#[derive(Clone, Copy)]
+pub(crate) enum Item {
+    Name,
+    Value,
+    /// The name, an equals sign, and the value.
+    Assignment,
 }
 
-impl Parts<'_> {
-    /// Appends a separator, unless nothing is before it.
-    fn put_between(&mut self, is_first: bool, separator: &[u8]) -> Result<(), NoStatement> {
-        if !is_first {
-            self.out.put_text(separator)?;
+/// Appends a separator, unless nothing is before it.
+fn put_between(
+    is_first: bool,
+    separator: &[u8],
+    out: &mut TextBuffer<Global>,
+) -> Result<(), NoStatement>
+    ensures { OnOk result (text_in out.new ≡ text_in out.old ++ (if is_first then [] else separator.now)) }
+{
+    if is_first {
+        return Ok(());
+    }
+    out.put_text(separator)?;
+    Ok(())
+}
+
+/// Appends what a list has of a column and its cell.
+#[tactic(auto, unfolding(crate::specs::SqlStatements::IsItem))]
+fn put_item(
+    item: Item,
+    column: &SqlColumn,
+    cell: CellRef<'_>,
+    scratch: &mut Scratch,
+    out: &mut TextBuffer<Global>,
+) -> Result<(), NoStatement>
+    ensures { OnOk result (AppendsSuch (IsItem item column.now cell.entry) (text_in out.old) (text_in out.new)) }
+{
+    match item {
+        Item::Name => {
+            out.put_text(&column.quoted)?;
+            Ok(())
         }
-        Ok(())
-    }
-
-    /// Appends a literal.
-    fn put_value(
-        &mut self,
-        column: &SqlColumn,
-        cell: CellRef<'_>,
-        is_exact: bool,
-    ) -> Result<(), NoStatement> {
-        put_literal(self.alloc, column, cell, is_exact, self.scratch, self.out)
-    }
-
-    /// Appends the names of the columns of an image.
-    fn put_names(&mut self, cells: &RowCells<'_>) -> Result<(), NoStatement> {
-        let mut is_first = true;
-        let table = self.table;
-        for (index, column) in table.columns.iter().enumerate() {
-            if cells.get(index).is_some() {
-                self.put_between(is_first, b",")?;
-                self.out.put_text(&column.quoted)?;
-                is_first = false;
-            }
+        Item::Value => put_literal(column, cell, false, scratch, out),
+        Item::Assignment => {
+            out.put_text(&column.quoted)?;
+            out.put(b'=')?;
+            put_literal(column, cell, false, scratch, out)?;
+            Ok(())
         }
-        Ok(())
     }
+}
 
-    /// Appends the values of an image.
-    fn put_values(&mut self, cells: &RowCells<'_>) -> Result<(), NoStatement> {
-        let mut is_first = true;
-        let table = self.table;
-        for (index, column) in table.columns.iter().enumerate() {
-            if let Some(cell) = cells.get(index) {
-                self.put_between(is_first, b",")?;
-                self.put_value(column, cell, false)?;
-                is_first = false;
-            }
-        }
-        Ok(())
-    }
+/// Appends what a list has of the column at an index, if the image has it. Returns whether nothing of the list was appended so far.
+fn put_next_item(
+    item: Item,
+    table: &SqlTable,
+    cells: &RowCells<'_>,
+    index: usize,
+    is_first: bool,
+    scratch: &mut Scratch,
+    out: &mut TextBuffer<Global>,
+) -> Result<bool, NoStatement>
+    ensures { IfOk result (λ first. (start : List ℕ) → HasItems item table.now.columns.items (cells_in cells.now) index is_first start (text_in out.old)
+        → HasItems item table.now.columns.items (cells_in cells.now) (index + 1) first start (text_in out.new)) }
+{
+    let Some(column) = table.columns.get(index) else {
+        return Ok(is_first);
+    };
+    let Some(cell) = cells.get(index) else {
+        return Ok(is_first);
+    };
+    put_between(is_first, b",", out)?;
+    put_item(item, column, cell, scratch, out)?;
+    Ok(false)
+}
 
-    /// Appends the assignments of the columns of an image.
-    fn put_assignments(&mut self, cells: &RowCells<'_>) -> Result<(), NoStatement> {
-        let mut is_first = true;
-        let table = self.table;
-        for (index, column) in table.columns.iter().enumerate() {
-            if let Some(cell) = cells.get(index) {
-                self.put_between(is_first, b",")?;
-                self.out.put_text(&column.quoted)?;
-                self.out.put(b'=')?;
-                self.put_value(column, cell, false)?;
-                is_first = false;
-            }
-        }
-        Ok(())
+/// Appends a list of the columns of an image, with commas between them.
+fn put_items(
+    item: Item,
+    table: &SqlTable,
+    cells: &RowCells<'_>,
+    scratch: &mut Scratch,
+    out: &mut TextBuffer<Global>,
+) -> Result<(), NoStatement>
+    ensures { OnOk result (AppendsSuch (IsItemList item table.now.columns.items (cells_in cells.now)) (text_in out.old) (text_in out.new)) }
+{
+    let mut is_first = true;
+    for index in 0..table.columns.len() {
+        is_first = put_next_item(item, table, cells, index, is_first, scratch, out)?;
     }
+    Ok(())
+}
 
-    /// Appends what a cell of a column is compared with, and how. A key is compared by its collation, so that an index finds it; the text
-    /// of other columns as bytes.
-    fn put_compared(&mut self, column: &SqlColumn, is_key: bool) -> Result<(), NoStatement> {
-        let is_cast = !is_key && matches!(column.shown, Shown::Text(_) | Shown::Unknown);
-        if is_cast {
-            self.out.put_text(b"CAST(")?;
-        }
-        self.out.put_text(&column.quoted)?;
-        self.out.put_text(match (is_key, is_cast) {
-            (true, _) => b"=".as_slice(),
-            (false, true) => b" AS BINARY)<=>",
-            (false, false) => b"<=>",
-        })?;
-        Ok(())
+/// Whether the values of a column may be text, which is compared as bytes.
+fn may_be_text(shown: Shown) -> bool
+    ensures { result ≡ may_be_text shown }
+{
+    match shown {
+        Shown::Text(_) | Shown::Unknown => true,
+        _ => false,
     }
+}
 
-    /// Appends the comparison of a column with a cell.
-    fn put_comparison(
-        &mut self,
-        index: usize,
-        cells: &RowCells<'_>,
-        is_key: bool,
-    ) -> Result<(), NoStatement> {
-        let table = self.table;
-        let (Some(column), Some(cell)) = (table.columns.get(index), cells.get(index)) else {
-            return Err(NoStatement::Columns);
-        };
-        self.put_compared(column, is_key)?;
-        self.put_value(column, cell, !is_key)
+/// Appends what the cell of a column is compared with, and how. A key is compared by its collation, so that an index finds it; the text
+/// of other columns as bytes.
+#[tactic(auto, unfolding(crate::specs::SqlStatements::compared))]
+fn put_compared(
+    column: &SqlColumn,
+    is_key: bool,
+    out: &mut TextBuffer<Global>,
+) -> Result<(), NoStatement>
+    ensures { OnOk result (text_in out.new ≡ text_in out.old ++ compared is_key column.now) }
+{
+    if is_key {
+        out.put_text(&column.quoted)?;
+        out.put(b'=')?;
+        return Ok(());
     }
+    if may_be_text(column.shown) {
+        out.put_text(b"CAST(")?;
+        out.put_text(&column.quoted)?;
+        out.put_text(b" AS BINARY)<=>")?;
+        return Ok(());
+    }
+    out.put_text(&column.quoted)?;
+    out.put_text(b"<=>")?;
+    Ok(())
+}
 
-    /// Appends the condition that a row has the key of an image.
-    fn put_key(&mut self, cells: &RowCells<'_>) -> Result<(), NoStatement> {
-        let mut is_first = true;
-        let table = self.table;
-        for index in &table.key {
-            self.put_between(is_first, b" AND ")?;
-            self.put_comparison(*index, cells, true)?;
-            is_first = false;
-        }
-        Ok(())
-    }
+/// Appends the comparison of a column with its cell.
+///
+/// - `Columns`: the image doesn't have the column.
+fn put_comparison(
+    is_key: bool,
+    table: &SqlTable,
+    cells: &RowCells<'_>,
+    index: usize,
+    scratch: &mut Scratch,
+    out: &mut TextBuffer<Global>,
+) -> Result<(), NoStatement>
+    ensures { OnOk result (AppendsSuch (IsComparison is_key table.now.columns.items (cells_in cells.now) index) (text_in out.old) (text_in out.new)) }
+{
+    let Some(column) = table.columns.get(index) else {
+        return Err(NoStatement::Columns);
+    };
+    let Some(cell) = cells.get(index) else {
+        return Err(NoStatement::Columns);
+    };
+    put_compared(column, is_key, out)?;
+    put_literal(column, cell, !is_key, scratch, out)?;
+    Ok(())
+}
 
-    /// Appends the condition that a row has all values of an image.
-    fn put_all_columns(&mut self, cells: &RowCells<'_>) -> Result<(), NoStatement> {
-        for index in 0..self.table.columns.len() {
-            self.put_between(index == 0, b" AND ")?;
-            self.put_comparison(index, cells, false)?;
-        }
-        Ok(())
+/// Appends the condition that a row has the key of an image.
+fn put_key(
+    table: &SqlTable,
+    cells: &RowCells<'_>,
+    scratch: &mut Scratch,
+    out: &mut TextBuffer<Global>,
+) -> Result<(), NoStatement>
+    ensures { OnOk result (AppendsSuch (IsComparisonOfKey table.now (cells_in cells.now)) (text_in out.old) (text_in out.new)) }
+{
+    for place in 0..table.key.len() {
+        put_between(place == 0, b" AND ", out)?;
+        put_comparison(true, table, cells, table.key[place], scratch, out)?;
     }
+    Ok(())
+}
 
-    /// Appends the condition that finds the row of an image: by the key, or else by all columns, one of equal rows.
-    fn put_condition(&mut self, cells: &RowCells<'_>) -> Result<(), NoStatement> {
-        self.out.put_text(b" WHERE ")?;
-        if !self.table.key.is_empty() {
-            return self.put_key(cells);
-        }
-        self.put_all_columns(cells)?;
-        self.out.put_text(b" LIMIT 1")?;
-        Ok(())
+/// Appends the condition that a row has all values of an image.
+fn put_all_columns(
+    table: &SqlTable,
+    cells: &RowCells<'_>,
+    scratch: &mut Scratch,
+    out: &mut TextBuffer<Global>,
+) -> Result<(), NoStatement>
+    ensures { OnOk result (AppendsSuch (IsComparisonOfAll table.now (cells_in cells.now)) (text_in out.old) (text_in out.new)) }
+{
+    for index in 0..table.columns.len() {
+        put_between(index == 0, b" AND ", out)?;
+        put_comparison(false, table, cells, index, scratch, out)?;
     }
+    Ok(())
+}
 
-    /// Appends the insertion of a row.
-    fn put_insert(&mut self, cells: &RowCells<'_>) -> Result<(), NoStatement> {
-        self.out.put_text(b"INSERT INTO ")?;
-        self.out.put_text(&self.table.name)?;
-        self.out.put_text(b" (")?;
-        self.put_names(cells)?;
-        self.out.put_text(b") VALUES (")?;
-        self.put_values(cells)?;
-        self.out.put(b')')?;
-        Ok(())
+/// Appends the condition that finds the row of an image: by the key, or else by all columns, one of equal rows.
+fn put_condition(
+    table: &SqlTable,
+    cells: &RowCells<'_>,
+    scratch: &mut Scratch,
+    out: &mut TextBuffer<Global>,
+) -> Result<(), NoStatement>
+    ensures { OnOk result (AppendsSuch (IsCondition table.now (cells_in cells.now)) (text_in out.old) (text_in out.new)) }
+{
+    out.put_text(b" WHERE ")?;
+    if !table.key.is_empty() {
+        put_key(table, cells, scratch, out)?;
+        return Ok(());
     }
+    put_all_columns(table, cells, scratch, out)?;
+    out.put_text(b" LIMIT 1")?;
+    Ok(())
+}
 
-    /// Appends the deletion of a row.
-    fn put_delete(&mut self, cells: &RowCells<'_>) -> Result<(), NoStatement> {
-        self.out.put_text(b"DELETE FROM ")?;
-        self.out.put_text(&self.table.name)?;
-        self.put_condition(cells)
-    }
+/// Appends the insertion of a row.
+fn put_insert(
+    table: &SqlTable,
+    cells: &RowCells<'_>,
+    scratch: &mut Scratch,
+    out: &mut TextBuffer<Global>,
+) -> Result<(), NoStatement>
+    ensures { OnOk result (AppendsSuch (IsInsert table.now (cells_in cells.now)) (text_in out.old) (text_in out.new)) }
+{
+    out.put_text(b"INSERT INTO ")?;
+    out.put_text(&table.name)?;
+    out.put_text(b" (")?;
+    put_items(Item::Name, table, cells, scratch, out)?;
+    out.put_text(b") VALUES (")?;
+    put_items(Item::Value, table, cells, scratch, out)?;
+    out.put_text(b");\n")?;
+    Ok(())
+}
 
-    /// Appends the update of a row.
-    fn put_update(
-        &mut self,
-        before: &RowCells<'_>,
-        after: &RowCells<'_>,
-    ) -> Result<(), NoStatement> {
-        self.out.put_text(b"UPDATE ")?;
-        self.out.put_text(&self.table.name)?;
-        self.out.put_text(b" SET ")?;
-        self.put_assignments(after)?;
-        self.put_condition(before)
-    }
+/// Appends the deletion of a row.
+fn put_delete(
+    table: &SqlTable,
+    cells: &RowCells<'_>,
+    scratch: &mut Scratch,
+    out: &mut TextBuffer<Global>,
+) -> Result<(), NoStatement>
+    ensures { OnOk result (AppendsSuch (IsDelete table.now (cells_in cells.now)) (text_in out.old) (text_in out.new)) }
+{
+    out.put_text(b"DELETE FROM ")?;
+    out.put_text(&table.name)?;
+    put_condition(table, cells, scratch, out)?;
+    out.put_text(b";\n")?;
+    Ok(())
+}
+
+/// Appends the update of a row.
+fn put_update(
+    table: &SqlTable,
+    before: &RowCells<'_>,
+    after: &RowCells<'_>,
+    scratch: &mut Scratch,
+    out: &mut TextBuffer<Global>,
+) -> Result<(), NoStatement>
+    ensures { OnOk result (AppendsSuch (IsUpdate table.now (cells_in before.now) (cells_in after.now)) (text_in out.old) (text_in out.new)) }
+{
+    out.put_text(b"UPDATE ")?;
+    out.put_text(&table.name)?;
+    out.put_text(b" SET ")?;
+    put_items(Item::Assignment, table, after, scratch, out)?;
+    put_condition(table, before, scratch, out)?;
+    out.put_text(b";\n")?;
+    Ok(())
 }
 
 /// Appends the statement that makes a change of a row of a table, and a line feed. An error may leave a part of it.
 ///
 /// - `Columns`: the image by which the row is found lacks a column of the key, or of all columns if there is no key.
-/// - `PartialUpdate`, `Document`, `Float`: a value has no literal.
+/// - `PartialUpdate`, `Document`, `Float`, `Row`: a value has no literal, as [`put_literal`] says.
 /// - `Memory`: out of memory.
 pub fn put_statement(
-    alloc: Global,
     table: &SqlTable,
     change: RowChange<&RowCells<'_>>,
     scratch: &mut Scratch,
     out: &mut TextBuffer<Global>,
-) -> Result<(), NoStatement> {
-    let mut parts = Parts {
-        alloc,
-        table,
-        scratch,
-        out: &mut *out,
-    };
+) -> Result<(), NoStatement>
+    ensures { OnOk result (AppendsSuch (IsStatement table.now (cells_of change.entry)) (text_in out.old) (text_in out.new)) }
+{
     match change {
-        RowChange::Inserted(cells) => parts.put_insert(cells)?,
-        RowChange::Deleted(cells) => parts.put_delete(cells)?,
-        RowChange::Updated(before, after) => parts.put_update(before, after)?,
+        RowChange::Inserted(cells) => put_insert(table, cells, scratch, out),
+        RowChange::Deleted(cells) => put_delete(table, cells, scratch, out),
+        RowChange::Updated(before, after) => put_update(table, before, after, scratch, out),
     }
-    out.put_text(b";\n")?;
-    Ok(())
 }

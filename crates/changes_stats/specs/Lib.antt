@@ -1,1 +1,2 @@
+pub mod RowSums
 pub mod RecordedCounts

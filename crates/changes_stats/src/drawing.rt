@@ -65,17 +65,17 @@ fn share(number: u64, of: u64, whole: u64) -> u64 {
 
 /// Appends the course: a bar for each period with rows, at its time.
 fn put_course(totals: &Totals, text: &mut Text) {
-    let Some((first, last)) = totals.times else {
+    let Some((first, last)) = totals.course.times else {
         return;
     };
-    let period = u64::from(totals.period.max(1));
+    let period = u64::from(totals.course.period.max(1));
     let begin = u64::from(first) / period;
     let count = (u64::from(last) / period)
         .saturating_sub(begin)
         .saturating_add(1);
     let width = (WIDTH / count).max(1);
-    let most = totals.most_of_period();
-    for (start, rows) in &totals.course {
+    let most = totals.course.most_rows();
+    for (start, rows) in &totals.course.periods {
         let place = (u64::from(*start) / period).saturating_sub(begin);
         let height = share(rows.rows, most, HEIGHT);
         put_bar(
@@ -99,13 +99,13 @@ fn put_course(totals: &Totals, text: &mut Text) {
 
 /// Appends the shares of the tables with the most rows.
 fn put_shares(totals: &Totals, text: &mut Text) -> Result<(), AllocError> {
-    let all = totals.rows.rows();
+    let all = totals.counts.rows.rows();
     let mut y = HEIGHT + 2 * LINE;
-    for (place, index) in totals.by_rows()?.iter().enumerate() {
+    for (place, index) in totals.tables.by_rows()?.iter().enumerate() {
         if place >= TABLES {
             break;
         }
-        let Some(table) = totals.tables.get(*index) else {
+        let Some(table) = totals.tables.list.get(*index) else {
             continue;
         };
         let rows = table.counts.rows();
@@ -122,7 +122,7 @@ fn put_shares(totals: &Totals, text: &mut Text) -> Result<(), AllocError> {
 
 /// Appends a drawing of the course and of the shares of the tables. `AllocError`: out of memory.
 pub fn put_drawing(totals: &Totals, text: &mut Text) -> Result<(), AllocError> {
-    let lines = totals.tables.len().min(TABLES) as u64;
+    let lines = totals.tables.list.len().min(TABLES) as u64;
     text.words(
         "<svg xmlns=\"http://www.w3.org/2000/svg\" font-family=\"sans-serif\" font-size=\"12\"",
     );

@@ -4,14 +4,19 @@
 //! show them.
 #![tactic(auto)]
 
+mod counts;
+mod course;
 mod drawing;
 mod json;
+mod largest;
 mod recorder;
+mod tables;
 mod totals;
 mod words;
 
+pub use counts::{Counts, RowCounts};
 pub use drawing::put_drawing;
 pub use json::put_json;
-pub use recorder::{RowCounts, StatsRecorder, TransactionRows};
+pub use recorder::{StatsRecorder, TransactionRows};
 pub use totals::Totals;
 pub use words::put_words;

@@ -1,10 +1,10 @@
 //! The counts in words.
 
-use crate::recorder::RowCounts;
+use crate::counts::RowCounts;
 use crate::totals::Totals;
 use changes_commands::Text;
 use changes_writers::utc_of_seconds;
-use feed_writers::{put_byte, put_day, put_padded};
+use feed_writers::{put_byte, put_day, put_number, put_padded};
 use std::alloc::AllocError;
 
 /// The length of the longest bar.
@@ -18,14 +18,12 @@ const PAIRS: usize = 10;
 
 /// Appends a number at the right of so many characters.
 fn put_right(number: u64, width: usize, text: &mut Text) {
-    let start = text.len();
-    text.unsigned(number);
-    let len = text.len().saturating_sub(start);
-    text.truncate(start);
+    let mut digits = [0; 20];
+    let len = put_number(&mut digits, 0, number);
     for _ in len..width {
         text.push(b' ');
     }
-    text.unsigned(number);
+    text.put(&digits[..len]);
 }
 
 /// Appends the date and the time of a second, in UTC.
@@ -57,18 +55,18 @@ fn put_counts(counts: RowCounts, transactions: u64, name: &[u8], text: &mut Text
 /// Appends the rows by table.
 fn put_tables(totals: &Totals, text: &mut Text) -> Result<(), AllocError> {
     text.words("      inserted       updated       deleted   event bytes  transactions  table\n");
-    for index in &totals.by_rows()? {
-        if let Some(table) = totals.tables.get(*index) {
+    for index in &totals.tables.by_rows()? {
+        if let Some(table) = totals.tables.list.get(*index) {
             put_counts(table.counts, table.transactions, &table.name, text);
         }
     }
-    put_counts(totals.rows, totals.transactions, b"all", text);
-    if totals.statements > 0 {
+    put_counts(totals.counts.rows, totals.counts.transactions, b"all", text);
+    if totals.counts.statements > 0 {
         text.words("statements: ");
-        text.unsigned(totals.statements);
+        text.unsigned(totals.counts.statements);
         text.push(b'\n');
     }
-    if let Some((first, last)) = totals.times {
+    if let Some((first, last)) = totals.course.times {
         text.words("from ");
         put_time(first, text);
         text.words(" to ");
@@ -80,13 +78,13 @@ fn put_tables(totals: &Totals, text: &mut Text) -> Result<(), AllocError> {
 
 /// Appends the largest transactions.
 fn put_largest(totals: &Totals, text: &mut Text) {
-    if totals.largest.is_empty() {
+    if totals.largest.list.is_empty() {
         return;
     }
     text.words(
         "\nthe largest transactions\n          rows         bytes  log, from and to position, time, GTID, tables\n",
     );
-    for large in &totals.largest {
+    for large in &totals.largest.list {
         put_right(large.rows, NUMBER_WIDTH, text);
         put_right(large.bytes, NUMBER_WIDTH, text);
         text.words("  ");
@@ -115,12 +113,12 @@ fn bar_len(rows: u64, most: u64) -> u64 {
 
 /// Appends the course.
 fn put_course(totals: &Totals, text: &mut Text) {
-    if totals.course.is_empty() {
+    if totals.course.periods.is_empty() {
         return;
     }
     text.words("\nrows over time\n");
-    let most = totals.most_of_period();
-    for (start, period) in &totals.course {
+    let most = totals.course.most_rows();
+    for (start, period) in &totals.course.periods {
         put_time(*start, text);
         put_right(period.rows, NUMBER_WIDTH, text);
         text.words("  ");
@@ -133,7 +131,7 @@ fn put_course(totals: &Totals, text: &mut Text) {
 
 /// Appends the name of a table.
 fn put_name(totals: &Totals, index: usize, text: &mut Text) {
-    if let Some(table) = totals.tables.get(index) {
+    if let Some(table) = totals.tables.list.get(index) {
         text.put(&table.name);
     }
 }
@@ -141,7 +139,7 @@ fn put_name(totals: &Totals, index: usize, text: &mut Text) {
 /// Appends the tables that change together, the most frequent first.
 fn put_pairs(totals: &Totals, text: &mut Text) -> Result<(), AllocError> {
     let mut order = Vec::new(text.alloc());
-    for (pair, count) in &totals.pairs {
+    for (pair, count) in &totals.tables.pairs {
         order.push((u64::MAX - *count, *pair))?;
     }
     if order.is_empty() {

@@ -1,13 +1,19 @@
 //! The statements of the rows of an event.
 
+ghost use Rattle.std.specs.Prelude.{◌≡◌, List, ℕ, [], OnOk};
+ghost use Rattle.changes_statements.specs.RowsOfCells.{cells_in};
+ghost use Rattle.statement_texts.specs.StatementTexts.{HasOpen};
+ghost use Rattle.event_statements.specs.EventStatements.{change_of, directed, AddsStatement};
+
 use changes_statements::{
-    NoStatement, RowCells, Scratch, SqlTable, TextList, put_literal, put_statement, put_utf8,
+    NoStatement, RowCells, Scratch, SqlTable, put_literal, put_statement, put_utf8,
 };
 use changes_undo::RowChange;
 use feed_change_log::TableRows;
 use feed_text::TextBuffer;
 use rows_cells::{CellRef, RowPart, RowsCursor};
 use rows_event_body::RowImages;
+use statement_texts::TextList;
 use std::alloc::Global;
 
 /// Whether statements make changes, or take them back.
@@ -71,7 +77,7 @@ fn has_value(
             && let Some(cell) = cells.get(index)
         {
             let mut literal = TextBuffer::new(alloc);
-            put_literal(alloc, column, cell, false, scratch, &mut literal)?;
+            put_literal(column, cell, false, scratch, &mut literal)?;
             return is_value(literal.as_slice(), condition.1, scratch.text());
         }
     }
@@ -99,7 +105,9 @@ fn change_of<'c, 'a>(
     images: RowImages,
     first: &'c RowCells<'a>,
     second: &'c RowCells<'a>,
-) -> RowChange<&'c RowCells<'a>> {
+) -> RowChange<&'c RowCells<'a>>
+    ensures { result ≡ change_of images first.entry second.entry }
+{
     match images {
         RowImages::After => RowChange::Inserted(first),
         RowImages::Before => RowChange::Deleted(first),
@@ -156,9 +164,18 @@ fn check_back(
     }
 }
 
-/// Adds the statement of a row.
+/// The change itself, or what takes it back.
+fn directed<T>(direction: Direction, change: RowChange<T>) -> RowChange<T>
+    ensures { result ≡ directed direction change }
+{
+    match direction {
+        Direction::Forward => change,
+        Direction::Back => change.turned_round(),
+    }
+}
+
+/// Adds the statement of a row, or what takes its change back: with the columns that an update leaves as they were.
 fn add_row<'a>(
-    alloc: Global,
     table: &SqlTable,
     images: RowImages,
     direction: Direction,
@@ -166,17 +183,15 @@ fn add_row<'a>(
     second: &mut RowCells<'a>,
     scratch: &mut Scratch,
     texts: &mut TextList,
-) -> Result<(), NoStatement> {
+) -> Result<(), NoStatement>
+    ensures { OnOk result ((ts : List (List ℕ)) → HasOpen texts.old ts [] → AddsStatement table.now (directed direction (change_of images (cells_in first.now) (cells_in second.new))) ts texts.new) }
+{
     if let Direction::Back = direction {
         check_back(images, first, second)?;
         second.fill_from(first);
     }
-    let change = change_of(images, first, second);
-    let change = match direction {
-        Direction::Forward => change,
-        Direction::Back => change.turned_round(),
-    };
-    put_statement(alloc, table, change, scratch, texts.open())?;
+    let change = directed(direction, change_of(images, first, second));
+    put_statement(table, change, scratch, &mut texts.buffer)?;
     texts.close()?;
     Ok(())
 }
@@ -217,7 +232,7 @@ impl RowCounts {
 /// Adds a comment in place of a statement.
 fn add_comment(why: NoStatement, texts: &mut TextList) -> Result<(), NoStatement> {
     texts.drop_open();
-    let text = texts.open();
+    let text = &mut texts.buffer;
     text.put_text(b"-- left out: ")?;
     text.put_text(word_of(why))?;
     text.put(b'\n')?;
@@ -267,7 +282,6 @@ pub fn add_rows(
             continue;
         }
         match add_row(
-            alloc,
             table,
             images,
             taken.direction,

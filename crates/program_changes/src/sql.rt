@@ -3,7 +3,7 @@
 use crate::parts::{FoundGap, Next, Part, PartSink, Unreadable, next_of, read_parts};
 use changes_commands::{Failure, Log, LogReader, Options, Output, Progress, Task};
 use changes_origins::put_gtid;
-use changes_statements::{NoStatement, Scratch, TextList, put_instant, put_name};
+use changes_statements::{NoStatement, Scratch, put_instant, put_name};
 use changes_walks::{LogEnd, SourceStates, TransactionSink, selection_of, walk_log};
 use crc32::crc32;
 use event_statements::{Direction, RowCounts, RowsTaken, SqlTables, add_rows};
@@ -12,7 +12,9 @@ use feed_change_log::{Change, ChangeRecorder, CommittedTransaction, Filter, Tabl
 use feed_checks::Verdict;
 use feed_text::TextBuffer;
 use feed_transactions::WaitingBytes;
-use newest_first::NewestFirst;
+use statement_texts::{
+    NewestFirst, SESSION, TextList, keep_transaction, write_transaction, write_undo,
+};
 use std::alloc::{AllocError, Global};
 use std::collections::BTreeMap;
 use std::io::{Read, Write};
@@ -33,8 +35,9 @@ pub(crate) struct RefusedChange {
 pub(crate) struct SqlState {
     tables: SqlTables,
     scratch: Scratch,
-    /// The statements of the open transaction.
+    /// The statements of the newest transaction, and the comment before them.
     texts: TextList,
+    heading: TextBuffer<Global>,
     /// Those that take all transactions back.
     back: NewestFirst,
     /// How many rows of each table are taken.
@@ -52,6 +55,7 @@ impl SqlState {
             tables: SqlTables::new(alloc),
             scratch: Scratch::new(alloc),
             texts: TextList::new(alloc),
+            heading: TextBuffer::new(alloc),
             back: NewestFirst::new(alloc),
             counts: BTreeMap::new(alloc),
             transactions: 0,
@@ -60,11 +64,6 @@ impl SqlState {
         }
     }
 }
-
-/// What comes before all statements: text in UTF-8, times in UTC, and values as they are.
-const SESSION: &[u8] = b"SET NAMES utf8mb4;\n\
-SET SESSION time_zone = '+00:00';\n\
-SET SESSION sql_mode = 'NO_AUTO_VALUE_ON_ZERO,ALLOW_INVALID_DATES';\n";
 
 /// Gets the statements of the selected transactions of a log.
 #[derive(Drop)]
@@ -120,7 +119,7 @@ fn put_heading(
     file: &[u8],
     transaction: CommittedTransaction<'_>,
     out: &mut TextBuffer<Global>,
-) -> Result<(), NoStatement> {
+) -> Result<(), AllocError> {
     out.put_text(b"-- ")?;
     out.put_text(file)?;
     out.put_text(b", end position ")?;
@@ -173,7 +172,7 @@ impl<W: Write> SqlSink<'_, W> {
         if !self.has_statements || self.taken.is_dry {
             return Ok(());
         }
-        put_logged(texts, seconds, self.state.texts.open())?;
+        put_logged(texts, seconds, &mut self.state.texts.buffer)?;
         self.state.texts.close()?;
         Ok(())
     }
@@ -189,7 +188,7 @@ impl<W: Write> SqlSink<'_, W> {
     /// Adds a comment in place of a change.
     fn leave_out(&mut self, change: &Change<'_>, why: NoStatement) -> Result<(), NoStatement> {
         self.state.texts.drop_open();
-        let out = self.state.texts.open();
+        let out = &mut self.state.texts.buffer;
         out.put_text(b"-- left out, before position ")?;
         out.put_number(u64::from(change.header.log_pos()))?;
         out.put_text(match why {
@@ -236,81 +235,46 @@ impl<W: Write> SqlSink<'_, W> {
         }
     }
 
-    /// Writes bytes after those that wait.
-    fn write(&mut self, text: &[u8]) -> Result<(), Failure> {
-        match self.waiting.put(text, self.writer) {
-            Ok(()) => Ok(()),
-            Err(_) => Err(Failure::Unwritten),
-        }
-    }
-
     /// Writes what comes before all statements, once.
-    fn write_session(&mut self) -> Result<(), Failure> {
+    fn write_session(&mut self) -> Result<(), Verdict> {
         if self.state.has_session {
             return Ok(());
         }
         self.state.has_session = true;
-        self.write(SESSION)
+        self.waiting.put(SESSION, self.writer)
     }
 
-    /// Writes the texts of a transaction.
-    fn write_texts(&mut self, has_rows: bool) -> Result<(), Failure> {
+    /// Writes the statements of a transaction.
+    fn write(&mut self, has_rows: bool) -> Result<(), Verdict> {
         self.write_session()?;
-        let len = self.state.texts.len();
-        let Some(last) = len.checked_sub(1) else {
-            return Ok(());
-        };
-        match self.waiting.put(self.state.texts.get(last), self.writer) {
-            Ok(()) => {}
-            Err(_) => return Err(Failure::Unwritten),
-        }
-        if has_rows {
-            self.write(b"BEGIN;\n")?;
-        }
-        for index in 0..last {
-            match self.waiting.put(self.state.texts.get(index), self.writer) {
-                Ok(()) => {}
-                Err(_) => return Err(Failure::Unwritten),
-            }
-        }
-        if has_rows {
-            self.write(b"COMMIT;\n")?;
-        }
-        Ok(())
+        write_transaction(
+            self.state.heading.as_slice(),
+            has_rows,
+            &self.state.texts,
+            self.waiting,
+            self.writer,
+        )
     }
 
-    /// Keeps the texts of a transaction that take it back, so that its heading comes first when they are written, the newest first.
-    fn keep_back(&mut self) -> Result<(), AllocError> {
-        let texts = &self.state.texts;
-        let back = &mut self.state.back;
-        back.add(b"COMMIT;\n")?;
-        let Some(last) = texts.len().checked_sub(1) else {
-            return Ok(());
-        };
-        for index in 0..last {
-            back.add(texts.get(index))?;
-        }
-        back.add(b"BEGIN;\n")?;
-        back.add(texts.get(last))
-    }
-
-    /// Ends a transaction with texts: those that take it back wait for the end, others are written.
+    /// Ends a transaction with statements: those that take it back are kept, others are written.
     fn end(
         &mut self,
         transaction: CommittedTransaction<'_>,
         has_rows: bool,
     ) -> Result<(), Failure> {
-        let heading = put_heading(self.file, transaction, self.state.texts.open());
-        if let Err(why) = heading {
-            return Err(failure_of(why));
-        }
-        let Ok(()) = self.state.texts.close() else {
+        self.state.heading.clear();
+        let heading = put_heading(self.file, transaction, &mut self.state.heading);
+        if heading.is_err() {
             return Err(Failure::Memory);
-        };
-        if !self.is_back() {
-            return self.write_texts(has_rows);
         }
-        match self.keep_back() {
+        if !self.is_back() {
+            return match self.write(has_rows) {
+                Ok(()) => Ok(()),
+                Err(_) => Err(Failure::Unwritten),
+            };
+        }
+        let state = &mut *self.state;
+        match keep_transaction(state.heading.as_slice(), &state.texts, &mut state.back) {
             Ok(()) => Ok(()),
             Err(_) => Err(Failure::Memory),
         }
@@ -454,27 +418,13 @@ pub(crate) fn show_sql<R: Read + Drop>(
     (end_of(end, is_closed), reader)
 }
 
-/// Writes the statements that take the changes back, the last one first.
-fn write_back<W: Write>(
-    back: &mut NewestFirst,
-    waiting: &mut WaitingBytes,
-    writer: &mut Watched<W>,
-) -> Result<(), Verdict> {
-    if back.is_empty() {
-        return Ok(());
-    }
-    waiting.put(SESSION, writer)?;
-    back.write_all(waiting, writer)?;
-    waiting.write_all(writer)
-}
-
 /// Prints the statements that take the changes of all logs back.
 pub(crate) fn show_undo(rt: &HostRuntime, state: &mut SqlState) -> Result<(), Failure> {
     let Ok(mut waiting) = WaitingBytes::new(rt.alloc()) else {
         return Err(Failure::Memory);
     };
     let mut writer = Watched::new(Output::new(rt));
-    match write_back(&mut state.back, &mut waiting, &mut writer) {
+    match write_undo(&mut state.back, &mut waiting, &mut writer) {
         Ok(()) => Ok(()),
         Err(_) if writer.into_inner().is_closed() => Err(Failure::Closed),
         Err(_) => Err(Failure::Unwritten),

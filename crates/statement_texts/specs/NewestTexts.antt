@@ -1,7 +1,7 @@
 -- Texts in one buffer, of which the newest is written first.
 use Rattle.std.specs.Prelude.{◌≡◌, ℕ, List, [], ◌∷◌, ◌++◌, Option, length}
 use Rattle.feed_transactions.specs.Waiting.{WritesSome}
-use Rattle.newest_first.specs.declared.newest_first.NewestFirst.{NewestFirst}
+use Rattle.statement_texts.specs.declared.newest_first.NewestFirst.{NewestFirst}
 
 -- the bytes are those of the texts, of which the newest comes last there and first in the list; each begins at its offset
 abbrev pub AreTexts : List (List ℕ) → List ℕ → List ℕ → Type 0

@@ -1,10 +1,11 @@
 //! Texts, of which the newest comes first.
 
-ghost use Rattle.std.specs.Prelude.{◌≡◌, ◌∷◌, [], List, ℕ, OnOk};
+ghost use Rattle.std.specs.Prelude.{◌≡◌, ◌∷◌, ◌++◌, [], List, ℕ, OnOk, false, reverse, true};
 ghost use Rattle.wire_buf.specs.Watched.{inner_of};
 ghost use Rattle.feed_checks.specs.LogFormat.{joined};
 ghost use Rattle.feed_transactions.specs.Waiting.{bytes_of, WritesSome};
 
+use crate::text_list::TextList;
 use feed_checks::Verdict;
 use feed_transactions::WaitingBytes;
 use std::alloc::{AllocError, Global};
@@ -20,7 +21,8 @@ pub struct NewestFirst {
 }
 
 impl NewestFirst {
-    ghost use Rattle.newest_first.specs.NewestTexts.{HasTexts, WritesNewest};
+    ghost use Rattle.statement_texts.specs.NewestTexts.{HasTexts, WritesNewest};
+    ghost use Rattle.statement_texts.specs.StatementTexts.{HasOpen};
 
     /// No texts.
     pub fn new(alloc: Global) -> NewestFirst
@@ -33,7 +35,10 @@ impl NewestFirst {
     }
 
     /// Whether there are no texts.
-    pub fn is_empty(&self) -> bool {
+    pub fn is_empty(&self) -> bool
+        ensures none { HasTexts self.now [] → result ≡ true }
+        ensures some { (text : List ℕ) (more : List (List ℕ)) → HasTexts self.now (text ∷ more) → result ≡ false }
+    {
         self.starts.is_empty()
     }
 
@@ -46,6 +51,19 @@ impl NewestFirst {
         let start = self.bytes.len();
         self.bytes.extend_from_slice(text)?;
         self.starts.push(start)?;
+        Ok(())
+    }
+
+    /// Adds the texts of a list, in their order.
+    ///
+    /// - `AllocError`: out of memory; what it has isn't complete then.
+    pub fn add_all(&mut self, list: &TextList) -> Result<(), AllocError>
+        ensures { OnOk result ((older texts : List (List ℕ)) → HasTexts self.old older → HasOpen list.now texts [] → HasTexts self.new (reverse texts ++ older)) }
+    {
+        let mut left = list.texts();
+        for _ in 0..list.len() {
+            self.add(left.take())?;
+        }
         Ok(())
     }
 
@@ -79,7 +97,7 @@ impl NewestFirst {
         ensures { OnOk result ((texts : List (List ℕ)) → HasTexts self.old texts → WritesSome (W.contents (inner_of writer.old)) (W.contents (inner_of writer.new)) (bytes_of waiting.old) (joined texts) (bytes_of waiting.new)) }
     {
         let count = self.starts.len();
-        for index in 0..count {
+        for _ in 0..count {
             self.write_newest(waiting, writer)?;
         }
         Ok(())

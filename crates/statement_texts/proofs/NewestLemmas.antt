@@ -6,7 +6,7 @@ use Rattle.std.proofs.lemmas.List.{append-nil, length-append}
 use Rattle.feed_checks.specs.LogFormat.{joined}
 use Rattle.feed_transactions.specs.Waiting.{WritesSome}
 use Rattle.feed_transactions.proofs.WaitingLemmas.{writes_none}
-use Rattle.newest_first.specs.NewestTexts.{AreTexts}
+use Rattle.statement_texts.specs.NewestTexts.{AreTexts}
 
 writes_both : (a b c : Option (List ℕ)) (w x z t u : List ℕ) → WritesSome a b w t x → WritesSome b c x u z → WritesSome a c w (t ++ u) z
 writes_both a b c w x z t u h k = record {

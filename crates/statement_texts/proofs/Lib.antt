@@ -1,0 +1,3 @@
+mod AddedLemmas
+mod StatementTextLemmas
+pub mod NewestLemmas
