@@ -14,7 +14,7 @@ use Rattle.changes_statements.specs.declared.statements.Item.{Item}
 use Rattle.changes_statements.specs.declared.statements.Item.TheVariants as item
 use Rattle.changes_statements.specs.RowsOfCells.{Cells, cell_in}
 use Rattle.changes_statements.specs.SqlLiterals.{IsLiteral}
-use Rattle.changes_statements.specs.SqlStatements.{compared, HasComparisons, HasItems, IsComparison, IsComparisonOfAll, IsComparisonOfKey, IsCondition, IsConditionBy, IsDelete, IsInsert, IsItem, IsItemList, IsKeptItem, IsUpdate, is_none, kept_before, kept_of, separated}
+use Rattle.changes_statements.specs.SqlStatements.{compared, HasComparisons, HasItems, IsComparison, IsComparisonOfAll, IsComparisonOfKey, IsCondition, IsConditionBy, IsDelete, IsInsert, IsItem, IsItemList, IsKeptItem, IsUpdate, is_none, kept_before, kept_of, may_be_text, separated}
 
 zip_push : {A B : Type 0} (R : A → B → Type 0) (xs : List A) (ys : List B) (x : A) (y : B) → AllZip R xs ys → R x y → AllZip R (xs ++ x ∷ []) (ys ++ y ∷ [])
 zip_push R [] [] x y h r = (r, h)
@@ -133,6 +133,13 @@ first_columns key n index few is = ap (λ (k : ℕ). take k key) (let e : n + 1 
 
 pub all_columns : (is_key : Bool) (columns : List SqlColumn) (cells : Cells) (indexes all start now : List ℕ) → indexes ≡ all → AppendsSuch (HasComparisons is_key columns cells indexes) start now → AppendsSuch (HasComparisons is_key columns cells all) start now
 all_columns is_key columns cells indexes all start now is h = subst (λ (l : List ℕ). AppendsSuch (HasComparisons is_key columns cells l) start now) is h
+
+pub as_text : (is_key : Bool) (column : SqlColumn) (a b c d : List ℕ) → is_key ≡ false → may_be_text column.shown ≡ true → b ≡ a ++ codes "CAST(" → c ≡ b ++ column.quoted.items → d ≡ c ++ codes " AS BINARY)<=>" → d ≡ a ++ compared is_key column
+unfolding compared
+as_text is_key column a b c d key text e f g =
+    let cast = column.quoted.items ++ codes " AS BINARY)<=>" in
+    let is : compared is_key column ≡ codes "CAST(" ++ cast = rw (key, text) refl in
+    two a b d (codes "CAST(") cast e (two b c d column.quoted.items (codes " AS BINARY)<=>") f g) ∙ ap (λ (l : List ℕ). a ++ l) (sym is)
 
 pub one_compared : (is_key : Bool) (columns : List SqlColumn) (cells : Cells) (index : ℕ) (column : SqlColumn) (cell : CellRef) (a b c : List ℕ) → slice_get columns index ≡ Some column → cell_in cells index ≡ Some cell → b ≡ a ++ compared is_key column
     → AppendsSuch (IsLiteral column.shown column.padded_len (not is_key) cell) b c → AppendsSuch (IsComparison is_key columns cells index) a c

@@ -253,9 +253,45 @@ fn word_of(why: NoStatement) -> &'static [u8] {
     }
 }
 
+/// Whether the images of a row meet all conditions, before the change or after it.
+fn is_taken(
+    alloc: Global,
+    table: &SqlTable,
+    first: &RowCells<'_>,
+    second: &RowCells<'_>,
+    conditions: &[(&[u8], &[u8])],
+    scratch: &mut Scratch,
+) -> Result<bool, NoStatement> {
+    if meets_all(alloc, table, first, conditions, scratch)? {
+        return Ok(true);
+    }
+    meets_all(alloc, table, second, conditions, scratch)
+}
+
+/// Adds the statement of a row that is taken, or a comment in its place, unless changes are only counted.
+fn add_taken_row<'a>(
+    table: &SqlTable,
+    images: RowImages,
+    taken: RowsTaken<'_>,
+    first: &RowCells<'a>,
+    second: &mut RowCells<'a>,
+    scratch: &mut Scratch,
+    texts: &mut TextList,
+) -> Result<(), NoStatement> {
+    if taken.is_dry {
+        return Ok(());
+    }
+    match add_row(table, images, taken.direction, first, second, scratch, texts) {
+        Ok(()) => Ok(()),
+        Err(NoStatement::Memory) => Err(NoStatement::Memory),
+        Err(why) if taken.leaves_out => add_comment(why, texts),
+        Err(why) => Err(why),
+    }
+}
+
 /// Adds the statements of the rows of an event of a table, each as a text. Returns how many rows were taken.
 ///
-/// The errors are those of [`put_statement`], and:
+/// The errors are those of `put_statement`, and:
 ///
 /// - `Row`: a row can't be read.
 pub fn add_rows(
@@ -271,30 +307,14 @@ pub fn add_rows(
     let mut second = RowCells::new(alloc, table.columns.len())?;
     let mut cursor = rows.cursor();
     let images = rows.images();
-    while read_row(&mut cursor, &mut first, &mut second)? {
-        if !meets_all(alloc, table, &first, taken.conditions, scratch)?
-            && !meets_all(alloc, table, &second, taken.conditions, scratch)?
-        {
-            continue;
+    for _ in 0..u64::MAX {
+        if !read_row(&mut cursor, &mut first, &mut second)? {
+            return Ok(counts);
         }
-        counts.count(images);
-        if taken.is_dry {
-            continue;
-        }
-        match add_row(
-            table,
-            images,
-            taken.direction,
-            &first,
-            &mut second,
-            scratch,
-            texts,
-        ) {
-            Ok(()) => {}
-            Err(NoStatement::Memory) => return Err(NoStatement::Memory),
-            Err(why) if taken.leaves_out => add_comment(why, texts)?,
-            Err(why) => return Err(why),
+        if is_taken(alloc, table, &first, &second, taken.conditions, scratch)? {
+            counts.count(images);
+            add_taken_row(table, images, taken, &first, &mut second, scratch, texts)?;
         }
     }
-    Ok(counts)
+    Err(NoStatement::Row)
 }

@@ -8,7 +8,7 @@ use Rattle.feed_transactions.specs.Waiting.{WritesSome}
 use Rattle.feed_transactions.proofs.WaitingLemmas.{writes_none}
 use Rattle.statement_texts.specs.NewestTexts.{AreTexts}
 
-writes_both : (a b c : Option (List ℕ)) (w x z t u : List ℕ) → WritesSome a b w t x → WritesSome b c x u z → WritesSome a c w (t ++ u) z
+pub writes_both : (a b c : Option (List ℕ)) (w x z t u : List ℕ) → WritesSome a b w t x → WritesSome b c x u z → WritesSome a c w (t ++ u) z
 writes_both a b c w x z t u h k = record {
   bytes = h.bytes ++ k.bytes;
   written = Appends-trans a b c h.bytes k.bytes h.written k.written;

@@ -1,5 +1,5 @@
 -- Texts in one buffer, one after the other.
-use Rattle.std.proofs.Common.{◌≡◌, ◌+◌, ℕ, suc, List, [], ◌∷◌, ◌++◌, length, take, refl, sym, ap, ◌∙◌, append_assoc, arith}
+use Rattle.std.proofs.Common.{◌≡◌, ◌<◌, ◌+◌, ◌-◌, ℕ, zero, suc, List, [], ◌∷◌, ◌++◌, length, take, get_or, refl, sym, ap, ◌∙◌, append_assoc, arith}
 use Rattle.std.proofs.lemmas.List.{append-nil, length-append}
 use Rattle.std.proofs.lemmas.Grind.{flat_map-append}
 use Rattle.feed_checks.specs.LogFormat.{joined}
@@ -26,3 +26,32 @@ closed old new texts last same pushed h = record {
 pub ends_long : (n : ℕ) (ts : List (List ℕ)) → length (ends_from n ts) ≡ length ts
 ends_long n [] = refl
 ends_long n (t ∷ ts) = ap (λ (k : ℕ). suc k) (ends_long (n + length t) ts)
+
+-- the end of the last text
+pub last_end : (n k : ℕ) (ts : List (List ℕ)) (d : ℕ) → length ts ≡ suc k → get_or (ends_from n ts) k d ≡ n + length (joined ts)
+last_end n k [] d h = absurd (omega (arith, h))
+last_end n zero (t ∷ []) d h = ap (λ (l : List ℕ). n + length l) (sym (append-nil t))
+last_end n zero (t ∷ u ∷ ts) d h = absurd (omega (arith, h))
+last_end n (suc k) (t ∷ []) d h = absurd (omega (arith, h))
+last_end n (suc k) (t ∷ u ∷ ts) d h =
+    last_end (n + length t) k (u ∷ ts) d (omega (arith, h)) ∙ (let long = length-append t (joined (u ∷ ts)) in omega (arith, long))
+
+pub open_start : (list : TextList) (texts : List (List ℕ)) (last : List ℕ) (count start : ℕ) → HasOpen list texts last → count ≡ length list.ends.items → 0 < count → start ≡ get_or list.ends.items (count - 1) start → start ≡ length (joined texts)
+open_start list texts last count start h many some is =
+    let long : length texts ≡ suc (count - 1) = let e = ap length h.ends in let f = ends_long 0 texts in omega (arith, many, some, e, f) in
+    is ∙ ap (λ (l : List ℕ). get_or l (count - 1) start) h.ends ∙ last_end 0 (count - 1) texts start long ∙ (let e : 0 + length (joined texts) ≡ length (joined texts) = omega arith in e)
+
+pub no_start : (list : TextList) (texts : List (List ℕ)) (last : List ℕ) (count : ℕ) → HasOpen list texts last → count ≡ length list.ends.items → count ≡ 0 → 0 ≡ length (joined texts)
+no_start list [] last count h many none = refl
+no_start list (t ∷ texts) last count h many none = absurd (let e = ap length h.ends in let f = ends_long 0 (t ∷ texts) in omega (arith, many, none, e, f))
+
+take_all : (a b : List ℕ) → take (length a) (a ++ b) ≡ a
+take_all [] b = refl
+take_all (x ∷ a) b = ap (λ (l : List ℕ). x ∷ l) (take_all a b)
+
+-- the open text was dropped
+pub dropped : (old new : TextList) (texts : List (List ℕ)) (last : List ℕ) (start : ℕ) → start ≡ length (joined texts) → text_in new.buffer ≡ take start (text_in old.buffer) → new.ends.items ≡ old.ends.items → HasOpen old texts last → HasOpen new texts []
+dropped old new texts last start is cut same h = record {
+  bytes = cut ∙ ap (λ (k : ℕ). take k (text_in old.buffer)) is ∙ ap (take (length (joined texts))) h.bytes ∙ take_all (joined texts) last ∙ sym (append-nil (joined texts));
+  ends = same ∙ h.ends;
+}

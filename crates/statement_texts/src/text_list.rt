@@ -61,15 +61,23 @@ impl TextList {
         Ok(())
     }
 
+    /// The offset of the open text.
+    fn open_start(&self) -> usize
+        ensures { (texts : List (List ℕ)) (last : List ℕ) → HasOpen self.now texts last → result ≡ length (joined texts) }
+    {
+        let count = self.ends.len();
+        if count == 0 {
+            return 0;
+        }
+        self.ends[count - 1]
+    }
+
     /// Drops the open text.
     pub fn drop_open(&mut self)
         ensures { (texts : List (List ℕ)) (last : List ℕ) → HasOpen self.old texts last → HasOpen self.new texts [] }
     {
-        let end = match self.ends.last() {
-            Some(end) => *end,
-            None => 0,
-        };
-        self.buffer.truncate(end);
+        let start = self.open_start();
+        self.buffer.truncate(start);
     }
 
     /// The bytes of all texts, one after the other, and those of the open one.

@@ -22,10 +22,6 @@ pub const SESSION: &[u8] = b"SET NAMES utf8mb4;\n\
 SET SESSION time_zone = '+00:00';\n\
 SET SESSION sql_mode = 'NO_AUTO_VALUE_ON_ZERO,ALLOW_INVALID_DATES';\n";
 
-const BEGIN: &[u8] = b"BEGIN;\n";
-
-const COMMIT: &[u8] = b"COMMIT;\n";
-
 /// Adds the statements that take a transaction back, in the order of its changes, so that they are written in the reverse: the heading,
 /// `BEGIN`, the statement of the last change first, and `COMMIT`.
 ///
@@ -37,10 +33,11 @@ pub fn keep_transaction(
 ) -> Result<(), AllocError>
     ensures { OnOk result ((older texts : List (List ℕ)) → HasTexts kept.old older → HasOpen statements.now texts [] → HasTexts kept.new (texts_back heading.now texts ++ older)) }
 {
-    kept.add(COMMIT)?;
+    kept.add(b"COMMIT;\n")?;
     kept.add_all(statements)?;
-    kept.add(BEGIN)?;
-    kept.add(heading)
+    kept.add(b"BEGIN;\n")?;
+    kept.add(heading)?;
+    Ok(())
 }
 
 /// Writes a text if it is to be written.
@@ -55,7 +52,8 @@ fn write_if<W: Write>(
     if !is_written {
         return Ok(());
     }
-    waiting.put(text, writer)
+    waiting.put(text, writer)?;
+    Ok(())
 }
 
 /// Writes the statements of a transaction after the bytes that wait, in their order, between `BEGIN` and `COMMIT` if it has rows.
@@ -71,9 +69,10 @@ pub fn write_transaction<W: Write>(
     ensures { OnOk result ((texts : List (List ℕ)) → HasOpen statements.now texts [] → WritesSome (W.contents (inner_of writer.old)) (W.contents (inner_of writer.new)) (bytes_of waiting.old) (text_forth heading.now has_rows texts) (bytes_of waiting.new)) }
 {
     waiting.put(heading, writer)?;
-    write_if(has_rows, BEGIN, waiting, writer)?;
+    write_if(has_rows, b"BEGIN;\n", waiting, writer)?;
     waiting.put(statements.bytes(), writer)?;
-    write_if(has_rows, COMMIT, waiting, writer)
+    write_if(has_rows, b"COMMIT;\n", waiting, writer)?;
+    Ok(())
 }
 
 /// Writes the statements that take transactions back, after the bytes that wait: the session, and the last transaction first. Nothing if
@@ -87,9 +86,8 @@ pub fn write_undo<W: Write>(
 ) -> Result<(), Verdict>
     ensures { OnOk result ((texts : List (List ℕ)) → HasTexts kept.old texts → Appends (W.contents (inner_of writer.old)) (W.contents (inner_of writer.new)) (bytes_of waiting.old ++ undo_text texts)) }
 {
-    if !kept.is_empty() {
-        waiting.put(SESSION, writer)?;
-    }
+    write_if(!kept.is_empty(), SESSION, waiting, writer)?;
     kept.write_all(waiting, writer)?;
-    waiting.write_all(writer)
+    waiting.write_all(writer)?;
+    Ok(())
 }
