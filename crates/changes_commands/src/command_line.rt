@@ -7,6 +7,7 @@ use crate::known_commands::{
 };
 use crate::member_names::members_in;
 use crate::refused::{Refused, Unusable};
+use crate::sql_options::{DRY_RUN, LEAVE_OUT, STATEMENTS, SqlOptions, StatsOptions};
 use crate::table_names::{add_databases, add_tables};
 use crate::time_zone::Zone;
 use changes_character_sets::CharacterSet;
@@ -28,6 +29,12 @@ pub enum Task {
     Follow,
     /// Writes the log with MySQL's events alone.
     Plain,
+    /// Prints the changes as statements.
+    Sql,
+    /// Prints the statements that take the changes back.
+    Undo,
+    /// Counts the changes.
+    Stats,
 }
 
 /// Where to begin, and where to end.
@@ -65,6 +72,8 @@ pub struct Options<'w> {
     /// Whether transactions that can't be read are left out.
     pub skips_unreadable: bool,
     pub follow: FollowOptions<'w>,
+    pub sql: SqlOptions<'w>,
+    pub stats: StatsOptions<'w>,
     pub range: Range,
     pub databases: Vec<&'w [u8]>,
     /// Tables as `database.table`.
@@ -139,8 +148,8 @@ fn position_of(task: Task, matches: &ArgMatches<'_>, option: &str) -> Option<u32
 /// Where to begin, and where to end: with a transaction there.
 fn range_of(task: Task, matches: &ArgMatches<'_>, zone: &Zone) -> Result<Range, Unusable> {
     let transaction: Option<u32> = match task {
-        Task::Json | Task::Check => matches.get_one(TRANSACTION.name),
         Task::Events | Task::Follow | Task::Plain => None,
+        _ => matches.get_one(TRANSACTION.name),
     };
     Ok(Range {
         start: position_of(task, matches, "start-position"),
@@ -170,7 +179,7 @@ impl<'w> Options<'w> {
         Options {
             task,
             by_transaction: prints_changes(task) && matches.get_flag("transactions"),
-            is_json: matches!(task, Task::Check) && matches.get_flag("json"),
+            is_json: matches!(task, Task::Check | Task::Stats) && matches.get_flag("json"),
             character_set: None,
             quotes_numbers: prints_changes(task) && matches.get_flag(NUMBERS_AS_STRINGS.name),
             added: AddedMembers::NONE,
@@ -180,6 +189,8 @@ impl<'w> Options<'w> {
             skips_unreadable: matches!(task, Task::Json | Task::Check)
                 && matches.get_flag(SKIP_UNREADABLE.name),
             follow: FollowOptions::NONE,
+            sql: SqlOptions::none(alloc),
+            stats: StatsOptions::NONE,
             range,
             databases: Vec::new(alloc),
             tables: Vec::new(alloc),
@@ -211,6 +222,24 @@ impl<'w> Options<'w> {
         has_place || has_time || has_name
     }
 
+    /// Adds what the commands that print statements or count changes have.
+    fn add_statement_options(&mut self, matches: &ArgMatches<'w>) -> Result<(), Unusable> {
+        match self.task {
+            Task::Sql | Task::Undo => {
+                self.sql.has_statements = matches!(self.task, Task::Sql)
+                    && matches.get_flag(STATEMENTS.name);
+                self.sql.leaves_out = matches.get_flag(LEAVE_OUT.name);
+                self.sql.is_dry = matches.get_flag(DRY_RUN.name);
+                self.sql.add_conditions(matches)
+            }
+            Task::Stats => {
+                self.stats = StatsOptions::of(matches)?;
+                Ok(())
+            }
+            _ => Ok(()),
+        }
+    }
+
     /// Adds the names and the files that a command has.
     fn add(&mut self, matches: &ArgMatches<'w>) -> Result<(), Unusable> {
         if prints_changes(self.task) {
@@ -220,9 +249,10 @@ impl<'w> Options<'w> {
         if let Some(max) = matches.get_one(MAX_TRANSACTION.name) {
             self.max_transaction = max;
         }
-        if let Task::Json | Task::Check | Task::Follow = self.task {
+        if !matches!(self.task, Task::Events | Task::Plain) {
             self.schema = matches.get_str(SCHEMA.name);
         }
+        self.add_statement_options(matches)?;
         add_databases(matches, DATABASE.name, &mut self.databases)?;
         add_tables(
             matches,
@@ -285,6 +315,9 @@ fn options_in<'w, R: Files + AllocGlobal>(
         Some(("events", matches)) => options_of(rt, Task::Events, matches),
         Some(("follow", matches)) => options_of(rt, Task::Follow, matches),
         Some(("plain", matches)) => plain_options(rt.alloc(), matches),
+        Some(("sql", matches)) => options_of(rt, Task::Sql, matches),
+        Some(("undo", matches)) => options_of(rt, Task::Undo, matches),
+        Some(("stats", matches)) => options_of(rt, Task::Stats, matches),
         Some((_, matches)) => options_of(rt, Task::Json, matches),
         None => Err(Unusable::NoCommand),
     }

@@ -1,6 +1,7 @@
 //! The commands of the program, and their options.
 
 use crate::follow_options::{LOG_NAME, PROGRESS, SEMI_SYNC};
+use crate::sql_options::{BY, DRY_RUN, LARGEST, LEAVE_OUT, STATEMENTS, SVG, WHERE};
 use clap::{Arg, ArgAction, Command};
 use std::alloc::{AllocError, Global};
 
@@ -270,6 +271,74 @@ const FOLLOW: KnownCommand = KnownCommand {
     ],
 };
 
+const SQL: KnownCommand = KnownCommand {
+    name: "sql",
+    about: "Prints the changes as SQL statements, in the order of the log",
+    options: &[
+        STATEMENTS,
+        LEAVE_OUT,
+        DRY_RUN,
+        WHERE,
+        SCHEMA,
+        MAX_TRANSACTION,
+        START,
+        STOP,
+        TRANSACTION,
+        FROM_TIME,
+        TO_TIME,
+        TIME_ZONE,
+        DATABASE,
+        TABLE,
+        EXCLUDED,
+        FILES,
+    ],
+};
+
+const UNDO: KnownCommand = KnownCommand {
+    name: "undo",
+    about: "Prints the SQL statements that take the changes back, the last change first",
+    options: &[
+        LEAVE_OUT,
+        DRY_RUN,
+        WHERE,
+        SCHEMA,
+        MAX_TRANSACTION,
+        START,
+        STOP,
+        TRANSACTION,
+        FROM_TIME,
+        TO_TIME,
+        TIME_ZONE,
+        DATABASE,
+        TABLE,
+        EXCLUDED,
+        FILES,
+    ],
+};
+
+const STATS: KnownCommand = KnownCommand {
+    name: "stats",
+    about: "Counts the changes: rows by table, the largest transactions, the course over time",
+    options: &[
+        AS_JSON,
+        BY,
+        LARGEST,
+        SVG,
+        SCHEMA,
+        MAX_TRANSACTION,
+        START,
+        STOP,
+        TRANSACTION,
+        FROM_TIME,
+        TO_TIME,
+        TIME_ZONE,
+        DATABASE,
+        TABLE,
+        EXCLUDED,
+        FILES,
+    ],
+};
+
 /// The log, as the last word of a command.
 const ONE_FILE: Known = Known {
     takes: Takes::Word,
@@ -347,7 +416,7 @@ fn program<'a>(alloc: Global, known: KnownProgram) -> Command<'a> {
 /// The command line of the program.
 pub(crate) fn command<'a>(alloc: Global) -> Result<Command<'a>, AllocError> {
     let mut command = program(alloc, PROGRAM);
-    for known in &[JSON, CHECK, EVENTS, FOLLOW, PLAIN] {
+    for known in &[JSON, CHECK, EVENTS, FOLLOW, PLAIN, SQL, UNDO, STATS] {
         command = command.subcommand(subcommand(alloc, *known)?)?;
     }
     Ok(command)

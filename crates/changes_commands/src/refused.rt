@@ -80,6 +80,8 @@ impl Refused {
             "database" => "shop",
             "table" | "exclude-table" => "shop.orders",
             "character-set" => "utf8mb4",
+            "where" => "id=42",
+            "by" => "second, minute or hour",
             "time-zone" => "UTC, +02:00 or Europe/Berlin",
             "with" => "xid,row; the names are begin, ts_ms, xid, thread_id, query, row and all",
             _ => "'2026-11-27 10:00:00'",

@@ -12,6 +12,8 @@ mod parts;
 mod reached;
 mod run;
 mod schema;
+mod sql;
+mod stats;
 
 use changes_commands::{Refused, parse};
 use std::env;
@@ -33,7 +35,7 @@ fn refuse(rt: &HostRuntime, refused: Refused) -> ExitCode {
         }
         Refused::NoCommand => {
             let _ = eprintln!(rt;
-                "binlog-changes: the commands are json, check, events, follow and plain"
+                "binlog-changes: the commands are json, sql, undo, stats, check, events, follow and plain"
             );
             ExitCode::from(2)
         }

@@ -1,0 +1,3 @@
+pub mod QuotedLemmas
+pub mod Utf8Lemmas
+pub mod StatementLemmas

@@ -1,0 +1,9 @@
+//! Changes of rows turned round: what takes a list of changes back.
+//!
+//! `specs/RowChanges.antt` defines what changes do to tables, as bags of rows, and what takes them back; [`laws`] states that it does.
+#![tactic(auto)]
+
+pub mod laws;
+mod row_change;
+
+pub use row_change::RowChange;

@@ -1,0 +1,320 @@
+//! The statements of the rows of an event.
+
+ghost use Rattle.std.specs.Prelude.{◌≡◌, List, ℕ, [], OnOk};
+ghost use Rattle.changes_statements.specs.RowsOfCells.{cells_in};
+ghost use Rattle.statement_texts.specs.StatementTexts.{HasOpen};
+ghost use Rattle.event_statements.specs.EventStatements.{change_of, directed, AddsStatement};
+
+use changes_statements::{
+    NoStatement, RowCells, Scratch, SqlTable, put_literal, put_statement, put_utf8,
+};
+use changes_undo::RowChange;
+use feed_change_log::TableRows;
+use feed_text::TextBuffer;
+use rows_cells::{CellRef, RowPart, RowsCursor};
+use rows_event_body::RowImages;
+use statement_texts::TextList;
+use std::alloc::Global;
+
+/// Whether statements make changes, or take them back.
+#[derive(Clone, Copy, PartialEq, Eq)]
+pub enum Direction {
+    Forward,
+    Back,
+}
+
+/// How many rows were inserted, deleted and updated.
+#[derive(Clone, Copy)]
+pub struct RowCounts {
+    pub inserted: u64,
+    pub deleted: u64,
+    pub updated: u64,
+}
+
+/// Which rows are taken, and how.
+#[derive(Clone, Copy)]
+pub struct RowsTaken<'t> {
+    pub direction: Direction,
+    /// Columns, and the values that rows must have in them, before or after the change.
+    pub conditions: &'t [(&'t [u8], &'t [u8])],
+    /// Whether the changes are only counted.
+    pub is_dry: bool,
+    /// Whether changes without a statement are left out.
+    pub leaves_out: bool,
+}
+
+/// Whether a literal is that of a value of the command line: the value itself, or a string of it.
+fn is_value(
+    literal: &[u8],
+    value: &[u8],
+    text: &mut TextBuffer<Global>,
+) -> Result<bool, NoStatement> {
+    if literal == value {
+        return Ok(true);
+    }
+    text.clear();
+    put_utf8(value, text)?;
+    if literal == text.as_slice() {
+        return Ok(true);
+    }
+    let bare = match text.as_slice().get(8..) {
+        Some(bare) => bare,
+        None => &[],
+    };
+    Ok(literal == bare)
+}
+
+/// Whether a column of an image has a value.
+fn has_value(
+    alloc: Global,
+    table: &SqlTable,
+    cells: &RowCells<'_>,
+    condition: (&[u8], &[u8]),
+    scratch: &mut Scratch,
+) -> Result<bool, NoStatement> {
+    for (index, column) in table.columns.iter().enumerate() {
+        if column.name.as_slice() == condition.0
+            && let Some(cell) = cells.get(index)
+        {
+            let mut literal = TextBuffer::new(alloc);
+            put_literal(column, cell, false, scratch, &mut literal)?;
+            return is_value(literal.as_slice(), condition.1, scratch.text());
+        }
+    }
+    Ok(false)
+}
+
+/// Whether an image of a row has all values.
+fn meets_all(
+    alloc: Global,
+    table: &SqlTable,
+    cells: &RowCells<'_>,
+    conditions: &[(&[u8], &[u8])],
+    scratch: &mut Scratch,
+) -> Result<bool, NoStatement> {
+    for condition in conditions {
+        if !has_value(alloc, table, cells, *condition, scratch)? {
+            return Ok(false);
+        }
+    }
+    Ok(true)
+}
+
+/// The change of a row with these images.
+fn change_of<'c, 'a>(
+    images: RowImages,
+    first: &'c RowCells<'a>,
+    second: &'c RowCells<'a>,
+) -> RowChange<&'c RowCells<'a>>
+    ensures { result ≡ change_of images first.entry second.entry }
+{
+    match images {
+        RowImages::After => RowChange::Inserted(first),
+        RowImages::Before => RowChange::Deleted(first),
+        RowImages::BeforeAndAfter | RowImages::BeforeAndPartialAfter => {
+            RowChange::Updated(first, second)
+        }
+    }
+}
+
+/// Reads a row; false after the last one.
+fn read_row<'a>(
+    cursor: &mut RowsCursor<'_, 'a>,
+    first: &mut RowCells<'a>,
+    second: &mut RowCells<'a>,
+) -> Result<bool, NoStatement> {
+    first.clear();
+    second.clear();
+    let mut is_second = false;
+    for _ in 0..u64::MAX {
+        let part = match cursor.next_part() {
+            Ok(part) => part,
+            Err(_) => return Err(NoStatement::Row),
+        };
+        match part {
+            None => return Ok(false),
+            Some(RowPart::EndOfRow) => return Ok(true),
+            Some(RowPart::NextImage) => is_second = true,
+            Some(RowPart::Cell(column, cell)) => {
+                let cells = if is_second { &mut *second } else { &mut *first };
+                if !cells.set(column, cell) {
+                    return Err(NoStatement::Row);
+                }
+            }
+        }
+    }
+    Err(NoStatement::Row)
+}
+
+/// Whether the change of a row can be taken back: an image with all columns that the change had.
+fn check_back(
+    images: RowImages,
+    first: &RowCells<'_>,
+    second: &RowCells<'_>,
+) -> Result<(), NoStatement> {
+    let has_all = match images {
+        RowImages::After => true,
+        RowImages::Before => first.is_full(),
+        RowImages::BeforeAndAfter | RowImages::BeforeAndPartialAfter => first.has_all_of(second),
+    };
+    if has_all {
+        Ok(())
+    } else {
+        Err(NoStatement::Columns)
+    }
+}
+
+/// The change itself, or what takes it back.
+fn directed<T>(direction: Direction, change: RowChange<T>) -> RowChange<T>
+    ensures { result ≡ directed direction change }
+{
+    match direction {
+        Direction::Forward => change,
+        Direction::Back => change.turned_round(),
+    }
+}
+
+/// Adds the statement of a row, or what takes its change back: with the columns that an update leaves as they were.
+fn add_row<'a>(
+    table: &SqlTable,
+    images: RowImages,
+    direction: Direction,
+    first: &RowCells<'a>,
+    second: &mut RowCells<'a>,
+    scratch: &mut Scratch,
+    texts: &mut TextList,
+) -> Result<(), NoStatement>
+    ensures { OnOk result ((ts : List (List ℕ)) → HasOpen texts.old ts [] → AddsStatement table.now (directed direction (change_of images (cells_in first.now) (cells_in second.new))) ts texts.new) }
+{
+    if let Direction::Back = direction {
+        check_back(images, first, second)?;
+        second.fill_from(first);
+    }
+    let change = directed(direction, change_of(images, first, second));
+    put_statement(table, change, scratch, &mut texts.buffer)?;
+    texts.close()?;
+    Ok(())
+}
+
+impl RowCounts {
+    /// No rows.
+    pub const NONE: RowCounts = RowCounts {
+        inserted: 0,
+        deleted: 0,
+        updated: 0,
+    };
+
+    /// Counts a row with these images.
+    fn count(&mut self, images: RowImages) {
+        let place = match images {
+            RowImages::After => &mut self.inserted,
+            RowImages::Before => &mut self.deleted,
+            RowImages::BeforeAndAfter | RowImages::BeforeAndPartialAfter => &mut self.updated,
+        };
+        *place = place.saturating_add(1);
+    }
+
+    /// The number of all rows.
+    pub fn all(&self) -> u64 {
+        self.inserted
+            .saturating_add(self.deleted)
+            .saturating_add(self.updated)
+    }
+
+    /// Adds other rows.
+    pub fn add(&mut self, other: RowCounts) {
+        self.inserted = self.inserted.saturating_add(other.inserted);
+        self.deleted = self.deleted.saturating_add(other.deleted);
+        self.updated = self.updated.saturating_add(other.updated);
+    }
+}
+
+/// Adds a comment in place of a statement.
+fn add_comment(why: NoStatement, texts: &mut TextList) -> Result<(), NoStatement> {
+    texts.drop_open();
+    let text = &mut texts.buffer;
+    text.put_text(b"-- left out: ")?;
+    text.put_text(word_of(why))?;
+    text.put(b'\n')?;
+    texts.close()?;
+    Ok(())
+}
+
+/// A short reason.
+fn word_of(why: NoStatement) -> &'static [u8] {
+    match why {
+        NoStatement::Names => b"the log doesn't name the columns",
+        NoStatement::OtherColumns => b"the table's columns changed in between",
+        NoStatement::Columns => b"the log doesn't have all columns of the row",
+        NoStatement::PartialUpdate => b"a JSON document was updated in part",
+        NoStatement::Document => b"a JSON document has values that JSON text doesn't have",
+        NoStatement::Statement => b"a statement",
+        NoStatement::Memory | NoStatement::Row | NoStatement::Float => b"a row",
+    }
+}
+
+/// Whether the images of a row meet all conditions, before the change or after it.
+fn is_taken(
+    alloc: Global,
+    table: &SqlTable,
+    first: &RowCells<'_>,
+    second: &RowCells<'_>,
+    conditions: &[(&[u8], &[u8])],
+    scratch: &mut Scratch,
+) -> Result<bool, NoStatement> {
+    if meets_all(alloc, table, first, conditions, scratch)? {
+        return Ok(true);
+    }
+    meets_all(alloc, table, second, conditions, scratch)
+}
+
+/// Adds the statement of a row that is taken, or a comment in its place, unless changes are only counted.
+fn add_taken_row<'a>(
+    table: &SqlTable,
+    images: RowImages,
+    taken: RowsTaken<'_>,
+    first: &RowCells<'a>,
+    second: &mut RowCells<'a>,
+    scratch: &mut Scratch,
+    texts: &mut TextList,
+) -> Result<(), NoStatement> {
+    if taken.is_dry {
+        return Ok(());
+    }
+    match add_row(table, images, taken.direction, first, second, scratch, texts) {
+        Ok(()) => Ok(()),
+        Err(NoStatement::Memory) => Err(NoStatement::Memory),
+        Err(why) if taken.leaves_out => add_comment(why, texts),
+        Err(why) => Err(why),
+    }
+}
+
+/// Adds the statements of the rows of an event of a table, each as a text. Returns how many rows were taken.
+///
+/// The errors are those of `put_statement`, and:
+///
+/// - `Row`: a row can't be read.
+pub fn add_rows(
+    alloc: Global,
+    table: &SqlTable,
+    rows: TableRows<'_>,
+    taken: RowsTaken<'_>,
+    scratch: &mut Scratch,
+    texts: &mut TextList,
+) -> Result<RowCounts, NoStatement> {
+    let mut counts = RowCounts::NONE;
+    let mut first = RowCells::new(alloc, table.columns.len())?;
+    let mut second = RowCells::new(alloc, table.columns.len())?;
+    let mut cursor = rows.cursor();
+    let images = rows.images();
+    for _ in 0..u64::MAX {
+        if !read_row(&mut cursor, &mut first, &mut second)? {
+            return Ok(counts);
+        }
+        if is_taken(alloc, table, &first, &second, taken.conditions, scratch)? {
+            counts.count(images);
+            add_taken_row(table, images, taken, &first, &mut second, scratch, texts)?;
+        }
+    }
+    Err(NoStatement::Row)
+}

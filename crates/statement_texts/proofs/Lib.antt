@@ -1,0 +1,4 @@
+mod AddedLemmas
+mod StatementTextLemmas
+pub mod NewestLemmas
+mod TransactionLemmas

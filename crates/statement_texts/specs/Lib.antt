@@ -1,0 +1,3 @@
+pub mod StatementTexts
+pub mod NewestTexts
+pub mod TransactionTexts
