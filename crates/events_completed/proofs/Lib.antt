@@ -1,4 +1,5 @@
 mod WholeMapLemmas
+mod MysqlLemmas
 mod GivenLemmas
 mod EmptyLemmas
 mod PlainLemmas
