@@ -2,4 +2,5 @@ mod WholeMapLemmas
 mod MysqlLemmas
 mod GivenLemmas
 mod EmptyLemmas
+mod MapLemmas
 mod PlainLemmas

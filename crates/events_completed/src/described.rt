@@ -1,7 +1,7 @@
 //! What the newest format description says of a log.
 
 ghost use Rattle.std.specs.Prelude.{◌≡◌, ◌≤◌, length};
-ghost use Rattle.events_completed.specs.MysqlTableMaps.{described_after, describes_mariadb, undescribed};
+ghost use Rattle.events_completed.specs.MysqlTableMaps.{described_after, describes_mariadb, server_version, undescribed};
 
 use events_frames::has_type;
 use events_replaced::checksums_after;
@@ -25,15 +25,22 @@ pub(crate) struct Described {
     pub(crate) is_mariadb: bool,
 }
 
+/// The server's version in a format description.
+fn server_version(description: &[u8]) -> &[u8]
+    ensures { result.now ≡ server_version description.now }
+{
+    let (_, rest) = description.split_at(VERSION_OFFSET.min(description.len()));
+    let (version, _) = rest.split_at(VERSION_LEN.min(rest.len()));
+    version
+}
+
 /// Whether a format description is that of a server of MariaDB.
 #[cold]
 #[inline(never)]
 fn describes_mariadb(description: &[u8]) -> bool
     ensures { result ≡ describes_mariadb description.now }
 {
-    let (_, rest) = description.split_at(VERSION_OFFSET.min(description.len()));
-    let (version, _) = rest.split_at(VERSION_LEN.min(rest.len()));
-    memmem::find(version, MARIADB).is_some()
+    memmem::find(server_version(description), MARIADB).is_some()
 }
 
 impl Described {
