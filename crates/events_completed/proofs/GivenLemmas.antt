@@ -55,7 +55,7 @@ module _ (tables : Tables) (d : Described) (event own mysql rest : List ℕ) (wh
       let m = mysql_event after event in
       let same : checksums_after d.has_checksum m ≡ after.has_checksum = mysql_checksums d.has_checksum after event (sizes event whole.whole).0 ∙ sym (described_checksums d event) in
       subst (λ (b : Bool). AreCompleted tables d.has_checksum (m ++ mysql) (completed_event tables b m ++ rest)) same
-          (AreCompleted.completed_next d.has_checksum m mysql rest (mysql_whole after event whole) (subst (λ (b : Bool). AreCompleted tables b mysql rest) (sym same) are))
+      (AreCompleted.completed_next d.has_checksum m mysql rest (mysql_whole after event whole) (subst (λ (b : Bool). AreCompleted tables b mysql rest) (sym same) are))
 
 and_two : (a b : Bool) → (a && b) ≡ true → (a ≡ true) × (b ≡ true)
 and_two true true h = (refl, refl)

@@ -1,18 +1,19 @@
 -- What is given for the newest event of the other source.
-use Rattle.std.proofs.Common.{◌≡◌, ℕ, ◌≤◌, Bool, true, false, List, [], length, drop, Option, Some, refl, sym, ap, ◌∙◌}
+use Rattle.std.proofs.Common.{◌≡◌, ℕ, ◌≤◌, Bool, true, false, List, [], ◌∷◌, length, drop, Option, Some, refl, sym, ap, ◌∙◌, arith}
 use Rattle.std.specs.Prelude.{◌==◌, codes, is_some, if◌then◌else◌}
+use Rattle.std.proofs.lemmas.Bool.{eqb-true}
 use Rattle.memchr.specs.Find.{FindsNeedle, first_of, matches}
 use Rattle.memchr.proofs.lemmas.ValueLemmas.{FindsNeedle-value}
 use Rattle.events_frames.specs.HeaderFields.{header_field}
 use Rattle.rows_metadata_fields.specs.YearSigns.{Signs, mysql_fields, year_signs}
 use Rattle.table_schemas.specs.CompletedMaps.{Tables, before_checksum, completed}
 use Rattle.events_completed.specs.CompletedEvents.{completed_event}
-use Rattle.events_completed.specs.CompletingStates.{newest_by, newest_if}
+use Rattle.events_completed.specs.CompletingStates.{at_hand_by, newest_by, newest_if}
 use Rattle.events_completed.specs.MysqlEvents.{is_table_map, mysql_event}
 use Rattle.events_completed.specs.MysqlTableMaps.{before_fields, mysql_if_short, mysql_map, mysql_map_in, unsummed}
 use Rattle.events_completed.specs.declared.described.Described.{Described}
 use Rattle.events_completed.proofs.EmptyLemmas.{same_event}
-use Rattle.events_completed.proofs.MysqlLemmas.{map_type}
+use Rattle.events_completed.proofs.MysqlLemmas.{map_long, map_type}
 
 -- the word that MariaDB's versions have
 pub word_found : (version : List ℕ) (r : Option ℕ) → FindsNeedle version (codes "MariaDB") 0 r → is_some r ≡ is_some (first_of (matches version (codes "MariaDB") 0))
@@ -40,7 +41,21 @@ own_given tables d event empty not_mariadb =
     let same = own_event d event (is_table_map event) refl not_mariadb in
     rw (empty, same) (sym (same_event d.has_checksum event (is_table_map event) refl))
 
+-- a schema without tables
+pub no_tables : (tables : Tables) (is_empty : Bool) → is_empty ≡ (length tables == 0) → is_empty ≡ true → tables ≡ []
+no_tables [] is_empty is e = refl
+no_tables (t ∷ ts) is_empty is e = absurd (omega (arith, eqb-true (length (t ∷ ts)) 0 (sym is ∙ e)))
+
 -- a table map that was made, or wasn't, in two steps
+pub newest_at_hand : (a b : Bool) (hand : List ℕ) → at_hand_by (newest_if a b) hand ≡ []
+newest_at_hand true true hand = refl
+newest_at_hand true false hand = refl
+newest_at_hand false true hand = refl
+newest_at_hand false false hand = refl
+
+pub chosen_long : (d : Described) (own chosen : List ℕ) → 19 ≤ length own → chosen ≡ mysql_map_in d own → 19 ≤ length chosen
+chosen_long d own chosen long is = rw is (map_long d own long)
+
 newest_given : (a b : Bool) (own mysql made : List ℕ) → newest_by (newest_if a b) own mysql made ≡ (if b then made else (if a then mysql else own))
 newest_given true true own mysql made = refl
 newest_given true false own mysql made = refl

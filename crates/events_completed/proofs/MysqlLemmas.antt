@@ -75,6 +75,7 @@ unsummed_type true event bytes long is = by (nat_le 23 (length event) && (crc32_
     first_of : (a b : Bool) → (a && b) ≡ true → a ≡ true
     first_of true b h = refl
     first_of false b h = h
+
     by : (b : Bool) → (nat_le 23 (length event) && (crc32_of (take (length event - 4) event) == little_number 4 (drop (length event - 4) event))) ≡ b → header_field 4 1 bytes ≡ header_field 4 1 event
     by true e =
         let fits : 23 ≤ length event = leb-true 23 (length event) (first_of (nat_le 23 (length event)) _ e) in

@@ -1,7 +1,7 @@
 //! What the newest format description says of a log.
 
-ghost use Rattle.std.specs.Prelude.{◌≡◌, ◌≤◌, length};
-ghost use Rattle.events_completed.specs.MysqlTableMaps.{described_after, describes_mariadb, server_version, undescribed};
+ghost use Rattle.std.specs.Prelude.{◌≡◌, ◌≤◌, drop, length, take};
+ghost use Rattle.events_completed.specs.MysqlTableMaps.{described_after, describes_mariadb, undescribed};
 
 use events_frames::has_type;
 use events_replaced::checksums_after;
@@ -25,12 +25,19 @@ pub(crate) struct Described {
     pub(crate) is_mariadb: bool,
 }
 
-/// The server's version in a format description.
-fn server_version(description: &[u8]) -> &[u8]
-    ensures { result.now ≡ server_version description.now }
+/// The bytes of a format description from the server's version on.
+fn from_version(description: &[u8]) -> &[u8]
+    ensures { result.now ≡ drop 21 description.now }
 {
     let (_, rest) = description.split_at(VERSION_OFFSET.min(description.len()));
-    let (version, _) = rest.split_at(VERSION_LEN.min(rest.len()));
+    rest
+}
+
+/// The server's version, by the bytes from there on.
+fn version_in(bytes: &[u8]) -> &[u8]
+    ensures { result.now ≡ take 50 bytes.now }
+{
+    let (version, _) = bytes.split_at(VERSION_LEN.min(bytes.len()));
     version
 }
 
@@ -40,7 +47,8 @@ fn server_version(description: &[u8]) -> &[u8]
 fn describes_mariadb(description: &[u8]) -> bool
     ensures { result ≡ describes_mariadb description.now }
 {
-    memmem::find(server_version(description), MARIADB).is_some()
+    let version = version_in(from_version(description));
+    memmem::find(version, MARIADB).is_some()
 }
 
 impl Described {

@@ -48,7 +48,9 @@ impl Lengths {
     pub(crate) fn own_offset(self, offset: u64, is_newest: bool) -> u64 {
         let before = self.all;
         if !is_newest {
-            return offset.saturating_sub(before.given).saturating_add(before.own);
+            return offset
+                .saturating_sub(before.given)
+                .saturating_add(before.own);
         }
         let given = before.given.saturating_sub(self.newest.given);
         let own = before.own.saturating_sub(self.newest.own);

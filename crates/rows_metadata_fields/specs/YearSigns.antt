@@ -1,5 +1,5 @@
 -- The field SIGNEDNESS in table maps of MariaDB's servers, and the same as MySQL's servers write it: MariaDB's have a sign for each YEAR column too, and write it as the first field (MySQL's source: Table_map_event; MariaDB's source: Table_map_log_event::init_metadata_fields).
-use Rattle.std.specs.Prelude.{ℕ, ◌+◌, ◌-◌, ◌/◌, ◌==◌, ◌&&◌, ◌||◌, not, Bool, List, [], ◌∷◌, ◌++◌, length, take, drop, map, nat_le, slice_index, count_by, Option, Some, None, if◌then◌else◌}
+use Rattle.std.specs.Prelude.{ℕ, ◌+◌, ◌/◌, ◌==◌, ◌&&◌, ◌||◌, not, Bool, List, [], ◌∷◌, ◌++◌, length, take, drop, map, nat_le, slice_index, count_by, Option, Some, None, if◌then◌else◌}
 use Rattle.std.specs.List.{filter, list_any, zip}
 use Rattle.std.specs.Option.{option_and_then}
 use Rattle.wire_lenenc.specs.LenencSplit.{split_lenenc}
