@@ -19,6 +19,8 @@
    - A handle is used by one call at a time. It may go from thread to thread, if the threads are synchronized in between. Different
      handles are independent: threads may use them at the same time.
    - No call writes to memory other than its handle's and its arguments', calls back, or prints.
+   - Where memory runs out while a compressed event or transaction, or an XA transaction, is read, the verdict is that of its event as it is,
+     such as CUVRAGYEN_UNSHOWN; else it is CUVRAGYEN_MEMORY. No transaction is shown otherwise than with enough memory.
    - A call on a closed handle returns CUVRAGYEN_CLOSED_HANDLE and changes nothing. After a fault each call returns it again.
 
    Link with -lcuvragyen. Linux on x86-64; a processor from 2009 on (x86-64-v2). */
@@ -73,7 +75,8 @@ enum {
     CUVRAGYEN_ROW = 113,          /* a row can't be read */
     CUVRAGYEN_OUTSIDE = 114,      /* a commit, a rollback or rows outside a transaction */
     CUVRAGYEN_INSIDE = 115,       /* a begin, a GTID or a rotate within a transaction */
-    CUVRAGYEN_UNSHOWN = 116,      /* an event that isn't read: for example an encrypted log */
+    CUVRAGYEN_UNSHOWN = 116,      /* an event that isn't read: of an encrypted log; or a compressed transaction that is damaged, or longer than
+                                     max-transaction */
     CUVRAGYEN_UNKNOWN_KIND = 117, /* an event of an unknown type that may not be ignored */
     CUVRAGYEN_MEMORY = 118,       /* out of memory */
     CUVRAGYEN_READ = 119          /* 2^63 - 1 pieces were read */

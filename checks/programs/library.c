@@ -4,7 +4,8 @@
    library records FILE: reads each record by its format, and prints how many rows and cells it has.
    library misuse FILE: makes calls that a careful program doesn't.
    library threads FILE: 8 threads read the log, and one handle goes from thread to thread; prints nothing if all find the same.
-   library refused FILE OPTIONS: each allocation fails in turn; prints how many runs there were. */
+   library refused FILE OPTIONS: each allocation fails in turn; prints how many runs there were. A log then shows
+   no other transactions, and ends by Memory, or at an event that others should have replaced, or all is the same in another way. */
 #define _GNU_SOURCE
 #include <cuvragyen.h>
 #include <pthread.h>
@@ -71,9 +72,13 @@ static struct bytes read_all(const char *path) {
 
 /* A checksum of all transactions, and how the log ended. */
 struct result {
-    uint64_t sum, transactions;
-    uint32_t verdict;
+    uint64_t sum, transactions, verdict;
 };
+
+/* The checksum of each number of the newest log's transactions. */
+enum { MAX_SUMS = 100000 };
+static uint64_t sums[MAX_SUMS];
+static int keeps_sums;
 
 static size_t piece_len(unsigned *seed, size_t left) {
     size_t len = *seed == 1 ? 1 : (size_t)rand_r(seed) % 3000;
@@ -89,6 +94,9 @@ static void take_all(cuvragyen *log, struct result *found, FILE *out) {
         }
         found->transactions++;
         found->sum = found->sum * 31 + cuvragyen_crc32(shown.at, shown.len);
+        if (keeps_sums && found->transactions < MAX_SUMS) {
+            sums[found->transactions] = found->sum;
+        }
         if (out) {
             fwrite(shown.at, 1, shown.len, out);
         }
@@ -283,6 +291,7 @@ static void refused(struct bytes all, const char *options) {
     long whole_calls = 0, runs = 0;
     struct result whole = {0, 0, 0};
     for (long number = 0; number <= whole_calls; number++) {
+        keeps_sums = number == 0;
         until_refused = number;
         live = calls = 0;
         struct result found = read_log(all, 2, options, NULL);
@@ -292,8 +301,8 @@ static void refused(struct bytes all, const char *options) {
             whole = found;
             whole_calls = calls;
         } else {
-            expect(found.verdict == CUVRAGYEN_MEMORY, "an allocation failed, and the verdict is another");
-            expect(found.transactions <= whole.transactions, "more transactions");
+            expect(found.verdict != CUVRAGYEN_END || !memcmp(&found, &whole, sizeof found), "an allocation failed, and the log ends otherwise");
+            expect(found.transactions <= whole.transactions && found.sum == sums[found.transactions], "an allocation failed, and a transaction is another");
         }
         runs++;
     }
