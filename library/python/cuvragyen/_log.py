@@ -14,7 +14,7 @@ Names = Union[str, Sequence[str]]
 
 
 class Header(NamedTuple):
-    """The event that committed a transaction: when it was written, in seconds since 1970, by which server, and the position after it."""
+    """The event that committed a transaction: its time in seconds since 1970, its server, and the position in the log after it."""
 
     time: int
     server_id: int
@@ -88,7 +88,7 @@ def _options(file: str, flags: Dict[str, Union[Names, int, bool, None]]) -> byte
 
 
 class Log:
-    """A binary log that arrives in pieces. The options are those of cuvragyen_open in the header, with underscores for hyphens."""
+    """A binary log that arrives in pieces. The options are those of cuvragyen_open, with underscores for hyphens."""
 
     def __init__(self, file: str = "", **options: Union[Names, int, bool, None]) -> None:
         self._handle = c.Handle()
@@ -148,7 +148,7 @@ class Log:
 
 
 def log(path: Union[str, os.PathLike], **options: Union[Names, int, bool, None]) -> Iterator[Transaction]:
-    """The transactions of a log in a file. Raises a Fault where the log can't be read further, or ends within an event or a transaction."""
+    """The transactions of a log in a file. Raises a Fault where the log can't be read further, or isn't whole."""
     options.setdefault("file", os.path.basename(os.fspath(path)))
     file = str(options.pop("file"))
     with open(path, "rb") as source, Log(file, **options) as reader:
