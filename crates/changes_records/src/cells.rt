@@ -11,32 +11,39 @@ use std::alloc::{AllocError, Global};
 /// The kinds of cells.
 mod kinds {
     pub(super) const NULL: u8 = 0;
+
     pub(super) const SIGNED: u8 = 1;
+
     pub(super) const UNSIGNED: u8 = 2;
+
     pub(super) const FLOAT: u8 = 3;
+
     pub(super) const DOUBLE: u8 = 4;
+
     pub(super) const BYTES: u8 = 5;
+
     pub(super) const TEXT: u8 = 6;
+
     pub(super) const JSON: u8 = 7;
 }
 
 /// Appends the kind of a cell and the index of its column.
 #[inline(always)]
-fn put_head(kind: u8, column: u32, out: &mut TextBuffer<Global>) -> Result<(), AllocError> {
-    out.put(kind)?;
+fn put_head(kind: u8, column: u32, out: &mut Vec<u8>) -> Result<(), AllocError> {
+    out.push(kind)?;
     put_u32(column, out)
 }
 
 /// Appends a cell whose value is a number of eight bytes.
 #[inline(always)]
-fn put_number(kind: u8, column: u32, number: u64, out: &mut TextBuffer<Global>) -> Result<(), AllocError> {
+fn put_number(kind: u8, column: u32, number: u64, out: &mut Vec<u8>) -> Result<(), AllocError> {
     put_head(kind, column, out)?;
-    out.put_text(&number.to_le_bytes())
+    out.extend_from_slice(&number.to_le_bytes())
 }
 
 /// Appends a cell that is text or bytes.
 #[inline(always)]
-fn put_bytes(kind: u8, column: u32, bytes: &[u8], out: &mut TextBuffer<Global>) -> Result<(), AllocError> {
+fn put_bytes(kind: u8, column: u32, bytes: &[u8], out: &mut Vec<u8>) -> Result<(), AllocError> {
     put_head(kind, column, out)?;
     put_counted(bytes, out)
 }
@@ -52,7 +59,7 @@ fn put_typed(
     index: u32,
     column: &ShownColumn,
     cell: CellRef<'_>,
-    out: &mut TextBuffer<Global>,
+    out: &mut Vec<u8>,
 ) -> Result<bool, AllocError> {
     match (cell, column.shown) {
         (CellRef::Null, _) => put_head(kinds::NULL, index, out)?,
@@ -88,7 +95,7 @@ pub(crate) fn put_cell<'a>(
     column: &ShownColumn,
     field: ImageField<'a>,
     json: &mut TextBuffer<Global>,
-    out: &mut TextBuffer<Global>,
+    out: &mut Vec<u8>,
 ) -> Result<&'a [u8], RowsError> {
     if field.is_null {
         put_head(kinds::NULL, field.column, out)?;

@@ -1,7 +1,6 @@
 //! The parts of a record: tags, numbers, and bytes after their length.
 
-use feed_text::TextBuffer;
-use std::alloc::{AllocError, Global};
+use std::alloc::AllocError;
 
 /// What begins a part of a record.
 pub(crate) mod tags {
@@ -10,7 +9,9 @@ pub(crate) mod tags {
 
     /// Rows that were inserted, updated or deleted.
     pub(crate) const INSERT: u8 = b'I';
+
     pub(crate) const UPDATE: u8 = b'U';
+
     pub(crate) const DELETE: u8 = b'D';
 
     /// A statement.
@@ -18,6 +19,7 @@ pub(crate) mod tags {
 
     /// An image of a row before its change, or after it.
     pub(crate) const BEFORE: u8 = b'b';
+
     pub(crate) const AFTER: u8 = b'a';
 
     /// The end of a row.
@@ -29,13 +31,13 @@ pub(crate) mod tags {
 
 /// Appends a number in four bytes.
 #[inline(always)]
-pub(crate) fn put_u32(number: u32, out: &mut TextBuffer<Global>) -> Result<(), AllocError> {
-    out.put_text(&number.to_le_bytes())
+pub(crate) fn put_u32(number: u32, out: &mut Vec<u8>) -> Result<(), AllocError> {
+    out.extend_from_slice(&number.to_le_bytes())
 }
 
 /// Appends bytes after their length in four bytes.
 #[inline(always)]
-pub(crate) fn put_counted(bytes: &[u8], out: &mut TextBuffer<Global>) -> Result<(), AllocError> {
+pub(crate) fn put_counted(bytes: &[u8], out: &mut Vec<u8>) -> Result<(), AllocError> {
     put_u32(bytes.len() as u32, out)?;
-    out.put_text(bytes)
+    out.extend_from_slice(bytes)
 }

@@ -44,7 +44,7 @@ fn put_image<'a>(
     plan: ImagePlan<'_>,
     bytes: &'a [u8],
     json: &mut TextBuffer<Global>,
-    out: &mut TextBuffer<Global>,
+    out: &mut Vec<u8>,
 ) -> Result<&'a [u8], RowsError> {
     let mut cells = ImageCells::of(plan, bytes)?;
     while let Some(field) = cells.next_field() {
@@ -73,8 +73,12 @@ fn change_tag(images: RowImages) -> u8 {
 }
 
 /// Appends the tag of a change, and the time and the server of its event.
-fn put_change_head(tag: u8, header: BinlogEventHeader, out: &mut TextBuffer<Global>) -> Result<(), AllocError> {
-    out.put(tag)?;
+fn put_change_head(
+    tag: u8,
+    header: BinlogEventHeader,
+    out: &mut Vec<u8>,
+) -> Result<(), AllocError> {
+    out.push(tag)?;
     put_u32(header.timestamp(), out)?;
     put_u32(header.server_id(), out)
 }
@@ -83,7 +87,7 @@ fn put_change_head(tag: u8, header: BinlogEventHeader, out: &mut TextBuffer<Glob
 fn put_statement(
     header: BinlogEventHeader,
     texts: QueryTexts<'_>,
-    out: &mut TextBuffer<Global>,
+    out: &mut Vec<u8>,
 ) -> Result<(), AllocError> {
     put_change_head(tags::STATEMENT, header, out)?;
     put_counted(texts.schema, out)?;
@@ -99,8 +103,8 @@ fn name_of(column: &ShownColumn) -> &[u8] {
 }
 
 /// Appends a table: its names, and those of its columns.
-fn put_table(rows: TableRows<'_>, table: &ShownTable, out: &mut TextBuffer<Global>) -> Result<(), AllocError> {
-    out.put(tags::TABLE)?;
+fn put_table(rows: TableRows<'_>, table: &ShownTable, out: &mut Vec<u8>) -> Result<(), AllocError> {
+    out.push(tags::TABLE)?;
     put_counted(rows.database(), out)?;
     put_counted(rows.table(), out)?;
     put_u32(table.columns.len() as u32, out)?;
@@ -129,7 +133,7 @@ impl RecordWriter {
         &mut self,
         transaction: CommittedTransaction<'_>,
         filter: Filter<'_>,
-        out: &mut TextBuffer<Global>,
+        out: &mut Vec<u8>,
     ) -> Result<(), RowsError> {
         let header = transaction.header();
         put_u32(header.log_pos(), out)?;
@@ -142,12 +146,12 @@ impl RecordWriter {
         for change in transaction.changes().taken_by(filter) {
             self.put_change(change, out)?;
         }
-        out.put(tags::END)?;
+        out.push(tags::END)?;
         Ok(())
     }
 
     /// Appends a change.
-    fn put_change(&mut self, change: Change<'_>, out: &mut TextBuffer<Global>) -> Result<(), RowsError> {
+    fn put_change(&mut self, change: Change<'_>, out: &mut Vec<u8>) -> Result<(), RowsError> {
         match change.what {
             What::Statement(texts) => {
                 put_statement(change.header, texts, out)?;
@@ -162,7 +166,7 @@ impl RecordWriter {
     }
 
     /// Makes the table of rows the newest, and appends it unless it was the newest of this record.
-    fn select(&mut self, rows: TableRows<'_>, out: &mut TextBuffer<Global>) -> Result<(), RowsError> {
+    fn select(&mut self, rows: TableRows<'_>, out: &mut Vec<u8>) -> Result<(), RowsError> {
         let bytes = rows.table_map_bytes();
         if self.newest.as_slice() == bytes {
             return Ok(());
@@ -183,7 +187,7 @@ impl RecordWriter {
     }
 
     /// Appends the rows of the newest table.
-    fn put_rows(&mut self, rows: TableRows<'_>, out: &mut TextBuffer<Global>) -> Result<(), RowsError> {
+    fn put_rows(&mut self, rows: TableRows<'_>, out: &mut Vec<u8>) -> Result<(), RowsError> {
         let Some(table) = self.tables.newest() else {
             return Err(RowsError::Memory);
         };
@@ -192,13 +196,29 @@ impl RecordWriter {
         let mut rest = rows.rows_data();
         while !rest.is_empty() {
             let before = rest.len();
-            out.put(tag)?;
-            rest = put_image(self.alloc, table, &self.other, first, rest, &mut self.json, out)?;
+            out.push(tag)?;
+            rest = put_image(
+                self.alloc,
+                table,
+                &self.other,
+                first,
+                rest,
+                &mut self.json,
+                out,
+            )?;
             if let Some(second) = second {
-                out.put(tags::AFTER)?;
-                rest = put_image(self.alloc, table, &self.other, second, rest, &mut self.json, out)?;
+                out.push(tags::AFTER)?;
+                rest = put_image(
+                    self.alloc,
+                    table,
+                    &self.other,
+                    second,
+                    rest,
+                    &mut self.json,
+                    out,
+                )?;
             }
-            out.put(tags::END_OF_ROW)?;
+            out.push(tags::END_OF_ROW)?;
             if rest.len() >= before {
                 return Err(RowsError::EmptyPair);
             }

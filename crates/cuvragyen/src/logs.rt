@@ -166,9 +166,13 @@ pub extern "C" fn cuvragyen_show(alloc: Global, log: &mut LogHandle, shown: &mut
         return CLOSED;
     };
     let result = match state.show() {
-        Ok(bytes) => {
-            *shown = view_of(bytes);
-            if bytes.is_empty() { OK } else { TRANSACTION }
+        Ok(true) => {
+            *shown = view_of(state.shown());
+            TRANSACTION
+        }
+        Ok(false) => {
+            *shown = view_of(&[]);
+            OK
         }
         Err(verdict) => number_of(verdict),
     };
@@ -178,7 +182,11 @@ pub extern "C" fn cuvragyen_show(alloc: Global, log: &mut LogHandle, shown: &mut
 
 /// Says by which event the newest transaction was committed.
 #[unsafe(no_mangle)]
-pub extern "C" fn cuvragyen_commit(alloc: Global, log: &mut LogHandle, commit: &mut LogHeader) -> u32
+pub extern "C" fn cuvragyen_commit(
+    alloc: Global,
+    log: &mut LogHandle,
+    commit: &mut LogHeader,
+) -> u32
     ensures closed { log.old.value ≡ None → log.new.value ≡ None }
 {
     let Some(state) = replace(log, LogHandle::closed(alloc)).into_box() else {

@@ -1,1 +1,4 @@
 pub mod KeptTransactions
+pub mod LibrarySources
+pub mod ShownTransactions
+pub mod ReadLogs

@@ -1,5 +1,8 @@
 //! A recorder that keeps the open transaction as what JSON lines are made of, or as its changes.
 
+ghost use Rattle.std.specs.Prelude.{◌≡◌};
+ghost use Rattle.events_frames.specs.Headers.{event_header_of};
+ghost use Rattle.feed_transactions.specs.Changes.{Committed};
 ghost use Rattle.library_log.specs.KeptTransactions.{IsOpenKept, IsDoneKept, IsLikeKept};
 
 use changes_lines::JsonRecorder;
@@ -20,7 +23,9 @@ pub enum KeptTransaction<'f> {
 
 impl KeptTransaction<'_> {
     /// The header of the event that committed the transaction.
-    pub fn commit_header(&self) -> BinlogEventHeader {
+    pub fn commit_header(&self) -> BinlogEventHeader
+        ensures { (t : Committed) → IsDoneKept self.now t → event_header_of result ≡ t.commit }
+    {
         match self {
             KeptTransaction::Json(json) => json.commit_header(),
             KeptTransaction::Changes(changes) => CommittedTransaction::of(changes).header(),

@@ -7,6 +7,7 @@ mod option_text;
 mod options;
 mod read_log;
 mod shared_state;
+mod shown;
 mod state_handle;
 
 pub use kept_transaction::KeptTransaction;

@@ -89,7 +89,11 @@ fn add_table<'t>(
     } else {
         tables.push(name).is_ok()
     };
-    if pushed { Ok(()) } else { Err(OptionsFault::Memory) }
+    if pushed {
+        Ok(())
+    } else {
+        Err(OptionsFault::Memory)
+    }
 }
 
 impl<'t> LogOptions<'t> {

@@ -14,7 +14,7 @@ Names = Union[str, Sequence[str]]
 
 
 class Header(NamedTuple):
-    """The event that committed a transaction: its time in seconds since 1970, its server, and the position in the log after it."""
+    """The event that committed a transaction: its time in seconds since 1970, its server, and the position after it."""
 
     time: int
     server_id: int
