@@ -1,6 +1,7 @@
 //! The complete transactions of truncated output.
 
-ghost use Rattle.std.specs.Prelude.{◌≡◌, ◌≤◌, length};
+ghost use Rattle.std.specs.Prelude.{◌≡◌, ◌≤◌, length, true, IfSome};
+ghost use Rattle.feed_resume.specs.Kept.{kept as kept_of};
 
 use changes_resume::{KeptJsonError, ResumePoint, kept_json};
 use feed_resume::kept;
@@ -31,7 +32,10 @@ pub struct KeptText {
 }
 
 /// What is kept up to a position, if there is one.
-fn kept_up_to(len: u64, position: Option<u32>) -> KeptText {
+fn kept_up_to(len: u64, position: Option<u32>) -> KeptText
+    ensures len { result.len ≡ len }
+    ensures position { IfSome position (λ p. (result.has_position ≡ true) × (result.position ≡ p)) }
+{
     KeptText {
         len,
         file_len: 0,
@@ -81,7 +85,10 @@ pub extern "C" fn cuvragyen_kept_json(
 
 /// Finds the complete transactions of the feed's text.
 #[unsafe(no_mangle)]
-pub extern "C" fn cuvragyen_kept_text(text: &[u8], found: &mut KeptText) {
+pub extern "C" fn cuvragyen_kept_text(text: &[u8], found: &mut KeptText)
+    ensures len { found.new.len ≡ (kept_of text.now).0 }
+    ensures position { IfSome (kept_of text.now).1 (λ position. (found.new.has_position ≡ true) × (found.new.position ≡ position)) }
+{
     let (len, position) = kept(text);
     *found = kept_up_to(len as u64, position);
 }

@@ -1,6 +1,8 @@
 //! Logs that arrive in pieces.
 
-ghost use Rattle.std.specs.Prelude.{◌≡◌, None};
+ghost use Rattle.std.specs.Prelude.{◌≡◌, None, Some};
+ghost use Rattle.library_log.specs.declared.read_log.ReadLog.{ReadLog as TheLog};
+ghost use Rattle.cuvragyen.specs.Exports.{IsHarmless, GoesOn};
 
 use crate::verdicts::number_of;
 use c_handles::{View, view_of};
@@ -127,7 +129,7 @@ pub extern "C" fn cuvragyen_log_close(alloc: Global, log: &mut LogHandle)
 /// Keeps the next bytes of a log.
 #[unsafe(no_mangle)]
 pub extern "C" fn cuvragyen_push(alloc: Global, log: &mut LogHandle, bytes: &[u8]) -> u32
-    ensures closed { log.old.value ≡ None → log.new.value ≡ None }
+    ensures closed { IsHarmless log.old.value log.new.value result }
 {
     let Some(mut state) = replace(log, LogHandle::closed(alloc)).into_box() else {
         return CLOSED;
@@ -143,7 +145,8 @@ pub extern "C" fn cuvragyen_push(alloc: Global, log: &mut LogHandle, bytes: &[u8
 /// Goes on to the next transaction.
 #[unsafe(no_mangle)]
 pub extern "C" fn cuvragyen_next(alloc: Global, log: &mut LogHandle) -> u32
-    ensures closed { log.old.value ≡ None → log.new.value ≡ None }
+    ensures closed { IsHarmless log.old.value log.new.value result }
+    ensures next { (s : TheLog) → log.old.value ≡ Some s → GoesOn s log.new.value result }
 {
     let Some(mut state) = replace(log, LogHandle::closed(alloc)).into_box() else {
         return CLOSED;
@@ -160,7 +163,7 @@ pub extern "C" fn cuvragyen_next(alloc: Global, log: &mut LogHandle) -> u32
 /// Makes what is shown of the newest transaction, and says where it is: there until the next call that gets the handle.
 #[unsafe(no_mangle)]
 pub extern "C" fn cuvragyen_show(alloc: Global, log: &mut LogHandle, shown: &mut View) -> u32
-    ensures closed { log.old.value ≡ None → log.new.value ≡ None }
+    ensures closed { IsHarmless log.old.value log.new.value result }
 {
     let Some(mut state) = replace(log, LogHandle::closed(alloc)).into_box() else {
         return CLOSED;
@@ -187,7 +190,7 @@ pub extern "C" fn cuvragyen_commit(
     log: &mut LogHandle,
     commit: &mut LogHeader,
 ) -> u32
-    ensures closed { log.old.value ≡ None → log.new.value ≡ None }
+    ensures closed { IsHarmless log.old.value log.new.value result }
 {
     let Some(state) = replace(log, LogHandle::closed(alloc)).into_box() else {
         return CLOSED;
@@ -235,7 +238,7 @@ fn stop_of(stop: Stop) -> LogStop {
 /// Ends a log, and says how it ended.
 #[unsafe(no_mangle)]
 pub extern "C" fn cuvragyen_stop(alloc: Global, log: &mut LogHandle, stop: &mut LogStop) -> u32
-    ensures closed { log.old.value ≡ None → log.new.value ≡ None }
+    ensures closed { IsHarmless log.old.value log.new.value result }
 {
     let Some(mut state) = replace(log, LogHandle::closed(alloc)).into_box() else {
         return CLOSED;

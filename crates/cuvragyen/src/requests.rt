@@ -1,6 +1,7 @@
 //! What a server is asked for.
 
-ghost use Rattle.std.specs.Prelude.{◌≡◌, ◌≤◌, length, take};
+ghost use Rattle.std.specs.Prelude.{◌≡◌, ◌≤◌, ◌<◌, length, take};
+ghost use Rattle.feed_replication.specs.Requests.{dump_request};
 
 use feed_replication::request;
 use std::alloc::Global;
@@ -15,7 +16,9 @@ pub extern "C" fn cuvragyen_request(
     name: &[u8],
     packet: &mut [u8],
 ) -> usize
-    ensures { result ≤ length packet.new }
+    ensures within { result ≤ length packet.new }
+    ensures len { length packet.new ≡ length packet.old }
+    ensures packet { 0 < result → take result packet.new ≡ dump_request position server_id name.now }
 {
     let Ok(bytes) = request(alloc, position, server_id, name) else {
         return 0;

@@ -1,10 +1,15 @@
 //! The numbers of verdicts.
 
+ghost use Rattle.std.specs.Prelude.{◌≡◌};
+ghost use Rattle.cuvragyen.specs.VerdictNumbers.{verdict_number};
+
 use c_handles::{View, view_of};
 use feed_checks::{Verdict, name_of};
 
 /// The number of a verdict, as the constants `CUVRAGYEN_...` of the header have it.
-pub(crate) fn number_of(verdict: Verdict) -> u32 {
+pub(crate) fn number_of(verdict: Verdict) -> u32
+    ensures { result ≡ verdict_number verdict }
+{
     match verdict {
         Verdict::End => 100,
         Verdict::Closed => 101,

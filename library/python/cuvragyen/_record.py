@@ -9,7 +9,7 @@ from typing import Dict, Iterator, List, NamedTuple, Optional, Union
 U32 = struct.Struct("<I")
 COMMIT = struct.Struct("<III")
 EVENT = struct.Struct("<II")
-CELL = struct.Struct("<I")
+CELL, INTEGER = struct.Struct("<I"), struct.Struct("<Iq")
 I64, U64, F32, F64 = struct.Struct("<q"), struct.Struct("<Q"), struct.Struct("<f"), struct.Struct("<d")
 TABLE, STATEMENT, BEFORE, AFTER, END_OF_ROW, END = b"TSbarE"
 Cell = Union[None, int, float, str, memoryview, List, Dict]
@@ -108,9 +108,14 @@ class Record:
 
     def _rows(self, at: int):
         rows, before, after, cells = [], None, None, {}
-        view = self._view
+        view, integer_at = self._view, INTEGER.unpack_from
         while True:
             tag = view[at]
+            if tag == 1:
+                column, value = integer_at(view, at + 1)
+                cells[column] = value
+                at += 13
+                continue
             if tag < 8:
                 column = CELL.unpack_from(view, at + 1)[0]
                 cells[column], at = self._cell(tag, at + 5)
