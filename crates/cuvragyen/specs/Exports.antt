@@ -2,7 +2,7 @@
 use Rattle.std.specs.Prelude.{◌≡◌, ℕ, List, Option, Some, None, Result}
 use Rattle.feed_checks.specs.EventFields.{Event}
 use Rattle.feed_checks.specs.declared.verdict.Verdict.{Verdict}
-use Rattle.library_log.specs.ReadLogs.{log_in, HasTaken, Advances}
+use Rattle.library_log.specs.ReadLogs.{log_in, fault_in, filter_in, HasTaken, Advances}
 use Rattle.library_log.specs.declared.read_log.Next.{Next}
 use Rattle.library_log.specs.declared.read_log.ReadLog.{ReadLog}
 use Rattle.cuvragyen.specs.VerdictNumbers.{next_number}
@@ -21,4 +21,4 @@ pub record GoesOn (s : ReadLog) (new : Option ReadLog) (result : ℕ) : Type 0 w
   pub is : new ≡ Some after
   pub returned : Result Next Verdict
   pub number : result ≡ next_number returned
-  pub advances : s.fault ≡ None → (past : List Event) → HasTaken (log_in s) past → Advances s.filter past (log_in s) (log_in after) returned
+  pub advances : fault_in s ≡ None → (past : List Event) → HasTaken (log_in s) past → Advances (filter_in s) past (log_in s) (log_in after) returned

@@ -1,4 +1,3 @@
 pub mod KeptTransactions
-pub mod LibrarySources
 pub mod ShownTransactions
 pub mod ReadLogs
