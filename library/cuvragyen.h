@@ -12,7 +12,7 @@
        cuvragyen_stop(&log, &stop);
        cuvragyen_close(&log);
 
-   Each call but cuvragyen_open and cuvragyen_close is proved: docs/guarantees/PROVED.md says what, and what is trusted here.
+   docs/guarantees/PROVED.md says what is proved of these calls, and what is trusted.
 
    Rules for all calls:
    - A pointer is valid and isn't null, also where its length is 0. A length is below 2^63. No two arguments overlap.

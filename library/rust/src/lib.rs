@@ -138,7 +138,7 @@ pub struct Log {
     handle: raw::Handle,
 }
 
-// SAFETY: a handle may go from thread to thread, which is proved of what it has.
+// SAFETY: a handle may go from thread to thread, if the threads are synchronized in between, as the header says.
 unsafe impl Send for Log {}
 
 impl Log {
