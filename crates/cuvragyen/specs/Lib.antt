@@ -1,0 +1,2 @@
+pub mod VerdictNumbers
+pub mod Exports

@@ -1,0 +1,2 @@
+mod LogValues
+mod StateValues

@@ -1,0 +1,3 @@
+pub mod KeptTransactions
+pub mod ShownTransactions
+pub mod ReadLogs
