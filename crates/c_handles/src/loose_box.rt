@@ -7,13 +7,13 @@ use std::alloc::Allocator;
 use std::marker::Model;
 
 /// The pointer of a box, which it owns, and its allocator.
-pub struct LooseBox<T, A: Allocator> {
+pub(crate) struct LooseBox<T, A: Allocator> {
     /// Where the value is.
-    pub at: *mut T,
+    pub(crate) at: *mut T,
     /// What frees it.
-    pub alloc: A,
+    pub(crate) alloc: A,
     /// The value.
-    pub ghost value: { T },
+    pub(crate) ghost value: { T },
 }
 
 impl<T, A: Allocator> Model for LooseBox<T, A> {
@@ -22,7 +22,7 @@ impl<T, A: Allocator> Model for LooseBox<T, A> {
 
 impl<T: Drop, A: Allocator> LooseBox<T, A> {
     /// Takes a box apart.
-    pub fn of(value: Box<T, A>) -> LooseBox<T, A>
+    pub(crate) fn of(value: Box<T, A>) -> LooseBox<T, A>
         ensures { result.value ≡ value.value }
     {
         let (at, alloc) = Box::into_raw_with_allocator(value);
@@ -30,7 +30,7 @@ impl<T: Drop, A: Allocator> LooseBox<T, A> {
     }
 
     /// Makes it a box again.
-    pub fn into_box(self) -> Box<T, A>
+    pub(crate) fn into_box(self) -> Box<T, A>
         ensures { result.value ≡ self.value }
     {
         let LooseBox { at, alloc } = self;

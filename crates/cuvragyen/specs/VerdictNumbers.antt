@@ -1,5 +1,5 @@
 -- The numbers of verdicts, as the constants of library/cuvragyen.h have them.
-use Rattle.std.specs.Prelude.{ℕ, Result, Ok, Err}
+use Rattle.std.specs.Prelude.{⊤, ℕ, Bool, true, false, Result, Ok, Err}
 use Rattle.feed_checks.specs.declared.verdict.Verdict.{Verdict}
 use Rattle.feed_checks.specs.declared.verdict.Verdict.TheVariants as v
 use Rattle.library_log.specs.declared.read_log.Next.{Next}
@@ -33,3 +33,14 @@ abbrev pub next_number : Result Next Verdict → ℕ
 next_number (Ok WantsMore) = 0
 next_number (Ok Transaction) = 1
 next_number (Err v) = verdict_number v
+
+-- what a call returns that does something: 0 it is done, or a verdict
+abbrev pub done_number : Result ⊤ Verdict → ℕ
+done_number (Ok x) = 0
+done_number (Err v) = verdict_number v
+
+-- what a call returns that shows a transaction: 0 there is none, 1 there is one, or a verdict
+abbrev pub shown_number : Result Bool Verdict → ℕ
+shown_number (Ok false) = 0
+shown_number (Ok true) = 1
+shown_number (Err v) = verdict_number v

@@ -1,21 +1,15 @@
 //! The complete transactions of truncated output.
 
-ghost use Rattle.std.specs.Prelude.{◌≡◌, ◌≤◌, length, true, IfSome};
+ghost use Rattle.std.specs.Prelude.{◌≡◌, ⊥, ℕ, List, length, min, take};
+ghost use Rattle.changes_resume.specs.FoundJson.{IsKeptJson};
 ghost use Rattle.feed_resume.specs.Kept.{kept as kept_of};
+ghost use Rattle.cuvragyen.specs.KeptTexts.{FindsJson, HasPosition};
 
-use changes_resume::{KeptJsonError, ResumePoint, kept_json};
+use crate::numbers::{BAD_VALUE, MEMORY, OK};
+use changes_resume::{KeptJson, KeptJsonError, kept_json};
 use feed_resume::kept;
 use std::alloc::Global;
 use wire_buf::Watched;
-
-/// Done.
-const OK: u32 = 0;
-
-/// A line isn't one of `binlog-changes`.
-const BAD_VALUE: u32 = 4;
-
-/// Out of memory.
-const MEMORY: u32 = 118;
 
 /// How much of truncated output is complete transactions.
 #[repr(C)]
@@ -33,8 +27,7 @@ pub struct KeptText {
 
 /// What is kept up to a position, if there is one.
 fn kept_up_to(len: u64, position: Option<u32>) -> KeptText
-    ensures len { result.len ≡ len }
-    ensures position { IfSome position (λ p. (result.has_position ≡ true) × (result.position ≡ p)) }
+    ensures { HasPosition result len position }
 {
     KeptText {
         len,
@@ -46,21 +39,26 @@ fn kept_up_to(len: u64, position: Option<u32>) -> KeptText
 
 /// Writes as much of a name as there is room for, and returns its length.
 fn put_name(name: &[u8], room: &mut [u8]) -> usize
-    ensures { result ≤ length name.now }
+    ensures len { result ≡ min (length name.now) (length room.new) }
+    ensures copied { take result room.new ≡ take result name.now }
 {
     let len = name.len().min(room.len());
     room[..len].copy_from_slice(&name[..len]);
     len
 }
 
-/// What is kept up to a point, whose file is written.
-fn kept_up_to_point(len: u64, point: Option<ResumePoint>, file: &mut [u8]) -> KeptText {
-    match point {
+/// What is kept, with the name of the log of the last transaction.
+fn kept_with_name(found: KeptJson, file: &mut [u8]) -> KeptText
+    ensures { (text : List ℕ) → IsKeptJson text found → FindsJson text result file.new }
+{
+    match found.resume_point {
         Some(point) => KeptText {
+            len: found.len,
             file_len: put_name(&point.file, file) as u64,
-            ..kept_up_to(len, Some(point.position))
+            position: point.position,
+            has_position: true,
         },
-        None => kept_up_to(len, None),
+        None => kept_up_to(found.len, None),
     }
 }
 
@@ -71,11 +69,14 @@ pub extern "C" fn cuvragyen_kept_json(
     lines: &[u8],
     found: &mut KeptText,
     file: &mut [u8],
-) -> u32 {
+) -> u32
+    ensures found { result ≡ 0 → FindsJson lines.now found.new file.new }
+    ensures kept { (result ≡ 0 → ⊥) → (found.new ≡ found.old) × (file.new ≡ file.old) }
+{
     let mut reader = Watched::new(lines);
     match kept_json(alloc, &mut reader) {
         Ok(kept) => {
-            *found = kept_up_to_point(kept.len, kept.resume_point, file);
+            *found = kept_with_name(kept, file);
             OK
         }
         Err(KeptJsonError::Line) => BAD_VALUE,
@@ -86,8 +87,7 @@ pub extern "C" fn cuvragyen_kept_json(
 /// Finds the complete transactions of the feed's text.
 #[unsafe(no_mangle)]
 pub extern "C" fn cuvragyen_kept_text(text: &[u8], found: &mut KeptText)
-    ensures len { found.new.len ≡ (kept_of text.now).0 }
-    ensures position { IfSome (kept_of text.now).1 (λ position. (found.new.has_position ≡ true) × (found.new.position ≡ position)) }
+    ensures { HasPosition found.new (kept_of text.now).0 (kept_of text.now).1 }
 {
     let (len, position) = kept(text);
     *found = kept_up_to(len as u64, position);

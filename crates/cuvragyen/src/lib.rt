@@ -4,6 +4,8 @@
 mod checksums;
 mod kept;
 mod logs;
+mod numbers;
+mod parts;
 mod requests;
 mod verdicts;
 

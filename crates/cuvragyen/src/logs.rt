@@ -1,33 +1,14 @@
 //! Logs that arrive in pieces.
 
-ghost use Rattle.std.specs.Prelude.{◌≡◌, None, Some};
-ghost use Rattle.library_log.specs.declared.read_log.ReadLog.{ReadLog as TheLog};
-ghost use Rattle.cuvragyen.specs.Exports.{IsHarmless, GoesOn};
+ghost use Rattle.std.specs.Prelude.{◌≡◌, IfSome, None, Some};
+ghost use Rattle.cuvragyen.specs.Exports.{GoesOn, HasHeader, IsHarmless, Keeps, OnLog, RepresentsStop, Shows, Stops, open_log};
 
-use crate::verdicts::number_of;
-use c_handles::{View, view_of};
+use crate::numbers::{CLOSED, OK, TRANSACTION, number_of, number_of_done, number_of_next};
+use c_handles::{Handle, View, view_of};
 use feed_change_log::Stop;
-use library_log::{LogHandle, Next, OptionsFault, ReadLog, SharedState, StateHandle};
+use library_log::Part;
 use std::alloc::Global;
 use std::mem::replace;
-
-/// Done; more bytes are wanted; or there is no transaction.
-const OK: u32 = 0;
-
-/// There is a transaction.
-const TRANSACTION: u32 = 1;
-
-/// The handle is closed.
-const CLOSED: u32 = 2;
-
-/// There is no option of this name.
-const BAD_OPTION: u32 = 3;
-
-/// A value isn't one of its option's.
-const BAD_VALUE: u32 = 4;
-
-/// Out of memory.
-const MEMORY: u32 = 118;
 
 /// The header of the event that committed a transaction.
 #[repr(C)]
@@ -68,109 +49,67 @@ pub struct LogStop {
     pub is_cut: bool,
 }
 
-/// Reads the options of a log that is to be opened.
-#[unsafe(no_mangle)]
-pub extern "C" fn cuvragyen_state_open(
-    alloc: Global,
-    state: &mut StateHandle,
-    options: &'static [u8],
-) -> u32 {
-    let made = match SharedState::new(alloc, options) {
-        Ok(made) => made,
-        Err(OptionsFault::Name) => return BAD_OPTION,
-        Err(OptionsFault::Value) => return BAD_VALUE,
-        Err(OptionsFault::Memory) => return MEMORY,
-    };
-    let Ok(made) = Box::new(alloc, made) else {
-        return MEMORY;
-    };
-    drop(replace(state, StateHandle::open(made)));
-    OK
-}
-
-/// Frees what a log borrowed.
-#[unsafe(no_mangle)]
-pub extern "C" fn cuvragyen_state_close(alloc: Global, state: &mut StateHandle)
-    ensures { state.new.value ≡ None }
+/// Keeps the next bytes of a part's log.
+fn push_to(part: &mut Part<'static>, bytes: &[u8]) -> u32
+    ensures closed { IsHarmless (Some part.old) (Some part.new) result }
+    ensures keeps { OnLog (Some part.old) (Some part.new) (λ s t. Keeps s t bytes.now result) }
 {
-    drop(replace(state, StateHandle::closed(alloc)));
-}
-
-/// Opens a log that borrows a state for good, and leaves the state's handle closed.
-#[unsafe(no_mangle)]
-pub extern "C" fn cuvragyen_log_open(
-    alloc: Global,
-    log: &mut LogHandle,
-    state: &mut StateHandle,
-) -> u32
-    ensures { state.new.value ≡ None }
-{
-    let Some(state) = replace(state, StateHandle::closed(alloc)).into_box() else {
-        return CLOSED;
-    };
-    let Ok(made) = ReadLog::new(alloc, Box::leak(state)) else {
-        return MEMORY;
-    };
-    let Ok(made) = Box::new(alloc, made) else {
-        return MEMORY;
-    };
-    drop(replace(log, LogHandle::open(made)));
-    OK
-}
-
-/// Closes a log.
-#[unsafe(no_mangle)]
-pub extern "C" fn cuvragyen_log_close(alloc: Global, log: &mut LogHandle)
-    ensures { log.new.value ≡ None }
-{
-    drop(replace(log, LogHandle::closed(alloc)));
+    match part {
+        Part::Log(log) => number_of_done(log.push(bytes)),
+        Part::State(_) => CLOSED,
+    }
 }
 
 /// Keeps the next bytes of a log.
 #[unsafe(no_mangle)]
-pub extern "C" fn cuvragyen_push(alloc: Global, log: &mut LogHandle, bytes: &[u8]) -> u32
+pub extern "C" fn cuvragyen_push(alloc: Global, log: &mut Handle, bytes: &[u8]) -> u32
     ensures closed { IsHarmless log.old.value log.new.value result }
+    ensures keeps { OnLog log.old.value log.new.value (λ s t. Keeps s t bytes.now result) }
 {
-    let Some(mut state) = replace(log, LogHandle::closed(alloc)).into_box() else {
+    let Some(mut part) = replace(log, Handle::closed(alloc)).into_part() else {
         return CLOSED;
     };
-    let pushed = state.push(bytes);
-    drop(replace(log, LogHandle::open(state)));
-    match pushed {
-        Ok(()) => OK,
-        Err(verdict) => number_of(verdict),
+    let result = push_to(&mut part, bytes);
+    drop(replace(log, Handle::open(part)));
+    result
+}
+
+/// Goes on to the next transaction of a part's log.
+fn advance_in(part: &mut Part<'static>) -> u32
+    ensures closed { IsHarmless (Some part.old) (Some part.new) result }
+    ensures next { OnLog (Some part.old) (Some part.new) (λ s t. GoesOn s t result) }
+{
+    match part {
+        Part::Log(log) => number_of_next(log.advance()),
+        Part::State(_) => CLOSED,
     }
 }
 
 /// Goes on to the next transaction.
 #[unsafe(no_mangle)]
-pub extern "C" fn cuvragyen_next(alloc: Global, log: &mut LogHandle) -> u32
+pub extern "C" fn cuvragyen_next(alloc: Global, log: &mut Handle) -> u32
     ensures closed { IsHarmless log.old.value log.new.value result }
-    ensures next { (s : TheLog) → log.old.value ≡ Some s → GoesOn s log.new.value result }
+    ensures next { OnLog log.old.value log.new.value (λ s t. GoesOn s t result) }
 {
-    let Some(mut state) = replace(log, LogHandle::closed(alloc)).into_box() else {
+    let Some(mut part) = replace(log, Handle::closed(alloc)).into_part() else {
         return CLOSED;
     };
-    let next = state.advance();
-    drop(replace(log, LogHandle::open(state)));
-    match next {
-        Ok(Next::WantsMore) => OK,
-        Ok(Next::Transaction) => TRANSACTION,
-        Err(verdict) => number_of(verdict),
-    }
+    let result = advance_in(&mut part);
+    drop(replace(log, Handle::open(part)));
+    result
 }
 
-/// Makes what is shown of the newest transaction, and says where it is: there until the next call that gets the handle.
-#[unsafe(no_mangle)]
-pub extern "C" fn cuvragyen_show(alloc: Global, log: &mut LogHandle, shown: &mut View) -> u32
-    ensures closed { IsHarmless log.old.value log.new.value result }
+/// Makes the lines of the newest transaction of a part's log, and says where they are.
+fn show_of(part: &mut Part<'static>, shown: &mut View) -> u32
+    ensures closed { IsHarmless (Some part.old) (Some part.new) result }
+    ensures shows { OnLog (Some part.old) (Some part.new) (λ s t. Shows s t shown.old shown.new result) }
 {
-    let Some(mut state) = replace(log, LogHandle::closed(alloc)).into_box() else {
+    let Part::Log(log) = part else {
         return CLOSED;
     };
-    let result = match state.show() {
+    match log.show() {
         Ok(true) => {
-            *shown = view_of(state.shown());
+            *shown = view_of(log.shown());
             TRANSACTION
         }
         Ok(false) => {
@@ -178,26 +117,32 @@ pub extern "C" fn cuvragyen_show(alloc: Global, log: &mut LogHandle, shown: &mut
             OK
         }
         Err(verdict) => number_of(verdict),
+    }
+}
+
+/// Makes the lines of the newest transaction, and says where they are: there until the next call that gets the handle.
+#[unsafe(no_mangle)]
+pub extern "C" fn cuvragyen_show(alloc: Global, log: &mut Handle, shown: &mut View) -> u32
+    ensures closed { IsHarmless log.old.value log.new.value result }
+    ensures shows { OnLog log.old.value log.new.value (λ s t. Shows s t shown.old shown.new result) }
+{
+    let Some(mut part) = replace(log, Handle::closed(alloc)).into_part() else {
+        return CLOSED;
     };
-    drop(replace(log, LogHandle::open(state)));
+    let result = show_of(&mut part, shown);
+    drop(replace(log, Handle::open(part)));
     result
 }
 
-/// Says by which event the newest transaction was committed.
-#[unsafe(no_mangle)]
-pub extern "C" fn cuvragyen_commit(
-    alloc: Global,
-    log: &mut LogHandle,
-    commit: &mut LogHeader,
-) -> u32
-    ensures closed { IsHarmless log.old.value log.new.value result }
+/// Says by which event the newest transaction of a part's log was committed.
+fn commit_of(part: &Part<'static>, commit: &mut LogHeader) -> u32
+    ensures closed { open_log (Some part.now) ≡ None → result ≡ 2 }
+    ensures commit { IfSome (open_log (Some part.now)) (λ s. HasHeader s commit.old commit.new result) }
 {
-    let Some(state) = replace(log, LogHandle::closed(alloc)).into_box() else {
+    let Part::Log(log) = part else {
         return CLOSED;
     };
-    let header = state.commit_header();
-    drop(replace(log, LogHandle::open(state)));
-    let Some(header) = header else {
+    let Some(header) = log.commit_header() else {
         return OK;
     };
     *commit = LogHeader {
@@ -208,8 +153,25 @@ pub extern "C" fn cuvragyen_commit(
     TRANSACTION
 }
 
+/// Says by which event the newest transaction was committed.
+#[unsafe(no_mangle)]
+pub extern "C" fn cuvragyen_commit(alloc: Global, log: &mut Handle, commit: &mut LogHeader) -> u32
+    ensures closed { IsHarmless log.old.value log.new.value result }
+    ensures commit { IfSome (open_log log.old.value) (λ s. HasHeader s commit.old commit.new result) }
+    ensures kept { log.new.value ≡ log.old.value }
+{
+    let Some(part) = replace(log, Handle::closed(alloc)).into_part() else {
+        return CLOSED;
+    };
+    let result = commit_of(&part, commit);
+    drop(replace(log, Handle::open(part)));
+    result
+}
+
 /// How a log ended, for C.
-fn stop_of(stop: Stop) -> LogStop {
+fn stop_of(stop: Stop) -> LogStop
+    ensures { RepresentsStop result stop }
+{
     LogStop {
         offset: stop.offset,
         remaining: stop.remaining as u64,
@@ -235,16 +197,28 @@ fn stop_of(stop: Stop) -> LogStop {
     }
 }
 
-/// Ends a log, and says how it ended.
-#[unsafe(no_mangle)]
-pub extern "C" fn cuvragyen_stop(alloc: Global, log: &mut LogHandle, stop: &mut LogStop) -> u32
-    ensures closed { IsHarmless log.old.value log.new.value result }
+/// Ends a part's log, and says how it ended.
+fn stop_in(part: &mut Part<'static>, stop: &mut LogStop) -> u32
+    ensures closed { IsHarmless (Some part.old) (Some part.new) result }
+    ensures stops { OnLog (Some part.old) (Some part.new) (λ s t. Stops s t stop.new result) }
 {
-    let Some(mut state) = replace(log, LogHandle::closed(alloc)).into_box() else {
+    let Part::Log(log) = part else {
         return CLOSED;
     };
-    let ended = state.finish();
-    drop(replace(log, LogHandle::open(state)));
-    *stop = stop_of(ended);
+    *stop = stop_of(log.finish());
     OK
+}
+
+/// Ends a log, and says how it ended.
+#[unsafe(no_mangle)]
+pub extern "C" fn cuvragyen_stop(alloc: Global, log: &mut Handle, stop: &mut LogStop) -> u32
+    ensures closed { IsHarmless log.old.value log.new.value result }
+    ensures stops { OnLog log.old.value log.new.value (λ s t. Stops s t stop.new result) }
+{
+    let Some(mut part) = replace(log, Handle::closed(alloc)).into_part() else {
+        return CLOSED;
+    };
+    let result = stop_in(&mut part, stop);
+    drop(replace(log, Handle::open(part)));
+    result
 }

@@ -1,42 +1,18 @@
-//! The numbers of verdicts.
+//! The names of verdicts.
 
-ghost use Rattle.std.specs.Prelude.{◌≡◌};
+ghost use Rattle.std.specs.Prelude.{◌≡◌, ⊥, length, IfSome, IfNone};
+ghost use Rattle.feed_checks.specs.Verdicts.{verdict_name};
+ghost use Rattle.feed_checks.specs.declared.verdict.Verdict.{Verdict as TheVerdict};
 ghost use Rattle.cuvragyen.specs.VerdictNumbers.{verdict_number};
 
 use c_handles::{View, view_of};
 use feed_checks::{Verdict, name_of};
 
-/// The number of a verdict, as the constants `CUVRAGYEN_...` of the header have it.
-pub(crate) fn number_of(verdict: Verdict) -> u32
-    ensures { result ≡ verdict_number verdict }
-{
-    match verdict {
-        Verdict::End => 100,
-        Verdict::Closed => 101,
-        Verdict::Mark => 102,
-        Verdict::TooLarge => 103,
-        Verdict::OutOfNumber => 104,
-        Verdict::ServerError => 105,
-        Verdict::NotAnEvent => 106,
-        Verdict::Frame => 107,
-        Verdict::Algorithm => 108,
-        Verdict::Checksum => 109,
-        Verdict::Size => 110,
-        Verdict::Body => 111,
-        Verdict::NoTableMap => 112,
-        Verdict::Row => 113,
-        Verdict::Outside => 114,
-        Verdict::Inside => 115,
-        Verdict::Unshown => 116,
-        Verdict::UnknownKind => 117,
-        Verdict::Memory => 118,
-        Verdict::Read => 119,
-        Verdict::Write => 120,
-    }
-}
-
 /// The verdict of a number; None for another number.
-fn verdict_of(number: u32) -> Option<Verdict> {
+fn verdict_of(number: u32) -> Option<Verdict>
+    ensures some { IfSome result (λ v. number ≡ verdict_number v) }
+    ensures none { IfNone result ((v : TheVerdict) → number ≡ verdict_number v → ⊥) }
+{
     let verdict = match number {
         100 => Verdict::End,
         101 => Verdict::Closed,
@@ -66,7 +42,10 @@ fn verdict_of(number: u32) -> Option<Verdict> {
 
 /// Says where the name of a verdict is; of another number, where no bytes are.
 #[unsafe(no_mangle)]
-pub extern "C" fn cuvragyen_verdict_name(number: u32, name: &mut View) {
+pub extern "C" fn cuvragyen_verdict_name(number: u32, name: &mut View)
+    ensures some { (v : TheVerdict) → number ≡ verdict_number v → name.new.len ≡ length (verdict_name v) }
+    ensures none { ((v : TheVerdict) → number ≡ verdict_number v → ⊥) → name.new.len ≡ 0 }
+{
     *name = match verdict_of(number) {
         Some(verdict) => view_of(name_of(&verdict).as_bytes()),
         None => view_of(&[]),

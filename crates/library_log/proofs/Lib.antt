@@ -1,2 +1,0 @@
-mod LogValues
-mod StateValues

@@ -1,3 +1,3 @@
-pub mod KeptTransactions
+pub mod MagicNumberPieces
 pub mod ShownTransactions
 pub mod ReadLogs

@@ -32,8 +32,6 @@ pub struct LogOptions<'t> {
     pub file: &'t [u8],
     /// Whether a line is a transaction, and not a changed row or a statement.
     pub by_transaction: bool,
-    /// Whether transactions are shown as records, and not as JSON lines.
-    pub has_records: bool,
     /// The character set of columns whose character set isn't in the log.
     pub character_set: Option<CharacterSet>,
     /// Whether the numbers of BIGINT columns are shown as strings.
@@ -97,12 +95,11 @@ fn add_table<'t>(
 }
 
 impl<'t> LogOptions<'t> {
-    /// All transactions of a log without a name, as JSON lines.
+    /// All transactions of a log without a name.
     fn usual(alloc: Global) -> LogOptions<'t> {
         LogOptions {
             file: &[],
             by_transaction: false,
-            has_records: false,
             character_set: None,
             quotes_numbers: false,
             added: AddedMembers::NONE,
@@ -119,7 +116,7 @@ impl<'t> LogOptions<'t> {
         }
     }
 
-    /// The options in a text: a line for each, a name, `=` and a value. Without `output` they are for JSON lines.
+    /// The options in a text: a line for each, a name, `=` and a value.
     ///
     /// - `Name`: there is no option of a line's name.
     /// - `Value`: a value isn't one of its option's.
@@ -138,9 +135,6 @@ impl<'t> LogOptions<'t> {
         if name == b"file".as_slice() {
             self.file = value;
             return Ok(());
-        }
-        if name == b"output".as_slice() {
-            return self.set_output(value);
         }
         if name == b"with".as_slice() {
             return self.add_member(value);
@@ -161,15 +155,6 @@ impl<'t> LogOptions<'t> {
             return Ok(());
         }
         self.add_name(name, value)
-    }
-
-    /// Sets what transactions are shown as.
-    fn set_output(&mut self, value: &[u8]) -> Result<(), OptionsFault> {
-        self.has_records = value == b"records".as_slice();
-        if !self.has_records && value != b"json".as_slice() {
-            return Err(OptionsFault::Value);
-        }
-        Ok(())
     }
 
     /// Sets a flag, whose value is `1` or `0`. Returns whether it is one.

@@ -31,11 +31,11 @@ use Rattle.std.specs.contracts.impls.GlobalAllocator.TheImpl.{ghosts}
 use Rattle.std_alloc.proofs.ResultValues.{and_tt}
 use Rattle.std.proofs.raw_atomic.Walks.{proved_at, leaves}
 use Rattle.c_handles.proofs.Values.{both, Loose, loose_good, loose_in}
-use Rattle.library_log.proofs.StateValues.{S, F, Z, handle_good, handle_out, either_held}
-use Rattle.library_log.specs.contracts.state_handle.StateHandle.into_loose.{ended, clauses}
-use Rattle.library_log.specs.contracts.state_handle.StateHandle.into_loose.Key.{name as #self}
-use Rattle.library_log.proofs.state_handle.StateHandle.into_loose.Statement.{statement}
-use Rattle.library_log.proofs.state_handle.StateHandle.into_loose.Code as code
+use Rattle.c_handles.proofs.HandleValues.{S, F, Z, handle_good, handle_out, either_held}
+use Rattle.c_handles.specs.contracts.handle.Handle.into_loose.{ended, clauses}
+use Rattle.c_handles.specs.contracts.handle.Handle.into_loose.Key.{name as #self}
+use Rattle.c_handles.proofs.handle.Handle.into_loose.Statement.{statement}
+use Rattle.c_handles.proofs.handle.Handle.into_loose.Code as code
 
 pub into_loose_spec : {M : Type 1} → statement M
 into_loose_spec 𝓤 𝓛 𝓜 𝓡 wired =

@@ -22,11 +22,11 @@ use Rattle.std.proofs.alloc.Global.TheLaws as heap_laws
 use Rattle.std.specs.contracts.impls.GlobalAllocator.TheImpl.{ghosts}
 use Rattle.std.proofs.raw_atomic.Walks.{proved_at, leaves}
 use Rattle.c_handles.proofs.Values.{both, Loose, loose_good, loose_out}
-use Rattle.library_log.proofs.StateValues.{S, F, Z, handle_good, handle_in}
-use Rattle.library_log.specs.contracts.state_handle.StateHandle.of.{ended, clauses}
-use Rattle.library_log.specs.contracts.state_handle.StateHandle.of.Key.{name as #self}
-use Rattle.library_log.proofs.state_handle.StateHandle.of.Statement.{statement}
-use Rattle.library_log.proofs.state_handle.StateHandle.of.Code as code
+use Rattle.c_handles.proofs.HandleValues.{S, F, Z, handle_good, handle_in}
+use Rattle.c_handles.specs.contracts.handle.Handle.of.{ended, clauses}
+use Rattle.c_handles.specs.contracts.handle.Handle.of.Key.{name as #self}
+use Rattle.c_handles.proofs.handle.Handle.of.Statement.{statement}
+use Rattle.c_handles.proofs.handle.Handle.of.Code as code
 
 pub of_spec : {M : Type 1} → statement M
 of_spec 𝓤 𝓛 𝓜 𝓡 wired =

@@ -24,11 +24,11 @@ use Rattle.core.proofs.cell.Inside.{one}
 use Rattle.std.proofs.alloc.Global.TheLaws as heap_laws
 use Rattle.std.proofs.raw_atomic.Walks.{proved_at, leaves}
 use Rattle.c_handles.proofs.Values.{both}
-use Rattle.library_log.proofs.StateValues.{S, F, Z, handle_good, handle_in}
-use Rattle.library_log.specs.contracts.state_handle.StateHandle.closed.{ended, clauses}
-use Rattle.library_log.specs.contracts.state_handle.StateHandle.closed.Key.{name as #self}
-use Rattle.library_log.proofs.state_handle.StateHandle.closed.Statement.{statement}
-use Rattle.library_log.proofs.state_handle.StateHandle.closed.Code as code
+use Rattle.c_handles.proofs.HandleValues.{S, F, Z, handle_good, handle_in}
+use Rattle.c_handles.specs.contracts.handle.Handle.closed.{ended, clauses}
+use Rattle.c_handles.specs.contracts.handle.Handle.closed.Key.{name as #self}
+use Rattle.c_handles.proofs.handle.Handle.closed.Statement.{statement}
+use Rattle.c_handles.proofs.handle.Handle.closed.Code as code
 
 pub closed_spec : {M : Type 1} → statement M
 closed_spec 𝓤 𝓛 𝓜 𝓡 wired =
