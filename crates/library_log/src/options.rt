@@ -1,6 +1,6 @@
 //! What is read of a log, and how it is shown.
 
-use crate::option_text::{OptionLines, parts_of};
+use crate::option_text::{is_line_feed, option_in, parts_of};
 use changes_character_sets::CharacterSet;
 use changes_origins::AddedMembers;
 use changes_tables::{Shown, TableOptions};
@@ -123,9 +123,11 @@ impl<'t> LogOptions<'t> {
     /// - `Memory`: out of memory.
     pub fn of(alloc: Global, text: &'t [u8]) -> Result<LogOptions<'t>, OptionsFault> {
         let mut options = LogOptions::usual(alloc);
-        let mut lines = OptionLines::of(text);
-        while let Some((name, value)) = lines.next_option() {
-            options.set(name, value)?;
+        for line in text.split(is_line_feed) {
+            if !line.is_empty() {
+                let (name, value) = option_in(line);
+                options.set(name, value)?;
+            }
         }
         Ok(options)
     }
