@@ -11,9 +11,8 @@ struct part {
 };
 
 uint32_t cuvragyen_state_open(struct part *state, const uint8_t *options, size_t len);
-void cuvragyen_state_close(struct part *state);
 uint32_t cuvragyen_log_open(struct part *log, struct part *state);
-void cuvragyen_log_close(struct part *log);
+void cuvragyen_part_close(struct part *part);
 
 const char *cuvragyen_version(void) {
     return CUVRAGYEN_VERSION;
@@ -35,7 +34,7 @@ uint32_t cuvragyen_open(cuvragyen *log, const char *options, size_t len) {
         result = cuvragyen_log_open(&made, &state);
     }
     if (result != CUVRAGYEN_OK) {
-        cuvragyen_state_close(&kept);
+        cuvragyen_part_close(&kept);
         free(text);
         return result;
     }
@@ -47,8 +46,8 @@ uint32_t cuvragyen_open(cuvragyen *log, const char *options, size_t len) {
 
 void cuvragyen_close(cuvragyen *log) {
     struct part made = {log->log}, state = {log->state};
-    cuvragyen_log_close(&made);
-    cuvragyen_state_close(&state);
+    cuvragyen_part_close(&made);
+    cuvragyen_part_close(&state);
     free(log->options);
     *log = (cuvragyen)CUVRAGYEN_CLOSED;
 }

@@ -1,6 +1,6 @@
 /* cuvragyen.h: the committed changes of MySQL's binary logs, for C and every language that calls C.
 
-   A log arrives in pieces of any lengths, and each transaction can be taken once its commit has arrived, as JSON lines or as a record:
+   A log arrives in pieces of any lengths, and each transaction can be taken once its commit has arrived, as JSON lines:
 
        cuvragyen log = CUVRAGYEN_CLOSED;
        cuvragyen_view lines;
@@ -89,7 +89,6 @@ const char *cuvragyen_version(void);
 
    options are len bytes: a line for each option, NAME=VALUE, as the program binlog-changes has them. The last line needs no line feed.
        file=NAME                 the name of the log, for the member "file" of JSON lines
-       output=json | records     JSON lines, the usual; or records (docs/library/RECORDS.md)
        transactions=1            a JSON line for each transaction, and not for each row
        with=NAME                 a member more: begin, ts_ms, xid, thread_id, query, row, all; several lines
        numbers-as-strings=1      the numbers of BIGINT columns as strings
@@ -119,8 +118,8 @@ uint32_t cuvragyen_push(cuvragyen *log, const uint8_t *bytes, size_t len);
    the log's first fault, now and at each later call. */
 uint32_t cuvragyen_next(cuvragyen *log);
 
-/* Says where the newest transaction is, as JSON lines or as a record: bytes that are valid until the next call that gets the handle, but
-   for cuvragyen_commit.
+/* Makes the JSON lines of the newest transaction, and says where they are: bytes that are valid until the next call that gets the
+   handle, but for cuvragyen_commit.
 
    CUVRAGYEN_TRANSACTION; CUVRAGYEN_OK if there is no transaction: of no bytes; CUVRAGYEN_CLOSED_HANDLE, and the view is unchanged; or
    CUVRAGYEN_MEMORY, which ends the log. */

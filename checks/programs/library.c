@@ -1,7 +1,6 @@
 /* Tries libcuvragyen from C, for checks/programs/library.
 
    library lines FILE SEED OPTIONS: prints JSON lines of a log that is pushed in pieces of random lengths, or of one byte if SEED is 1.
-   library records FILE: reads each record by its format, and prints how many rows and cells it has.
    library misuse FILE: makes calls that a careful program doesn't.
    library threads FILE: 8 threads read the log, and one handle goes from thread to thread; prints nothing if all find the same.
    library refused FILE OPTIONS: each allocation fails in turn; prints how many runs there were. A log then shows
@@ -132,69 +131,6 @@ static struct result read_log(struct bytes all, unsigned seed, const char *optio
     return found;
 }
 
-static uint32_t u32(const uint8_t **at) {
-    uint32_t number = (*at)[0] | (*at)[1] << 8 | (*at)[2] << 16 | (uint32_t)(*at)[3] << 24;
-    *at += 4;
-    return number;
-}
-
-static void pass(const uint8_t **at, const uint8_t *end) {
-    uint32_t len = u32(at);
-    expect(len <= (size_t)(end - *at), "a length in a record is too large");
-    *at += len;
-}
-
-static void read_record(cuvragyen_view record, unsigned long *rows, unsigned long *cells) {
-    static const int widths[] = {0, 8, 8, 4, 8};
-    const uint8_t *at = record.at + 12, *end = record.at + record.len;
-    pass(&at, end);
-    while (at < end) {
-        uint8_t tag = *at++;
-        if (tag < 8) {
-            at += 4;
-            ++*cells;
-            if (tag < 5) {
-                at += widths[tag];
-            } else {
-                pass(&at, end);
-            }
-        } else if (tag == 'T') {
-            pass(&at, end);
-            pass(&at, end);
-            for (uint32_t left = u32(&at); left > 0; left--) {
-                pass(&at, end);
-            }
-        } else if (tag == 'S') {
-            at += 8;
-            pass(&at, end);
-            pass(&at, end);
-        } else if (tag == 'I' || tag == 'U' || tag == 'D') {
-            at += 8;
-        } else if (tag == 'r') {
-            ++*rows;
-        } else if (tag == 'E') {
-            break;
-        } else {
-            expect(tag == 'a' || tag == 'b', "a part of a record is unknown");
-        }
-    }
-    expect(at == end, "a record doesn't end where its parts do");
-}
-
-static void records(struct bytes all) {
-    unsigned long rows = 0, cells = 0;
-    cuvragyen log = CUVRAGYEN_CLOSED;
-    expect(cuvragyen_open(&log, "output=records", 14) == CUVRAGYEN_OK, "no log");
-    cuvragyen_push(&log, all.at, all.len);
-    while (cuvragyen_next(&log) == CUVRAGYEN_TRANSACTION) {
-        cuvragyen_view record;
-        expect(cuvragyen_show(&log, &record) == CUVRAGYEN_TRANSACTION, "no record");
-        read_record(record, &rows, &cells);
-    }
-    cuvragyen_close(&log);
-    printf("%lu %lu\n", rows, cells);
-}
-
 /* Calls on a handle that is closed. */
 static void while_closed(cuvragyen *log) {
     uint8_t byte[1] = {0xfe};
@@ -310,12 +246,10 @@ static void refused(struct bytes all, const char *options) {
 }
 
 int main(int argc, char **argv) {
-    expect(argc > 2, "library lines | records | misuse | threads | refused FILE ..");
+    expect(argc > 2, "library lines | misuse | threads | refused FILE ..");
     struct bytes all = read_all(argv[2]);
     if (!strcmp(argv[1], "lines")) {
         read_log(all, strtoul(argv[3], NULL, 10), argv[4], stdout);
-    } else if (!strcmp(argv[1], "records")) {
-        records(all);
     } else if (!strcmp(argv[1], "misuse")) {
         misuse(all);
     } else if (!strcmp(argv[1], "threads")) {

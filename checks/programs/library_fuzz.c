@@ -3,7 +3,7 @@
 #include <stdlib.h>
 #include <string.h>
 
-static const char *const OPTIONS[] = {"", "output=records", "transactions=1\nwith=all", "table=shop.*\nmax-transaction=100000"};
+static const char *const OPTIONS[] = {"", "transactions=1\nwith=all", "table=shop.*\nmax-transaction=100000"};
 
 struct found {
     uint64_t sum, transactions;
@@ -39,7 +39,7 @@ int LLVMFuzzerTestOneInput(const uint8_t *bytes, size_t len) {
     if (len < 2) {
         return 0;
     }
-    const char *options = OPTIONS[bytes[0] % 4];
+    const char *options = OPTIONS[bytes[0] % 3];
     size_t piece_len = 1 + bytes[1];
     struct found whole = read_log(bytes + 2, len - 2, len, options), pieces = read_log(bytes + 2, len - 2, piece_len, options);
     if (whole.sum != pieces.sum || whole.transactions != pieces.transactions || whole.end.verdict != pieces.end.verdict ||

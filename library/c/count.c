@@ -5,7 +5,7 @@
 static int count(const char *path) {
     FILE *file = fopen(path, "rb");
     cuvragyen log = CUVRAGYEN_CLOSED;
-    if (!file || cuvragyen_open(&log, "output=records", 14) != CUVRAGYEN_OK) {
+    if (!file || cuvragyen_open(&log, "", 0) != CUVRAGYEN_OK) {
         fprintf(stderr, "count: %s can't be opened\n", path);
         return 3;
     }

@@ -1,8 +1,7 @@
 -- What the calls of library/cuvragyen.h do with the log of a handle: the clauses of the library once more.
-use Rattle.std.specs.Prelude.{◌≡◌, ⊤, ⊥, ℕ, Bool, true, false, List, [], length, Option, Some, None, Result, Ok, Err, IfOk, IfErr, IfSome, IfNone, OnOk, OnErr, IsSome, is_some, unwrap_or, if◌then◌else◌}
+use Rattle.std.specs.Prelude.{◌≡◌, ⊤, ℕ, Bool, true, false, List, [], length, Option, Some, None, Result, Ok, Err, IfOk, IfErr, IfSome, IfNone, OnOk, OnErr, IsSome, is_some, unwrap_or, if◌then◌else◌}
 use Rattle.c_handles.specs.declared.view.View.{View}
-use Rattle.events_frames.specs.Headers.{Header, event_header_of}
-use Rattle.events_frames.specs.declared.header.BinlogEventHeader.{BinlogEventHeader}
+use Rattle.events_frames.specs.Headers.{event_header_of}
 use Rattle.feed_checks.specs.EventFields.{Event}
 use Rattle.feed_checks.specs.declared.verdict.Verdict.{Verdict}
 use Rattle.feed_checks.specs.declared.verdict.Verdict.TheVariants.{Memory}

@@ -2,10 +2,12 @@
 use Rattle.std.specs.Prelude.{⊤, ℕ, Bool, true, false, Result, Ok, Err}
 use Rattle.feed_checks.specs.declared.verdict.Verdict.{Verdict}
 use Rattle.feed_checks.specs.declared.verdict.Verdict.TheVariants as v
+use Rattle.library_log.specs.declared.options.OptionsFault.{OptionsFault}
+use Rattle.library_log.specs.declared.options.OptionsFault.TheVariants as faults
 use Rattle.library_log.specs.declared.read_log.Next.{Next}
 use Rattle.library_log.specs.declared.read_log.Next.TheVariants.{Transaction, WantsMore}
 
-pub verdict_number : Verdict → ℕ
+abbrev pub verdict_number : Verdict → ℕ
 verdict_number v.End = 100
 verdict_number v.Closed = 101
 verdict_number v.Mark = 102
@@ -44,3 +46,9 @@ abbrev pub shown_number : Result Bool Verdict → ℕ
 shown_number (Ok false) = 0
 shown_number (Ok true) = 1
 shown_number (Err v) = verdict_number v
+
+-- what a call returns whose options can't be taken
+abbrev pub fault_number : OptionsFault → ℕ
+fault_number faults.Name = 3
+fault_number faults.Value = 4
+fault_number faults.Memory = 118

@@ -1,12 +1,12 @@
 //! The complete transactions of truncated output.
 
-ghost use Rattle.std.specs.Prelude.{◌≡◌, ⊥, ℕ, List, length, min, take};
+ghost use Rattle.std.specs.Prelude.{◌≡◌, ℕ, List, length, min, take};
 ghost use Rattle.changes_resume.specs.FoundJson.{IsKeptJson};
 ghost use Rattle.feed_resume.specs.Kept.{kept as kept_of};
 ghost use Rattle.cuvragyen.specs.KeptTexts.{FindsJson, HasPosition};
 
 use crate::numbers::{BAD_VALUE, MEMORY, OK};
-use changes_resume::{KeptJson, KeptJsonError, kept_json};
+use changes_resume::{KeptJson, KeptJsonError, ResumePoint, kept_json};
 use feed_resume::kept;
 use std::alloc::Global;
 use wire_buf::Watched;
@@ -51,14 +51,17 @@ fn put_name(name: &[u8], room: &mut [u8]) -> usize
 fn kept_with_name(found: KeptJson, file: &mut [u8]) -> KeptText
     ensures { (text : List ℕ) → IsKeptJson text found → FindsJson text result file.new }
 {
-    match found.resume_point {
-        Some(point) => KeptText {
-            len: found.len,
-            file_len: put_name(&point.file, file) as u64,
-            position: point.position,
-            has_position: true,
-        },
-        None => kept_up_to(found.len, None),
+    let KeptJson { len, resume_point } = found;
+    let Some(point) = resume_point else {
+        return kept_up_to(len, None);
+    };
+    let ResumePoint { file: name, position } = point;
+    let file_len = put_name(&name, file) as u64;
+    KeptText {
+        len,
+        file_len,
+        position,
+        has_position: true,
     }
 }
 

@@ -1,10 +1,10 @@
 //! The numbers that calls return.
 
 ghost use Rattle.std.specs.Prelude.{◌≡◌};
-ghost use Rattle.cuvragyen.specs.VerdictNumbers.{done_number, next_number, verdict_number};
+ghost use Rattle.cuvragyen.specs.VerdictNumbers.{done_number, fault_number, next_number, verdict_number};
 
 use feed_checks::Verdict;
-use library_log::Next;
+use library_log::{Next, OptionsFault};
 
 /// Done; more bytes are wanted; or there is no transaction.
 pub(crate) const OK: u32 = 0;
@@ -71,5 +71,16 @@ pub(crate) fn number_of_next(next: Result<Next, Verdict>) -> u32
         Ok(Next::WantsMore) => OK,
         Ok(Next::Transaction) => TRANSACTION,
         Err(verdict) => number_of(verdict),
+    }
+}
+
+/// The number of why options can't be taken.
+pub(crate) fn number_of_fault(fault: OptionsFault) -> u32
+    ensures { result ≡ fault_number fault }
+{
+    match fault {
+        OptionsFault::Name => BAD_OPTION,
+        OptionsFault::Value => BAD_VALUE,
+        OptionsFault::Memory => MEMORY,
     }
 }

@@ -1,11 +1,11 @@
 //! Opening and closing: what a log borrows, and the log.
 
-ghost use Rattle.std.specs.Prelude.{◌≡◌, ⊥, None, Some};
+ghost use Rattle.std.specs.Prelude.{◌≡◌, None, Some};
 ghost use Rattle.cuvragyen.specs.Exports.{HasNew, HasState, IsHarmless};
 
-use crate::numbers::{BAD_OPTION, BAD_VALUE, CLOSED, MEMORY, OK};
+use crate::numbers::{CLOSED, MEMORY, OK, number_of_fault};
 use c_handles::Handle;
-use library_log::{OptionsFault, Part, ReadLog, SharedState};
+use library_log::{Part, ReadLog, SharedState};
 use std::alloc::Global;
 use std::mem::replace;
 
@@ -21,11 +21,9 @@ pub extern "C" fn cuvragyen_state_open(
 {
     let made = match SharedState::new(alloc, options) {
         Ok(made) => made,
-        Err(OptionsFault::Name) => return BAD_OPTION,
-        Err(OptionsFault::Value) => return BAD_VALUE,
-        Err(OptionsFault::Memory) => return MEMORY,
+        Err(fault) => return number_of_fault(fault),
     };
-    let Ok(made) = Box::new(alloc, Part::State(made)) else {
+    let Some(made) = Box::new(alloc, Part::State(made)).ok() else {
         return MEMORY;
     };
     drop(replace(state, Handle::open(made)));
@@ -48,7 +46,7 @@ pub extern "C" fn cuvragyen_log_open(alloc: Global, log: &mut Handle, state: &mu
     let Ok(made) = ReadLog::new(alloc, state) else {
         return MEMORY;
     };
-    let Ok(made) = Box::new(alloc, Part::Log(made)) else {
+    let Some(made) = Box::new(alloc, Part::Log(made)).ok() else {
         return MEMORY;
     };
     drop(replace(log, Handle::open(made)));

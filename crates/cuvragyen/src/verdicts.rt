@@ -1,6 +1,6 @@
 //! The names of verdicts.
 
-ghost use Rattle.std.specs.Prelude.{◌≡◌, ⊥, length, IfSome, IfNone};
+ghost use Rattle.std.specs.Prelude.{◌≡◌, length, IfSome, IfNone};
 ghost use Rattle.feed_checks.specs.Verdicts.{verdict_name};
 ghost use Rattle.feed_checks.specs.declared.verdict.Verdict.{Verdict as TheVerdict};
 ghost use Rattle.cuvragyen.specs.VerdictNumbers.{verdict_number};

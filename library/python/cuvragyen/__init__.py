@@ -10,19 +10,12 @@ The library is loaded from the path in CUVRAGYEN_LIBRARY, or as the loader finds
 """
 from ._library import Fault, crc32, kept_json, request, version
 from ._log import End, Header, Log, Transaction, log
-from ._record import Change, Kind, Record, Row, Statement, Table
 
 __all__ = [
-    "Change",
     "End",
     "Fault",
     "Header",
-    "Kind",
     "Log",
-    "Record",
-    "Row",
-    "Statement",
-    "Table",
     "Transaction",
     "crc32",
     "kept_json",

@@ -7,7 +7,6 @@ import os
 from typing import Any, Dict, Iterator, NamedTuple, Optional, Sequence, Union
 
 from . import _library as c
-from ._record import Record
 
 PIECE_LEN = 1 << 18
 Names = Union[str, Sequence[str]]
@@ -54,7 +53,7 @@ class Transaction:
         return Header(header.time, header.server_id, header.position)
 
     def view(self) -> memoryview:
-        """Its JSON lines, or with output="records" its record, without a copy."""
+        """Its JSON lines, without a copy."""
         view = c.View()
         result = c.LIBRARY.cuvragyen_show(self._log._handle, ctypes.byref(view))
         if result == c.TRANSACTION:
@@ -70,10 +69,6 @@ class Transaction:
     def changes(self) -> Iterator[Dict[str, Any]]:
         """Its changes: the objects of its JSON lines."""
         return map(json.loads, self.lines().splitlines())
-
-    def record(self) -> Record:
-        """Its record, with output="records": cells as Python's numbers, text, and memory views of bytes."""
-        return Record(self.view())
 
 
 def _options(file: str, flags: Dict[str, Union[Names, int, bool, None]]) -> bytes:

@@ -14,28 +14,8 @@
 //! assert!(log.stop().is_whole());
 //! # Ok::<(), cuvragyen::Fault>(())
 //! ```
-//!
-//! With the option `output=records` a transaction is a [`Record`], whose changes, rows and cells are borrowed from the log:
-//!
-//! ```
-//! # let bytes = cuvragyen::example_log();
-//! use cuvragyen::{Cell, Log};
-//! let mut log = Log::open("output=records")?;
-//! log.push(&bytes)?;
-//! let mut transaction = log.next()?.expect("the log has a transaction");
-//! let record = transaction.record()?;
-//! let change = record.changes().next().expect("it has a change");
-//! let rows = change.rows().expect("of rows");
-//! assert_eq!(rows.table.name, b"t");
-//! let row = rows.iter().next().expect("one row");
-//! assert_eq!(row.after.expect("that was inserted").cell(0), Some(Cell::Int(5)));
-//! # Ok::<(), cuvragyen::Fault>(())
-//! ```
 
 mod raw;
-mod record;
-
-pub use record::{Cell, Cells, Change, Changes, Image, Item, Items, Kind, Record, Row, Rows, RowsIter, Statement, Table};
 
 use std::ffi::CStr;
 use std::fmt;
@@ -215,7 +195,7 @@ impl Transaction<'_> {
         self.header
     }
 
-    /// Its JSON lines, each with a line feed; with `output=records` the bytes of its record.
+    /// Its JSON lines, each with a line feed.
     pub fn lines(&mut self) -> Result<&[u8], Fault> {
         let mut view = raw::View::EMPTY;
         // SAFETY: the handle is this transaction's log's; the bytes are valid while it is borrowed.
@@ -226,11 +206,6 @@ impl Transaction<'_> {
                 number => Err(Fault(number)),
             }
         }
-    }
-
-    /// Its record, with the option `output=records`.
-    pub fn record(&mut self) -> Result<Record<'_>, Fault> {
-        Ok(Record::of(self.lines()?))
     }
 }
 
