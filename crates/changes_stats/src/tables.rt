@@ -87,7 +87,9 @@ impl TableList {
         }
         for first in 0..count {
             for second in first + 1..count {
-                self.add_pair(self.newest[first], self.newest[second])?;
+                let one = self.newest[first];
+                let other = self.newest[second];
+                self.add_pair(one, other)?;
             }
         }
         Ok(())
