@@ -55,7 +55,10 @@ fn kept_with_name(found: KeptJson, file: &mut [u8]) -> KeptText
     let Some(point) = resume_point else {
         return kept_up_to(len, None);
     };
-    let ResumePoint { file: name, position } = point;
+    let ResumePoint {
+        file: name,
+        position,
+    } = point;
     let file_len = put_name(&name, file) as u64;
     KeptText {
         len,
