@@ -413,11 +413,37 @@ fn program<'a>(alloc: Global, known: KnownProgram) -> Command<'a> {
         .arg_required_else_help(true)
 }
 
-/// The command line of the program.
-pub(crate) fn command<'a>(alloc: Global) -> Result<Command<'a>, AllocError> {
-    let mut command = program(alloc, PROGRAM);
-    for known in &[JSON, CHECK, EVENTS, FOLLOW, PLAIN, SQL, UNDO, STATS] {
+/// Adds commands to a command line.
+fn with_commands<'a>(
+    alloc: Global,
+    command: Command<'a>,
+    commands: &[KnownCommand],
+) -> Result<Command<'a>, AllocError> {
+    let mut command = command;
+    for known in commands {
         command = command.subcommand(subcommand(alloc, *known)?)?;
     }
     Ok(command)
+}
+
+/// Adds the commands that read logs event by event.
+fn with_readers<'a>(alloc: Global, command: Command<'a>) -> Result<Command<'a>, AllocError> {
+    with_commands(alloc, command, &[JSON, CHECK, EVENTS])
+}
+
+/// Adds the commands for a server's answer, and for logs of MariaDB.
+fn with_streams<'a>(alloc: Global, command: Command<'a>) -> Result<Command<'a>, AllocError> {
+    with_commands(alloc, command, &[FOLLOW, PLAIN])
+}
+
+/// Adds the commands that print statements or counts.
+fn with_statements<'a>(alloc: Global, command: Command<'a>) -> Result<Command<'a>, AllocError> {
+    with_commands(alloc, command, &[SQL, UNDO, STATS])
+}
+
+/// The command line of the program.
+pub(crate) fn command<'a>(alloc: Global) -> Result<Command<'a>, AllocError> {
+    let command = with_readers(alloc, program(alloc, PROGRAM))?;
+    let command = with_streams(alloc, command)?;
+    with_statements(alloc, command)
 }

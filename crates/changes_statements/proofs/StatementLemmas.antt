@@ -74,7 +74,7 @@ pub one_item : (item : Item) (columns : List SqlColumn) (cells : Cells) (n : ℕ
     → HasItems item columns cells n first start now → HasItems item columns cells (n + 1) false start new
 one_item item columns cells n column cell first start now mid new column_is cell_is between added h =
     let kept : kept_before (n + 1) columns cells ≡ kept_before n columns cells ++ (column, cell) ∷ [] =
-        kept_push n columns cells ∙ ap (λ (l : List (SqlColumn × CellRef)). kept_before n columns cells ++ l) (λ i. kept_of (column_is i) (cell_is i)) in
+    kept_push n columns cells ∙ ap (λ (l : List (SqlColumn × CellRef)). kept_before n columns cells ++ l) (λ i. kept_of (column_is i) (cell_is i)) in
     record {
       texts = h.texts ++ added.text ∷ [];
       are = subst (λ (l : List (SqlColumn × CellRef)). AllZip (IsKeptItem item) l (h.texts ++ added.text ∷ [])) (sym kept) (zip_push (IsKeptItem item) (kept_before n columns cells) h.texts (column, cell) added.text h.are added.such);
@@ -117,7 +117,7 @@ one_comparison is_key columns cells indexes all n index start now mid new long i
     let first : (n == 0) ≡ is_none texts = ap (λ (k : ℕ). k == 0) (sym long) ∙ no_text (IsComparison is_key columns cells) indexes texts h.such.are in
     let more : mid ≡ now ++ (if is_none texts then [] else codes " AND ") = between ∙ ap (λ (b : Bool). now ++ (if b then [] else codes " AND ")) first in
     let text : separated (codes " AND ") (texts ++ added.text ∷ []) ≡ h.text ++ ((if is_none texts then [] else codes " AND ") ++ added.text) =
-        separated_push (codes " AND ") texts added.text ∙ ap (λ (l : List ℕ). l ++ ((if is_none texts then [] else codes " AND ") ++ added.text)) (sym h.such.text) in
+    separated_push (codes " AND ") texts added.text ∙ ap (λ (l : List ℕ). l ++ ((if is_none texts then [] else codes " AND ") ++ added.text)) (sym h.such.text) in
     record {
       text = separated (codes " AND ") (texts ++ added.text ∷ []);
       such = record {

@@ -95,7 +95,10 @@ fn put_pairs(totals: &Totals, text: &mut Text) {
         if index > 0 {
             text.push(b',');
         }
-        let (Some(one), Some(other)) = (totals.tables.list.get(pair.0), totals.tables.list.get(pair.1)) else {
+        let (Some(one), Some(other)) = (
+            totals.tables.list.get(pair.0),
+            totals.tables.list.get(pair.1),
+        ) else {
             continue;
         };
         text.words("{\"tables\":[");

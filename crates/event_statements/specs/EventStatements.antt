@@ -2,7 +2,8 @@
 use Rattle.std.specs.Prelude.{ℕ, List, [], ◌∷◌, ◌++◌}
 use Rattle.rows_event_body.specs.declared.rows_event_type.RowImages.{RowImages}
 use Rattle.rows_event_body.specs.declared.rows_event_type.RowImages.TheVariants as images
-use Rattle.changes_undo.specs.RowChanges.{RowChange, turned_round}
+use Rattle.changes_undo.specs.RowChanges.{turned_round}
+use Rattle.changes_undo.specs.declared.row_change.RowChange.{RowChange}
 use Rattle.changes_undo.specs.declared.row_change.RowChange.TheVariants.{Inserted, Deleted, Updated}
 use Rattle.changes_statements.specs.RowsOfCells.{Cells}
 use Rattle.changes_statements.specs.SqlStatements.{IsStatement}

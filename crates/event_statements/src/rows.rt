@@ -281,7 +281,15 @@ fn add_taken_row<'a>(
     if taken.is_dry {
         return Ok(());
     }
-    match add_row(table, images, taken.direction, first, second, scratch, texts) {
+    match add_row(
+        table,
+        images,
+        taken.direction,
+        first,
+        second,
+        scratch,
+        texts,
+    ) {
         Ok(()) => Ok(()),
         Err(NoStatement::Memory) => Err(NoStatement::Memory),
         Err(why) if taken.leaves_out => add_comment(why, texts),
