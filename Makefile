@@ -3,8 +3,8 @@ PREFIX ?= /usr/local
 PROGRAMS ?= binlog-feed binlog-kept binlog-changes binlog-capture
 
 help: ## list the targets
-	@sed -n 's/^\([a-z]*\):.*## /\1|/p' Makefile | \
-	  while IFS='|' read -r target text; do printf '  make %-9s %s\n' "$$target" "$$text"; done
+	@sed -n 's/^\([a-z-]*\):.*## /\1|/p' Makefile | \
+	  while IFS='|' read -r target text; do printf '  make %-15s %s\n' "$$target" "$$text"; done
 
 try: ## report a small log without a proof, in half a minute; LOG=FILE reports a log of yours
 	@tools/try $(LOG)
@@ -21,6 +21,12 @@ install: ## prove, build and install PROGRAMS in PREFIX/bin, with their manual p
 uninstall: ## remove what `make install` installed in PREFIX
 	@tools/uninstall $(PREFIX)
 
+library: ## prove and build libcuvragyen, for C, Rust, Python and Java, in out/library
+	@tools/library out/library
+
+install-library: ## prove and build libcuvragyen, and install it in PREFIX
+	@PREFIX=$(PREFIX) tools/library $(PREFIX)
+
 deb: ## prove, build and make a Debian package of all programs, in this folder
 	@tools/deb
 
@@ -36,4 +42,4 @@ docs: ## write the generated pages and drawings anew; LOG=FILE takes the times f
 bench: ## time reports of several kinds of logs; PROGRAM=PATH times that program without proving it first
 	@bench/run $(if $(PROGRAM),--program $(PROGRAM))
 
-.PHONY: help try test quick install uninstall deb edits docs bench
+.PHONY: help try test quick install uninstall library install-library deb edits docs bench

@@ -1,0 +1,262 @@
+/* Tries libcuvragyen from C, for checks/programs/library.
+
+   library lines FILE SEED OPTIONS: prints JSON lines of a log that is pushed in pieces of random lengths, or of one byte if SEED is 1.
+   library misuse FILE: makes calls that a careful program doesn't.
+   library threads FILE: 8 threads read the log, and one handle goes from thread to thread; prints nothing if all find the same.
+   library refused FILE OPTIONS: each allocation fails in turn; prints how many runs there were. A log then shows
+   no other transactions, and ends by Memory, or at an event that others should have replaced, or all is the same in another way. */
+#define _GNU_SOURCE
+#include <cuvragyen.h>
+#include <pthread.h>
+#include <stdio.h>
+#include <stdlib.h>
+#include <string.h>
+
+struct bytes {
+    uint8_t *at;
+    size_t len;
+};
+
+static void fail(const char *what) {
+    fprintf(stderr, "library: %s\n", what);
+    exit(1);
+}
+
+static void expect(int is_met, const char *what) {
+    if (!is_met) {
+        fail(what);
+    }
+}
+
+/* Allocations that fail, and blocks that aren't freed, of this thread. */
+static __thread long until_refused, live, calls;
+
+static int is_refused(void) {
+    calls++;
+    return until_refused > 0 && --until_refused == 0;
+}
+
+void *__real_malloc(size_t size);
+void *__real_realloc(void *block, size_t size);
+void __real_free(void *block);
+
+void *__wrap_malloc(size_t size) {
+    void *block = is_refused() ? NULL : __real_malloc(size);
+    live += block != NULL;
+    return block;
+}
+
+void *__wrap_realloc(void *old, size_t size) {
+    void *block = is_refused() ? NULL : __real_realloc(old, size);
+    live += block && !old;
+    return block;
+}
+
+void __wrap_free(void *block) {
+    live -= block != NULL;
+    __real_free(block);
+}
+
+static struct bytes read_all(const char *path) {
+    FILE *file = fopen(path, "rb");
+    expect(file != NULL, "the log can't be opened");
+    fseek(file, 0, SEEK_END);
+    struct bytes all = {NULL, (size_t)ftell(file)};
+    rewind(file);
+    all.at = __real_malloc(all.len + 1);
+    expect(fread(all.at, 1, all.len, file) == all.len, "the log can't be read");
+    fclose(file);
+    return all;
+}
+
+/* A checksum of all transactions, and how the log ended. */
+struct result {
+    uint64_t sum, transactions, verdict;
+};
+
+/* The checksum of each number of the newest log's transactions. */
+enum { MAX_SUMS = 100000 };
+static uint64_t sums[MAX_SUMS];
+static int keeps_sums;
+
+static size_t piece_len(unsigned *seed, size_t left) {
+    size_t len = *seed == 1 ? 1 : (size_t)rand_r(seed) % 3000;
+    return len < left ? len : left;
+}
+
+static void take_all(cuvragyen *log, struct result *found, FILE *out) {
+    while (cuvragyen_next(log) == CUVRAGYEN_TRANSACTION) {
+        cuvragyen_view shown;
+        uint32_t result = cuvragyen_show(log, &shown);
+        if (result != CUVRAGYEN_TRANSACTION) {
+            return;
+        }
+        found->transactions++;
+        found->sum = found->sum * 31 + cuvragyen_crc32(shown.at, shown.len);
+        if (keeps_sums && found->transactions < MAX_SUMS) {
+            sums[found->transactions] = found->sum;
+        }
+        if (out) {
+            fwrite(shown.at, 1, shown.len, out);
+        }
+    }
+}
+
+/* Reads a log in pieces. Each piece is freed before the next call, so that a checker sees a use of it. */
+static struct result read_log(struct bytes all, unsigned seed, const char *options, FILE *out) {
+    struct result found = {0, 0, 0};
+    cuvragyen log = CUVRAGYEN_CLOSED;
+    uint32_t opened = cuvragyen_open(&log, options, strlen(options));
+    if (opened != CUVRAGYEN_OK) {
+        found.verdict = opened;
+        return found;
+    }
+    size_t at = 0;
+    while (at < all.len) {
+        size_t len = piece_len(&seed, all.len - at);
+        uint8_t *piece = __real_malloc(len + 1);
+        memcpy(piece, all.at + at, len);
+        uint32_t pushed = cuvragyen_push(&log, piece, len);
+        __real_free(piece);
+        if (pushed != CUVRAGYEN_OK) {
+            break;
+        }
+        at += len;
+        take_all(&log, &found, out);
+    }
+    cuvragyen_end end;
+    expect(cuvragyen_stop(&log, &end) == CUVRAGYEN_OK, "an open log can't be stopped");
+    found.verdict = end.verdict;
+    cuvragyen_close(&log);
+    return found;
+}
+
+/* Calls on a handle that is closed. */
+static void while_closed(cuvragyen *log) {
+    uint8_t byte[1] = {0xfe};
+    cuvragyen_view view = {byte, 7};
+    cuvragyen_header header = {1, 2, 3};
+    cuvragyen_end end = {.offset = 9};
+    expect(cuvragyen_push(log, byte, 1) == CUVRAGYEN_CLOSED_HANDLE, "push on a closed handle");
+    expect(cuvragyen_next(log) == CUVRAGYEN_CLOSED_HANDLE, "next on a closed handle");
+    expect(cuvragyen_show(log, &view) == CUVRAGYEN_CLOSED_HANDLE && view.at == byte && view.len == 7, "show on a closed handle");
+    expect(cuvragyen_commit(log, &header) == CUVRAGYEN_CLOSED_HANDLE && header.time == 1, "commit on a closed handle");
+    expect(cuvragyen_stop(log, &end) == CUVRAGYEN_CLOSED_HANDLE && end.offset == 9, "stop on a closed handle");
+    cuvragyen_close(log);
+    cuvragyen_close(log);
+}
+
+static void misuse(struct bytes all) {
+    cuvragyen log = CUVRAGYEN_CLOSED;
+    cuvragyen_view view = {NULL, 0};
+    cuvragyen_header header = {1, 2, 3};
+    cuvragyen_end end;
+    while_closed(&log);
+    expect(cuvragyen_open(&log, "colour=red", 10) == CUVRAGYEN_BAD_OPTION, "an unknown option");
+    expect(cuvragyen_open(&log, "table=orders", 12) == CUVRAGYEN_BAD_VALUE, "a table without a database");
+    expect(cuvragyen_open(&log, "after=x\n", 8) == CUVRAGYEN_BAD_VALUE, "a position that is none");
+    while_closed(&log);
+    expect(cuvragyen_open(&log, "", 0) == CUVRAGYEN_OK, "no options");
+    expect(cuvragyen_open(&log, "", 0) == CUVRAGYEN_OPEN_HANDLE, "an open handle is opened");
+    expect(cuvragyen_next(&log) == CUVRAGYEN_OK, "next before the first piece");
+    expect(cuvragyen_show(&log, &view) == CUVRAGYEN_OK && view.len == 0, "show without a transaction");
+    expect(cuvragyen_commit(&log, &header) == CUVRAGYEN_OK && header.time == 1, "commit without a transaction");
+    expect(cuvragyen_push(&log, all.at, 0) == CUVRAGYEN_OK, "no bytes");
+    expect(cuvragyen_push(&log, (const uint8_t *)"text", 4) == CUVRAGYEN_MARK, "bytes that are no log");
+    expect(cuvragyen_push(&log, all.at, all.len) == CUVRAGYEN_MARK && cuvragyen_next(&log) == CUVRAGYEN_MARK, "calls after a fault");
+    expect(cuvragyen_stop(&log, &end) == CUVRAGYEN_OK && end.verdict == CUVRAGYEN_MARK, "the stop after a fault");
+    cuvragyen moved = log;
+    memset(&log, 0, sizeof log);
+    expect(cuvragyen_next(&moved) == CUVRAGYEN_MARK, "a handle that was moved");
+    cuvragyen_close(&moved);
+    while_closed(&moved);
+    expect(cuvragyen_open(&moved, "", 0) == CUVRAGYEN_OK, "a handle is opened again");
+    expect(cuvragyen_push(&moved, all.at, all.len) == CUVRAGYEN_OK, "the whole log");
+    expect(cuvragyen_stop(&moved, &end) == CUVRAGYEN_OK, "the stop before the transactions");
+    expect(cuvragyen_push(&moved, all.at, all.len) == CUVRAGYEN_END && cuvragyen_next(&moved) == CUVRAGYEN_END, "calls after the stop");
+    cuvragyen_close(&moved);
+}
+
+struct shared {
+    struct bytes all;
+    struct result wanted;
+    cuvragyen *log;
+    struct result *found;
+    size_t begin, end;
+};
+
+static void *in_thread(void *given) {
+    struct shared *shared = given;
+    for (unsigned seed = 2; seed < 6; seed++) {
+        struct result found = read_log(shared->all, seed, "", NULL);
+        expect(!memcmp(&found, &shared->wanted, sizeof found), "a thread reads something else");
+    }
+    return NULL;
+}
+
+static void *a_part(void *given) {
+    struct shared *shared = given;
+    expect(cuvragyen_push(shared->log, shared->all.at + shared->begin, shared->end - shared->begin) == CUVRAGYEN_OK, "a part");
+    take_all(shared->log, shared->found, NULL);
+    return NULL;
+}
+
+static void threads(struct bytes all) {
+    struct shared shared = {.all = all, .wanted = read_log(all, 2, "", NULL)};
+    pthread_t ids[8];
+    for (int at = 0; at < 8; at++) {
+        pthread_create(&ids[at], NULL, in_thread, &shared);
+    }
+    for (int at = 0; at < 8; at++) {
+        pthread_join(ids[at], NULL);
+    }
+    cuvragyen log = CUVRAGYEN_CLOSED;
+    struct result found = {0, 0, shared.wanted.verdict};
+    expect(cuvragyen_open(&log, "", 0) == CUVRAGYEN_OK, "no log");
+    for (size_t part = 0; part < 8; part++) {
+        struct shared passed = {.all = all, .log = &log, .found = &found, .begin = all.len * part / 8, .end = all.len * (part + 1) / 8};
+        pthread_t id;
+        pthread_create(&id, NULL, a_part, &passed);
+        pthread_join(id, NULL);
+    }
+    cuvragyen_close(&log);
+    expect(!memcmp(&found, &shared.wanted, sizeof found), "a handle that goes from thread to thread reads something else");
+}
+
+static void refused(struct bytes all, const char *options) {
+    long whole_calls = 0, runs = 0;
+    struct result whole = {0, 0, 0};
+    for (long number = 0; number <= whole_calls; number++) {
+        keeps_sums = number == 0;
+        until_refused = number;
+        live = calls = 0;
+        struct result found = read_log(all, 2, options, NULL);
+        until_refused = 0;
+        expect(live == 0, "a block isn't freed");
+        if (number == 0) {
+            whole = found;
+            whole_calls = calls;
+        } else {
+            expect(found.verdict != CUVRAGYEN_END || !memcmp(&found, &whole, sizeof found), "an allocation failed, and the log ends otherwise");
+            expect(found.transactions <= whole.transactions && found.sum == sums[found.transactions], "an allocation failed, and a transaction is another");
+        }
+        runs++;
+    }
+    printf("%ld\n", runs);
+}
+
+int main(int argc, char **argv) {
+    expect(argc > 2, "library lines | misuse | threads | refused FILE ..");
+    struct bytes all = read_all(argv[2]);
+    if (!strcmp(argv[1], "lines")) {
+        read_log(all, strtoul(argv[3], NULL, 10), argv[4], stdout);
+    } else if (!strcmp(argv[1], "misuse")) {
+        misuse(all);
+    } else if (!strcmp(argv[1], "threads")) {
+        threads(all);
+    } else {
+        refused(all, argc > 3 ? argv[3] : "");
+    }
+    __real_free(all.at);
+    return 0;
+}

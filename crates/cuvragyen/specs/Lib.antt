@@ -1,0 +1,3 @@
+pub mod VerdictNumbers
+pub mod Exports
+pub mod KeptTexts

@@ -1,0 +1,3 @@
+mod WholeTexts
+mod PieceLemmas
+mod AdvanceLemmas

@@ -1,0 +1,3 @@
+pub mod MagicNumberPieces
+pub mod ShownTransactions
+pub mod ReadLogs
