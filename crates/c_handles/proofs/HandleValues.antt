@@ -5,21 +5,18 @@ use mir.Syntax.{impl, tnil, dnil}
 use mir.Raw.{raw as bare}
 use mir.Val.{Val, vstruct, of_list, has_ty, WT}
 use lib.Dec.{T}
-use mathlib.Core.Bool.{◌&&◌, true}
-use base.Logic.{SProp, ent, guard, via, snd∗, never_e, guard_i}
+use base.Logic.{via, snd∗, never_e, guard_i}
 use base.Fml.{ftrue}
 use types.Logic.{Logic, sem}
 use types.Kit.{Item, Goal, Seq, Step, step, ‵, given, ◌$◌, move, drop, use1, learn, fsplit, fjoin, fpick, fpack, feq_i, feq_l}
 use contract.Monad.{fact_use}
 use denote.RattleType.{RattleType, Valss}
 use denote.Builtin.{RawPtr}
-use denote.Laws.{Is, Lawful, shows}
 use denote.Memory.{lone}
 use denote.RawPtr.{Ptr, block_ptr, null_ptr, ptr_val, lies_at, Testable}
 use base.Fraction.{full_share}
 use denote.Steps.{nothing}
 use denote.Param.{layout}
-use denote.Param.Laws.{Laws}
 use denote.Struct.Struct.{within}
 use denote.Struct.Owning.{shape}
 use Rattle.core.proofs.alloc.Calls.{Al, handle_tells}
@@ -32,7 +29,6 @@ use Rattle.std.proofs.alloc.Global.TheLaws as heap_laws
 use Rattle.std.specs.contracts.impls.GlobalAllocator.TheImpl.{ghosts}
 use Rattle.std.proofs.GlobalToken.{dealloc_token-Testable}
 use Rattle.std_alloc.specs.Box.Ownership.{box_owns}
-use Rattle.std_alloc.proofs.ResultValues.{and_tt}
 use Rattle.c_handles.proofs.Values.{both, both_tt}
 use Rattle.c_handles.specs.Held.{part_row, held}
 use Rattle.c_handles.specs.contracts.handle.Handle as handle

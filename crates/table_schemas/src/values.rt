@@ -2,7 +2,6 @@
 
 ghost use Rattle.std.specs.Prelude.{◌≡◌, ◌++◌, IfOk, OnOk};
 ghost use Rattle.std.specs.List.{flat_map};
-ghost use Rattle.wire_buf.specs.Numbers.{lenenc_encoded};
 ghost use Rattle.wire_fields.specs.Strings.{lenenc_string_encoded};
 ghost use Rattle.rows_metadata_fields.specs.WrittenFields.{packed};
 ghost use Rattle.table_schemas.specs.SchemaFields.{sign_entry, collation_entry, member_collation, member_collation_entry, name_entry, members_entry, enum_entry, set_entry, simple_entry, prefixed_entry, has_prefix};

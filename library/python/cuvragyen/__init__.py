@@ -11,15 +11,4 @@ The library is loaded from the path in CUVRAGYEN_LIBRARY, or as the loader finds
 from ._library import Fault, crc32, kept_json, request, version
 from ._log import End, Header, Log, Transaction, log
 
-__all__ = [
-    "End",
-    "Fault",
-    "Header",
-    "Log",
-    "Transaction",
-    "crc32",
-    "kept_json",
-    "log",
-    "request",
-    "version",
-]
+__all__ = ["End", "Fault", "Header", "Log", "Transaction", "crc32", "kept_json", "log", "request", "version"]

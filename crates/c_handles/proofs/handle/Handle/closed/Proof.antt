@@ -1,8 +1,7 @@
 -- `closed` makes a handle that owns nothing.
 use Rattle.std.proofs.Common.{◌≡◌, List, [], ◌∷◌, ◌++◌, refl, sym, subst}
-use mir.Val.{Val, has_ty}
+use mir.Val.{Val}
 use base.Logic.{SProp, ent, id⊢, emp}
-use base.Fml.{ftrue}
 use prog.Wp.{WpFn}
 use types.Kit.{‵, raw, ◌⊛◌, ◌$◌, ◌∵◌, !, qed, by, move, keep, split, fsplit, fjoin, suffices, rewrite, use0}
 use types.Run.{lit, no_more, and_then, returns, enter}
@@ -11,7 +10,7 @@ use types.Part.{agg}
 use contract.Monad.{fact, fact_i}
 use contract.Running.{tables}
 use denote.Exit.{yes}
-use denote.RattleType.{RattleType, owns}
+use denote.RattleType.{owns}
 use denote.Signature.{types_at, plain}
 use denote.RawPtr.{null_ptr, ptr_val}
 use denote.Steps.{nothing}
@@ -24,7 +23,7 @@ use Rattle.core.proofs.cell.Inside.{one}
 use Rattle.std.proofs.alloc.Global.TheLaws as heap_laws
 use Rattle.std.proofs.raw_atomic.Walks.{proved_at, leaves}
 use Rattle.c_handles.proofs.Values.{both}
-use Rattle.c_handles.proofs.HandleValues.{S, F, Z, handle_good, handle_in}
+use Rattle.c_handles.proofs.HandleValues.{S, Z, handle_good, handle_in}
 use Rattle.c_handles.specs.contracts.handle.Handle.closed.{ended, clauses}
 use Rattle.c_handles.specs.contracts.handle.Handle.closed.Key.{name as #self}
 use Rattle.c_handles.proofs.handle.Handle.closed.Statement.{statement}

@@ -9,7 +9,6 @@ use types.ByLocal.{alloc_all, pass_all, free_all, look_at, get, get_in, sets}
 use types.Part.{agg, sub, whole}
 use contract.Monad.{fact, fact_i}
 use contract.Running.{tables}
-use denote.Exit.{yes}
 use denote.RattleType.{RattleType, owns}
 use denote.Signature.{types_at, plain}
 use denote.RawPtr.{block_ptr}
@@ -22,7 +21,7 @@ use Rattle.std.proofs.alloc.Global.TheLaws as heap_laws
 use Rattle.std.specs.contracts.impls.GlobalAllocator.TheImpl.{ghosts}
 use Rattle.std.proofs.raw_atomic.Walks.{proved_at, leaves}
 use Rattle.c_handles.proofs.Values.{both, Loose, loose_good, loose_out}
-use Rattle.c_handles.proofs.HandleValues.{S, F, Z, handle_good, handle_in}
+use Rattle.c_handles.proofs.HandleValues.{S, Z, handle_good, handle_in}
 use Rattle.c_handles.specs.contracts.handle.Handle.of.{ended, clauses}
 use Rattle.c_handles.specs.contracts.handle.Handle.of.Key.{name as #self}
 use Rattle.c_handles.proofs.handle.Handle.of.Statement.{statement}
