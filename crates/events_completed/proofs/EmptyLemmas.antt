@@ -3,7 +3,8 @@ use Rattle.std.proofs.Common.{◌≡◌, ℕ, Bool, true, false, List, [], ◌++
 use Rattle.rows_table_map.specs.TableMaps.{TableMap}
 use Rattle.events_replaced.specs.GivenReplacements.{checksums_after}
 use Rattle.table_schemas.specs.CompletedMaps.{before_checksum, completed_if_checked, missing_if_read}
-use Rattle.events_completed.specs.CompletedEvents.{AreCompleted, completed_event, is_table_map}
+use Rattle.events_completed.specs.CompletedEvents.{AreCompleted, completed_event}
+use Rattle.events_completed.specs.MysqlEvents.{is_table_map}
 
 no_fields : (body : List ℕ) (o : Option TableMap) → missing_if_read [] body o ≡ []
 no_fields body None = refl

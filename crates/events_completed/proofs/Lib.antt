@@ -1,4 +1,6 @@
 mod WholeMapLemmas
+mod MysqlLemmas
 mod GivenLemmas
 mod EmptyLemmas
+mod MapLemmas
 mod PlainLemmas

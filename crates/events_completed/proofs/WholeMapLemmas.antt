@@ -12,7 +12,8 @@ use Rattle.events_frames.specs.Events.{header_size_field, IsWholeEvent}
 use Rattle.events_frames.proofs.SourceLemmas.{sizes}
 use Rattle.events_replaced.proofs.UnpackLemmas.{whole_by}
 use Rattle.table_schemas.specs.CompletedMaps.{Tables, before_checksum, completed_by, completed_if_checked, is_lengthened, lengthened, missing_fields, with_more}
-use Rattle.events_completed.specs.CompletedEvents.{completed_event, is_table_map}
+use Rattle.events_completed.specs.CompletedEvents.{completed_event}
+use Rattle.events_completed.specs.MysqlEvents.{is_table_map}
 
 module _ (event more : List ℕ) (long : 19 ≤ length event) (n : ℕ) (fits : n < 2 ^ 32) where
   first_len : length (take 9 event) ≡ 9
@@ -33,7 +34,7 @@ module _ (event more : List ℕ) (long : 19 ≤ length event) (n : ℕ) (fits : 
   as_long = omega (arith, length-append (take 9 event) (little_bytes 4 n ++ (drop 13 event ++ more)), length-append (little_bytes 4 n) (drop 13 event ++ more), length-append (drop 13 event) more, first_len, length-drop 13 event, long)
 
 -- an event with more bytes
-longer_whole : (has_checksum : Bool) (event more : List ℕ) → 19 ≤ length event → length event + length more ≤ 4294967291 → IsWholeEvent (with_more has_checksum event more)
+pub longer_whole : (has_checksum : Bool) (event more : List ℕ) → 19 ≤ length event → length event + length more ≤ 4294967291 → IsWholeEvent (with_more has_checksum event more)
 longer_whole true event more long few =
     let n = length event + length more + 4 in
     let fits : n < 2 ^ 32 = omega (arith, few) in
@@ -53,7 +54,7 @@ either_whole has_checksum event bytes more long whole true is =
     rw is (longer_whole has_checksum bytes more long (leb-true (length bytes + length more) 4294967291 (second (not (length more == 0)) (leb (length bytes + length more) 4294967291) is)))
 either_whole has_checksum event bytes more long whole false is = rw is whole
 
-long_before : (has_checksum : Bool) (event bytes : List ℕ) → 19 ≤ length event → before_checksum has_checksum event ≡ Some bytes → 19 ≤ length bytes
+pub long_before : (has_checksum : Bool) (event bytes : List ℕ) → 19 ≤ length event → before_checksum has_checksum event ≡ Some bytes → 19 ≤ length bytes
 long_before false event bytes long is = rw (let e : event ≡ bytes = (let s = is in cc) in sym e) long
 long_before true event bytes long is = by (leb 23 (length event) && (crc32_of (take (length event - 4) event) == little_number 4 (drop (length event - 4) event))) refl
   where

@@ -1,16 +1,11 @@
 -- What is given for the events of a log that a schema completes: each table map with the fields that it lacks, and the others as they are.
-use Rattle.std.specs.Prelude.{◌≡◌, ◌==◌, ◌++◌, ℕ, Bool, false, List, if◌then◌else◌}
-use Rattle.rows_constants.specs.EventTypes.{event_type_number}
-use Rattle.rows_constants.specs.declared.event_type.EventType.TheVariants.{TABLE_MAP_EVENT}
+use Rattle.std.specs.Prelude.{◌≡◌, ◌++◌, ℕ, Bool, false, List, if◌then◌else◌}
 use Rattle.events_frames.specs.Events.{has_event, IsWholeEvent}
 use Rattle.events_frames.specs.GivenEvents.{MayBe}
-use Rattle.events_frames.specs.HeaderFields.{header_field}
 use Rattle.events_replaced.specs.GivenReplacements.{checksums_after}
 use Rattle.table_schemas.specs.CompletedMaps.{Tables, completed}
-
--- whether an event is a table map
-abbrev pub is_table_map : List ℕ → Bool
-is_table_map event = header_field 4 1 event == event_type_number TABLE_MAP_EVENT
+use Rattle.events_completed.specs.MysqlEvents.{AreMysql, is_table_map}
+use Rattle.events_completed.specs.declared.described.Described.{Described}
 
 -- an event, completed if it is a table map
 abbrev pub completed_event : Tables → Bool → List ℕ → List ℕ
@@ -21,8 +16,10 @@ pub data AreCompleted (tables : Tables) : Bool → List ℕ → List ℕ → Typ
   completed_rest : (has_checksum : Bool) (own : List ℕ) → has_event own ≡ false → AreCompleted tables has_checksum own own
   completed_next : (has_checksum : Bool) (event own rest : List ℕ) → IsWholeEvent event → AreCompleted tables (checksums_after has_checksum event) own rest → AreCompleted tables has_checksum (event ++ own) (completed_event tables (checksums_after has_checksum event) event ++ rest)
 
--- what is given for an event of another source that is yet to be given, if there is one, and for those that this source may give then
-pub record GivesCompleted (Own : MayBe) (tables : Tables) (has_checksum : Bool) (waiting : List ℕ) (b : List ℕ) : Type 0 where
+-- what is given for an event of another source that is yet to be given, if there is one, and for those that this source may give then: each as MySQL's servers write it, and then completed; what is known of the log
+pub record GivesCompleted (Own : MayBe) (tables : Tables) (d : Described) (waiting : List ℕ) (b : List ℕ) : Type 0 where
   pub own : List ℕ
   pub gives : Own own
-  pub are : AreCompleted tables has_checksum (waiting ++ own) b
+  pub mysql : List ℕ
+  pub are_mysql : AreMysql d (waiting ++ own) mysql
+  pub are : AreCompleted tables d.has_checksum mysql b

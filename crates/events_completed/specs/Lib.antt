@@ -1,3 +1,5 @@
+pub mod MysqlTableMaps
+pub mod MysqlEvents
 pub mod CompletedEvents
 pub mod CompletingStates
 pub mod CompletedEventLaws

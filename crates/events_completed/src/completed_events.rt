@@ -1,13 +1,16 @@
-//! A source of events that gives completed table maps.
+//! A source of events that gives table maps as MySQL's servers write them, and completed.
 
-ghost use Rattle.std.specs.Prelude.{◌≡◌, ◌≤◌, ◌<◌, ◌+◌, List, ℕ, true, false, IsTrue, IsFalse, IfOk, IfErr, OnOk, OnErr, length};
+ghost use Rattle.std.specs.Prelude.{◌≡◌, ◌≤◌, ◌<◌, ◌+◌, List, ℕ, true, false, IsTrue, IsFalse, IfOk, IfErr, OnOk, OnErr, length, if◌then◌else◌};
 ghost use Rattle.events_frames.specs.Events.{IsWholeEvent};
-ghost use Rattle.events_replaced.specs.GivenReplacements.{checksums_after};
-ghost use Rattle.table_schemas.specs.CompletedMaps.{tables_of};
-ghost use Rattle.events_completed.specs.CompletedEvents.{is_table_map, completed_event};
+ghost use Rattle.table_schemas.specs.CompletedMaps.{tables_of, completed};
+ghost use Rattle.events_completed.specs.MysqlEvents.{is_table_map};
+ghost use Rattle.events_completed.specs.MysqlTableMaps.{described_after};
 
+use crate::described::Described;
+use crate::lengths::Lengths;
+use crate::mysql_maps::MysqlMaps;
 use events_frames::{BinlogEventHeader, EventError, Events, NextFrame, event_size, has_type};
-use events_replaced::{PlainEvents, checksums_after};
+use events_replaced::PlainEvents;
 use rows_constants::EventType;
 use std::alloc::{AllocError, Global};
 use std::io::Read;
@@ -23,25 +26,29 @@ enum Newest {
     Over,
     /// It is the other source's.
     Own,
+    /// It is a table map as MySQL's servers write it.
+    Mysql,
     /// It is a completed table map.
     Completed,
 }
 
-/// Gives the events of another source, with the table maps that a schema completes in place of its own. An empty schema completes none.
+/// Gives the events of another source, in place of each table map the same as MySQL's servers write it, if a server of MariaDB wrote the
+/// log, and then completed by a schema. An empty schema completes none.
 #[derive(Drop)]
 pub struct CompletedEvents<'s, S> {
     source: S,
     schemas: &'s mut Schemas,
-    /// Whether the log's events have checksums.
-    has_checksum: bool,
+    /// What the newest format description says.
+    described: Described,
     /// Whether the newest event of the other source is yet to be given, since memory ran out.
     waits: bool,
     newest: Newest,
+    /// Makes MariaDB's table maps as MySQL's servers write them, and has the newest.
+    mysql: MysqlMaps,
     /// The newest completed table map.
     event: Vec<u8>,
-    /// By how many bytes the completed table maps so far are longer than those of the other source, and by how many the newest is.
-    longer: u64,
-    newest_longer: u64,
+    /// How long the table maps are that were made so far.
+    lengths: Lengths,
 }
 
 /// Whether bytes are a whole event.
@@ -51,18 +58,48 @@ fn is_whole(event: &[u8]) -> bool
     event.len() >= BinlogEventHeader::LEN && event_size(event) as usize == event.len()
 }
 
+/// What was made in place of an event, or this itself.
+fn made_or_own<'e>(is_made: bool, made: &'e [u8], own: &'e [u8]) -> &'e [u8]
+    ensures { result.now ≡ (if is_made then made.now else own.now) }
+{
+    if is_made { made } else { own }
+}
+
+/// Writes a table map that a schema completes into a buffer, and returns true; or returns false, and it is as it should be. `AllocError`: out
+/// of memory.
+fn put_completed(
+    schemas: &mut Schemas,
+    event: &[u8],
+    has_checksum: bool,
+    out: &mut Vec<u8>,
+) -> Result<bool, AllocError>
+    requires { 19 ≤ length event.now }
+    ensures completed { IfOk result (λ is_made. (if is_made then out.new.items else event.now) ≡ completed (tables_of schemas.old) has_checksum event.now) }
+    ensures tables { tables_of schemas.new ≡ tables_of schemas.old }
+{
+    if schemas.is_empty() {
+        return Ok(false);
+    }
+    schemas.put_completed(event, has_checksum, out)
+}
+
 impl Newest {
     ghost use Rattle.events_completed.specs.CompletingStates.{newest_after, newest_if};
 
-    /// It is a completed table map, or the other source's.
-    fn of(is_made: bool) -> Newest
-        ensures { result ≡ newest_if is_made }
+    /// It is a completed table map, or one as MySQL's servers write it, or the other source's.
+    fn of(is_mysql_made: bool, is_completed: bool) -> Newest
+        ensures { result ≡ newest_if is_mysql_made is_completed }
     {
-        if is_made {
-            Newest::Completed
-        } else {
-            Newest::Own
+        match (is_mysql_made, is_completed) {
+            (_, true) => Newest::Completed,
+            (true, false) => Newest::Mysql,
+            (false, false) => Newest::Own,
         }
+    }
+
+    /// Whether it was made.
+    fn is_made(self) -> bool {
+        matches!(self, Newest::Mysql | Newest::Completed)
     }
 
     /// There is none after this error of the other source.
@@ -88,12 +125,12 @@ impl<'s, S> CompletedEvents<'s, S> {
         CompletedEvents {
             source,
             schemas,
-            has_checksum: false,
+            described: Described::nothing(),
             waits: false,
             newest: Newest::None,
+            mysql: MysqlMaps::new(alloc),
             event: Vec::new(alloc),
-            longer: 0,
-            newest_longer: 0,
+            lengths: Lengths::none(),
         }
     }
 
@@ -107,11 +144,7 @@ impl<'s, S> CompletedEvents<'s, S> {
     /// The offset, among the other source's bytes, of the newest event, or of the bytes after the last if there is none. `given` is its
     /// offset among the bytes that this source gave.
     pub fn own_offset(&self, given: u64) -> u64 {
-        let longer = match self.newest {
-            Newest::Completed => self.longer.saturating_sub(self.newest_longer),
-            _ => self.longer,
-        };
-        given.saturating_sub(longer)
+        self.lengths.own_offset(given, self.newest.is_made())
     }
 }
 
@@ -134,6 +167,7 @@ impl<R: Read, S: Events<R>> Events<R> for CompletedEvents<'_, S> {
         match self.newest {
             Newest::None | Newest::Over => &[],
             Newest::Own => self.source.event(),
+            Newest::Mysql => &self.mysql.event,
             Newest::Completed => &self.event,
         }
     }
@@ -181,6 +215,7 @@ impl<R: Read, S: PlainEvents<R>> PlainEvents<R> for CompletedEvents<'_, S> {
     fn is_idle(&self) -> bool {
         matches!(self.newest, Newest::Own)
             && !self.waits
+            && !self.described.is_mariadb
             && self.schemas.is_empty()
             && self.source.is_idle()
     }
@@ -199,19 +234,19 @@ impl<R: Read, S: PlainEvents<R>> PlainEvents<R> for CompletedEvents<'_, S> {
 impl<S> CompletedEvents<'_, S> {
     ghost use Rattle.events_completed.specs.CompletingStates.{GivesNow, WaitsNow, HasNone};
 
-    /// Gives the newest event of the other source, completed if it is a table map. After `AllocError`, out of
-    /// memory, it waits to be given.
+    /// Gives the newest event of the other source, as MySQL's servers write it and completed if it is a table map. After `AllocError`, out
+    /// of memory, it waits to be given.
     #[inline(always)]
     fn give_next<R: Read>(&mut self) -> Result<(), AllocError>
     where
         S: Events<R>,
         requires whole { IsWholeEvent (S.newest self.old.source) }
         requires none { HasNone self.old }
-        ensures ok { OnOk result (GivesNow S.newest (checksums_after self.old.has_checksum (S.newest self.old.source)) self.old self.new) }
+        ensures ok { OnOk result (GivesNow S.newest (described_after self.old.described (S.newest self.old.source)) self.old self.new) }
         ensures err { OnErr result (WaitsNow self.old self.new) }
     {
         let event = self.source.event();
-        self.has_checksum = checksums_after(self.has_checksum, event);
+        self.described = self.described.after(event);
         if !has_type(event, EventType::TABLE_MAP_EVENT) {
             self.waits = false;
             self.newest = Newest::Own;
@@ -227,10 +262,10 @@ impl<S> CompletedEvents<'_, S> {
         requires map { is_table_map (S.newest self.old.source) ≡ true }
         requires long { 19 ≤ length (S.newest self.old.source) }
         requires none { HasNone self.old }
-        ensures ok { OnOk result (GivesNow S.newest self.old.has_checksum self.old self.new) }
+        ensures ok { OnOk result (GivesNow S.newest self.old.described self.old self.new) }
         ensures err { OnErr result (WaitsNow self.old self.new) }
     {
-        if self.schemas.is_empty() {
+        if self.schemas.is_empty() && !self.described.is_mariadb {
             self.waits = false;
             self.newest = Newest::Own;
             return Ok(());
@@ -238,15 +273,14 @@ impl<S> CompletedEvents<'_, S> {
         self.waits = true;
         let event = self.source.event();
         let len = event.len();
-        let is_made = self
-            .schemas
-            .put_completed(event, self.has_checksum, &mut self.event)?;
+        let is_mysql_made = self.mysql.put(event, self.described)?;
+        let event = made_or_own(is_mysql_made, &self.mysql.event, event);
+        let has_checksum = self.described.has_checksum;
+        let is_completed = put_completed(self.schemas, event, has_checksum, &mut self.event)?;
         self.waits = false;
-        self.newest = Newest::of(is_made);
-        if is_made {
-            self.newest_longer = self.event.len().saturating_sub(len) as u64;
-            self.longer = self.longer.saturating_add(self.newest_longer);
-        }
+        self.newest = Newest::of(is_mysql_made, is_completed);
+        let made = made_or_own(is_completed, &self.event, event);
+        self.lengths = self.lengths.and(self.newest.is_made(), made.len(), len);
         Ok(())
     }
 
@@ -259,7 +293,7 @@ impl<S> CompletedEvents<'_, S> {
         requires waits { self.old.waits ≡ true }
         requires none { HasNone self.old }
         ensures whole { OnOk result (IsWholeEvent (S.newest self.old.source)) }
-        ensures ok { OnOk result (GivesNow S.newest (checksums_after self.old.has_checksum (S.newest self.old.source)) self.old self.new) }
+        ensures ok { OnOk result (GivesNow S.newest (described_after self.old.described (S.newest self.old.source)) self.old self.new) }
         ensures err { OnErr result (WaitsNow self.old self.new) }
     {
         if !is_whole(self.source.event()) {

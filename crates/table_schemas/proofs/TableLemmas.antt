@@ -1,9 +1,7 @@
--- A table that is added to a schema, a table map that can't be read, and values that are made one by one.
-use Rattle.std.proofs.Common.{◌≡◌, inl, inr, ℕ, ◌+◌, false, List, [], ◌∷◌, map, Option, Some, None, ap, sym, ◌∙◌, refl, subst, arith}
+-- A table that is added to a schema, and a table map that can't be read.
+use Rattle.std.proofs.Common.{◌≡◌, inl, inr, ℕ, false, List, [], Option, Some, None, ap, ◌∙◌, refl, subst}
 use Rattle.std.specs.Prelude.{OnOk, Result, Ok, Err, ◌++◌}
 use Rattle.std.specs.Global.{Vec}
-use Rattle.std.specs.List.{range_with_len}
-use Rattle.std.proofs.lemmas.List.FromFn.{map-range_with_len_more}
 use Rattle.rows_table_map.specs.TableMaps.{TableMap}
 use Rattle.feed_checks.specs.Kinds.{map_kind}
 use Rattle.feed_checks.specs.KindViews.{IsKindError}
@@ -29,11 +27,3 @@ unread tables body (Some m) v (inr why) other = absurd (other why)
 pub added_fields : {A E : Type 0} (r : Result A E) (m : TableMap) (o : Option SchemaTable) (t : SchemaTable) (l : Logged) (old new : List ℕ) → o ≡ Some t → logged_kinds m ≡ Some l → first_difference t.columns.items m ≡ None → old ≡ [] → OnOk r (new ≡ old ++ missing l t) → OnOk r (new ≡ missing_if_known m o)
 added_fields (Ok x) m o t l old new known read fits none is = is ∙ ap (λ (b : List ℕ). b ++ missing l t) none ∙ rw (known, read, fits) refl
 added_fields (Err e) m o t l old new known read fits none is = tt
-
--- one more value, of the next number
-pub mapped_more : (f : ℕ → ℕ) (xs ys : List ℕ) (i x : ℕ) → xs ≡ map f (range_with_len 0 i) → x ≡ f i → ys ≡ xs ++ x ∷ [] → ys ≡ map f (range_with_len 0 (i + 1))
-mapped_more f xs ys i x so_far is more =
-    more
-    ∙ ap (λ (l : List ℕ). l ++ x ∷ []) so_far
-    ∙ ap (λ (n : ℕ). map f (range_with_len 0 i) ++ n ∷ []) is
-    ∙ sym (map-range_with_len_more f 0 i i (omega arith))

@@ -1,35 +1,17 @@
 -- The fields of the optional metadata for the columns of a table (MySQL's source: Table_map_event; Table_map_log_event::init_metadata_fields writes them): SIGNEDNESS 1, COLUMN_CHARSET 3, COLUMN_NAME 4, SET_STR_VALUE 5, ENUM_STR_VALUE 6, SIMPLE_PRIMARY_KEY 8, PRIMARY_KEY_WITH_PREFIX 9, ENUM_AND_SET_COLUMN_CHARSET 11.
-use Rattle.std.specs.Prelude.{◌≡◌, ℕ, ◌+◌, ◌*◌, ◌/◌, ◌==◌, ◌||◌, not, Bool, false, List, [], ◌∷◌, ◌++◌, length, map, unwrap_or, if◌then◌else◌}
-use Rattle.std.specs.List.{flat_map, list_any, slice_get, range_with_len}
+use Rattle.std.specs.Prelude.{◌≡◌, ℕ, ◌==◌, ◌||◌, not, Bool, List, [], ◌∷◌, ◌++◌, length, if◌then◌else◌}
+use Rattle.std.specs.List.{flat_map, list_any}
 use Rattle.wire_buf.specs.Numbers.{lenenc_encoded}
 use Rattle.wire_fields.specs.Strings.{lenenc_string_encoded}
+use Rattle.rows_metadata_fields.specs.WrittenFields.{field_or_none, packed}
 use Rattle.wire_constants.specs.ColumnTypes.{is_numeric, is_character, is_geometry, is_enum, is_set, is_enum_or_set}
 use Rattle.table_schemas.specs.declared.schema_column.SchemaColumn.{SchemaColumn}
 use Rattle.table_schemas.specs.declared.schema_column.KeyColumn.{KeyColumn}
 use Rattle.table_schemas.specs.declared.schema_table.SchemaTable.{SchemaTable}
 
--- a field: the number of its type, the length of its value, and the value; none without a value
-abbrev pub field_or_none : ℕ → List ℕ → List ℕ
-field_or_none number [] = []
-field_or_none number (b ∷ value) = number ∷ lenenc_string_encoded (b ∷ value)
-
 -- the sign of a numeric column: whether it is unsigned
 abbrev pub sign_entry : SchemaColumn → List Bool
 sign_entry c = if is_numeric c.column_type then c.is_unsigned ∷ [] else []
-
--- a bit as a number; 0 after the last
-abbrev pub bit_number : List Bool → ℕ → ℕ
-bit_number bits i = if unwrap_or (slice_get bits i) false then 1 else 0
-
--- eight bits from an index on, the first the highest
-abbrev pub packed_byte : List Bool → ℕ → ℕ
-packed_byte bits i =
-    128 * bit_number bits i + (64 * bit_number bits (i + 1) + (32 * bit_number bits (i + 2) + (16 * bit_number bits (i + 3)
-    + (8 * bit_number bits (i + 4) + (4 * bit_number bits (i + 5) + (2 * bit_number bits (i + 6) + bit_number bits (i + 7)))))))
-
--- bits in as few bytes as they need
-abbrev pub packed : List Bool → List ℕ
-packed bits = map (λ i. packed_byte bits (8 * i)) (range_with_len 0 ((length bits + 7) / 8))
 
 -- the collation of a column with text, bytes or a geometry
 abbrev pub collation_entry : SchemaColumn → List ℕ

@@ -16,4 +16,4 @@ mod values;
 pub use fits::Difference;
 pub use schema_column::{KeyColumn, SchemaColumn};
 pub use schema_table::SchemaTable;
-pub use schemas::{Misfit, Schemas};
+pub use schemas::{Misfit, Schemas, checked, put_longer};

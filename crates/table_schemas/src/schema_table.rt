@@ -2,16 +2,18 @@
 
 ghost use Rattle.std.specs.Prelude.{◌≡◌, ◌++◌, IfOk, OnOk};
 ghost use Rattle.rows_constants.specs.MetadataTypes.{optional_metadata_field_type_number as field_type_number};
-ghost use Rattle.table_schemas.specs.SchemaFields.{field_or_none, members_fields, key_field as field_of_key, IsTableOf};
+ghost use Rattle.rows_metadata_fields.specs.WrittenFields.{field_or_none};
+ghost use Rattle.table_schemas.specs.SchemaFields.{members_fields, key_field as field_of_key, IsTableOf};
 ghost use Rattle.table_schemas.specs.CompletedMaps.{missing, unless_had};
 
 use crate::logged::Logged;
 use crate::schema_column::{KeyColumn, SchemaColumn};
 use crate::values::{
-    collations, enum_members, has_prefix, member_collations, names, prefixed_key, put_field,
-    set_members, signs, simple_key,
+    collations, enum_members, has_prefix, member_collations, names, prefixed_key, set_members,
+    signs, simple_key,
 };
 use rows_constants::OptionalMetadataFieldType;
+use rows_metadata_fields::put_field;
 use std::alloc::{AllocError, Global};
 
 /// A table: its columns, and the fields that complete its table maps, each with its type, its length and its value.

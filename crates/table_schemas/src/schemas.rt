@@ -86,7 +86,7 @@ fn names_in<'b>(map: &TableMapEvent<'_>, body: &'b [u8]) -> &'b [u8]
 }
 
 /// The bytes of an event before its checksum; None if that is wrong.
-fn checked(event: &[u8], has_checksum: bool) -> Option<&[u8]>
+pub fn checked(event: &[u8], has_checksum: bool) -> Option<&[u8]>
     requires { 19 ≤ length event.now }
     ensures bytes { option_map (λ b. b.now) result ≡ before_checksum has_checksum event.now }
     ensures long { IfSome result (λ b. 19 ≤ length b.now) }
@@ -101,8 +101,9 @@ fn checked(event: &[u8], has_checksum: bool) -> Option<&[u8]>
     (crc32(bytes) == LittleEndian::read_u32(sum)).then_some(bytes)
 }
 
-/// Writes an event with more bytes at its end into a buffer, which it empties first.
-fn put_longer(
+/// Writes an event with more bytes at its end into a buffer, which it empties first: `event` is without its checksum. `AllocError`: out of
+/// memory.
+pub fn put_longer(
     event: &[u8],
     more: &[u8],
     has_checksum: bool,

@@ -1,47 +1,20 @@
 //! The values of the fields of the optional metadata, for the columns of a table.
 
-ghost use Rattle.std.specs.Prelude.{◌≡◌, ◌≤◌, ◌<◌, ◌*◌, ◌+◌, ◌++◌, ◌^◌, IfOk, OnOk, length};
+ghost use Rattle.std.specs.Prelude.{◌≡◌, ◌++◌, IfOk, OnOk};
 ghost use Rattle.std.specs.List.{flat_map};
-ghost use Rattle.wire_buf.specs.Numbers.{lenenc_encoded};
 ghost use Rattle.wire_fields.specs.Strings.{lenenc_string_encoded};
-ghost use Rattle.table_schemas.specs.SchemaFields.{field_or_none, sign_entry, bit_number, packed_byte, packed, collation_entry, member_collation, member_collation_entry, name_entry, members_entry, enum_entry, set_entry, simple_entry, prefixed_entry, has_prefix};
+ghost use Rattle.rows_metadata_fields.specs.WrittenFields.{packed};
+ghost use Rattle.table_schemas.specs.SchemaFields.{sign_entry, collation_entry, member_collation, member_collation_entry, name_entry, members_entry, enum_entry, set_entry, simple_entry, prefixed_entry, has_prefix};
 
 use crate::schema_column::{KeyColumn, SchemaColumn};
+use rows_metadata_fields::{packed, put_number, put_string};
 use std::alloc::{AllocError, Global};
-use wire_fields::lenenc_bytes;
 
 /// The number of the collation of bytes.
 const BINARY: u16 = 63;
 
 /// The number of the collation `utf8mb4_general_ci`, which both servers have. A schema has members in UTF-8.
 const UTF8MB4: u16 = 45;
-
-/// Appends a length-encoded integer.
-fn put_number(number: u64, out: &mut Vec<u8>) -> Result<(), AllocError>
-    ensures { OnOk result (out.new.items ≡ out.old.items ++ lenenc_encoded number) }
-{
-    let (bytes, len) = lenenc_bytes(number);
-    out.extend_from_slice(&bytes[..len])
-}
-
-/// Appends a length-encoded string.
-fn put_string(string: &[u8], out: &mut Vec<u8>) -> Result<(), AllocError>
-    ensures { OnOk result (out.new.items ≡ out.old.items ++ lenenc_string_encoded string.now) }
-{
-    put_number(string.len() as u64, out)?;
-    out.extend_from_slice(string)
-}
-
-/// Appends a field of this type with this value, unless the value has no bytes.
-pub(crate) fn put_field(number: u8, value: &[u8], out: &mut Vec<u8>) -> Result<(), AllocError>
-    ensures { OnOk result (out.new.items ≡ out.old.items ++ field_or_none number value.now) }
-{
-    if value.is_empty() {
-        return Ok(());
-    }
-    out.push(number)?;
-    put_string(value, out)
-}
 
 /// Appends whether a column is unsigned, if it is numeric.
 fn push_sign(column: &SchemaColumn, signs: &mut Vec<bool>) -> Result<(), AllocError>
@@ -53,31 +26,6 @@ fn push_sign(column: &SchemaColumn, signs: &mut Vec<bool>) -> Result<(), AllocEr
     Ok(())
 }
 
-/// The bit at an index as a number; 0 after the last.
-fn bit_at(bits: &[bool], index: usize) -> u8
-    ensures bit { result ≡ bit_number bits.now index }
-    ensures low { result ≤ 1 }
-{
-    match bits.get(index) {
-        Some(true) => 1,
-        _ => 0,
-    }
-}
-
-/// The byte of eight bits from an index on, the first the highest.
-fn byte_at(bits: &[bool], index: usize) -> u8
-    requires { index + 8 < 2 ^ 64 }
-    ensures { result ≡ packed_byte bits.now index }
-{
-    128 * bit_at(bits, index)
-        + (64 * bit_at(bits, index + 1)
-            + (32 * bit_at(bits, index + 2)
-                + (16 * bit_at(bits, index + 3)
-                    + (8 * bit_at(bits, index + 4)
-                        + (4 * bit_at(bits, index + 5)
-                            + (2 * bit_at(bits, index + 6) + bit_at(bits, index + 7)))))))
-}
-
 /// Whether each numeric column is unsigned.
 fn sign_bits(alloc: Global, columns: &[SchemaColumn]) -> Result<Vec<bool>, AllocError>
     ensures { IfOk result (λ v. v.items ≡ flat_map sign_entry columns.now) }
@@ -87,17 +35,6 @@ fn sign_bits(alloc: Global, columns: &[SchemaColumn]) -> Result<Vec<bool>, Alloc
         push_sign(column, &mut bits)?;
     }
     Ok(bits)
-}
-
-/// Bits in as few bytes as they need, the first the highest of the first byte.
-fn packed(alloc: Global, bits: &[bool]) -> Result<Vec<u8>, AllocError>
-    ensures { IfOk result (λ v. v.items ≡ packed bits.now) }
-{
-    let mut bytes = Vec::new(alloc);
-    for index in 0..bits.len().div_ceil(8) {
-        bytes.push(byte_at(bits, 8 * index))?;
-    }
-    Ok(bytes)
 }
 
 /// The value of SIGNEDNESS: a bit for each numeric column.

@@ -1,7 +1,7 @@
 use Rattle.std.proofs.Common.{◌*◌, ℕ}
-use Rattle.table_schemas.specs.SchemaFields.{packed_byte}
-use Rattle.table_schemas.proofs.TableLemmas.{mapped_more}
-use Rattle.table_schemas.proofs.values.packed.Goals as goal
+use Rattle.rows_metadata_fields.specs.WrittenFields.{packed_byte}
+use Rattle.rows_metadata_fields.proofs.PackedLemmas.{mapped_more}
+use Rattle.rows_metadata_fields.proofs.fields.packed.Goals as goal
 
 pub loop-index-preserved : goal.loop-index-preserved
 loop-index-preserved c =

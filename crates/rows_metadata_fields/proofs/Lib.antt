@@ -1,0 +1,2 @@
+mod PackedLemmas
+mod SignLemmas

@@ -1,0 +1,3 @@
+pub mod WrittenFields
+pub mod YearSigns
+pub mod YearSignViews
