@@ -1,6 +1,6 @@
 //! What is said about an answer that can't be followed.
 
-use crate::run::say;
+use crate::outcomes::say;
 use changes_commands::Text;
 use changes_walks::{Checked, DAMAGED, FAILED, SourceFault, put_checked, status_of_verdict};
 use events_frames::{BinlogEventHeader, log_pos};

@@ -8,6 +8,7 @@ mod changes;
 mod checking;
 mod follow;
 mod follow_messages;
+mod outcomes;
 mod parts;
 mod reached;
 mod run;
