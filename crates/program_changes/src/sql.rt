@@ -63,6 +63,35 @@ impl SqlState {
             has_session: false,
         }
     }
+
+    /// Adds the rows of an event, as they are taken.
+    fn add_table_rows(
+        &mut self,
+        alloc: Global,
+        rows: TableRows<'_>,
+        taken: RowsTaken<'_>,
+    ) -> Result<(), NoStatement> {
+        let must_be_same = matches!(taken.direction, Direction::Back);
+        let table = self.tables.table_of(rows, must_be_same)?;
+        let counts = add_rows(
+            alloc,
+            table,
+            rows,
+            taken,
+            &mut self.scratch,
+            &mut self.texts,
+        )?;
+        if counts.all() == 0 {
+            return Ok(());
+        }
+        if let Some(before) = self.counts.get_mut(&table.name) {
+            before.add(counts);
+            return Ok(());
+        }
+        let name = Vec::from_slice(alloc, &table.name)?;
+        self.counts.insert(name, counts)?;
+        Ok(())
+    }
 }
 
 /// Gets the statements of the selected transactions of a log.
@@ -140,30 +169,6 @@ impl<W: Write> SqlSink<'_, W> {
         matches!(self.taken.direction, Direction::Back)
     }
 
-    /// Adds the rows of an event.
-    fn add_table_rows(&mut self, rows: TableRows<'_>) -> Result<(), NoStatement> {
-        let must_be_same = self.is_back();
-        let table = self.state.tables.table_of(rows, must_be_same)?;
-        let counts = add_rows(
-            self.alloc,
-            table,
-            rows,
-            self.taken,
-            &mut self.state.scratch,
-            &mut self.state.texts,
-        )?;
-        if counts.all() == 0 {
-            return Ok(());
-        }
-        if let Some(before) = self.state.counts.get_mut(&table.name) {
-            before.add(counts);
-            return Ok(());
-        }
-        let name = Vec::from_slice(self.alloc, &table.name)?;
-        self.state.counts.insert(name, counts)?;
-        Ok(())
-    }
-
     /// Adds a statement of the log.
     fn add_logged(&mut self, texts: QueryTexts<'_>, seconds: u32) -> Result<(), NoStatement> {
         if self.is_back() && !self.taken.is_dry {
@@ -180,7 +185,7 @@ impl<W: Write> SqlSink<'_, W> {
     /// Adds a change.
     fn add_change(&mut self, change: &Change<'_>) -> Result<(), NoStatement> {
         match change.what {
-            What::Rows(rows) => self.add_table_rows(rows),
+            What::Rows(rows) => self.state.add_table_rows(self.alloc, rows, self.taken),
             What::Statement(texts) => self.add_logged(texts, change.header.timestamp()),
         }
     }
@@ -247,10 +252,11 @@ impl<W: Write> SqlSink<'_, W> {
     /// Writes the statements of a transaction.
     fn write(&mut self, has_rows: bool) -> Result<(), Verdict> {
         self.write_session()?;
+        let state = &*self.state;
         write_transaction(
-            self.state.heading.as_slice(),
+            state.heading.as_slice(),
             has_rows,
-            &self.state.texts,
+            &state.texts,
             self.waiting,
             self.writer,
         )
@@ -375,6 +381,27 @@ fn end_of(end: LogEnd, is_closed: bool) -> LogEnd {
     }
 }
 
+/// Passes a log to a sink of statements, as [`read_parts`] does.
+fn sql_parts<R: Read + Drop, W: Write>(
+    alloc: Global,
+    options: &Options<'_>,
+    log: Log<'_>,
+    reader: LogReader<R>,
+    sources: &mut SourceStates,
+    progress: &mut Progress<'_>,
+    sink: &mut SqlSink<'_, W>,
+) -> (LogEnd, LogReader<R>) {
+    read_parts(
+        alloc,
+        options,
+        log,
+        reader,
+        &mut *sources,
+        &mut *progress,
+        &mut *sink,
+    )
+}
+
 /// Prints the statements of a log, or keeps those that take its changes back. Returns the reader too.
 pub(crate) fn show_sql<R: Read + Drop>(
     rt: &HostRuntime,
@@ -399,7 +426,7 @@ pub(crate) fn show_sql<R: Read + Drop>(
         waiting: &mut waiting,
         writer: &mut writer,
     };
-    let (end, reader) = read_parts(
+    let (end, reader) = sql_parts(
         alloc,
         options,
         log,
