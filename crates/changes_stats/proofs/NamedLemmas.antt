@@ -2,16 +2,16 @@
 use Rattle.std.proofs.Common.{◌≡◌, ℕ, List, [], ◌∷◌, ◌++◌, Bool, true, false, cond, Option, Some, sym, ap, subst, ◌∙◌, ⊎_elim, refl, ◌+◌, ◌<◌, length, get_or, take, map, append_assoc}
 use Rattle.std.specs.Prelude.{option_map}
 use Rattle.std.specs.Global.{Vec}
-use Rattle.std.specs.Ordering.{is_eq, nat_cmp, eq_by_cmp}
+use Rattle.std.specs.Ordering.{is_eq, nat_cmp}
 use Rattle.std.specs.Cmp.{eq_by_cmp_equiv}
 use Rattle.std.specs.Cmp.Lexicographic.{slice_cmp, bytes_decides, nat_list_cmp_total, nat_list_eq_equiv}
 use Rattle.std.specs.Str.{bytes_eq}
 use Rattle.std.specs.Map.{lookup, IsKeyTest, AreApart, KeepsOthers}
-use Rattle.std.specs.BTreeMap.{BTreeMap, get_by, is_at, UpdatesBy}
+use Rattle.std.specs.BTreeMap.{BTreeMap, get_by, UpdatesBy}
 use Rattle.std.proofs.lemmas.Bool.{cases_Bool, cond-true, cond-false}
 use Rattle.std.proofs.lemmas.List.{map_more}
 use Rattle.std.proofs.lemmas.Map.Text.{is_eq-slice_cmp}
-use Rattle.changes_stats.specs.TableSums.{AreSums, NamedCounts, named_counts, sums_in, sums_of, of_table, total_at}
+use Rattle.changes_stats.specs.TableSums.{AreSums, NamedCounts, named_counts, sums_in, total_at}
 use Rattle.changes_stats.specs.declared.counts.RowCounts.{RowCounts}
 use Rattle.changes_stats.specs.declared.tables.TableRows.{TableRows}
 use Rattle.changes_stats.specs.declared.tables.TableTotals.{TableTotals}

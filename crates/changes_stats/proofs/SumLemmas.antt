@@ -1,5 +1,5 @@
 -- Sums of one more.
-use Rattle.std.proofs.Common.{◌≡◌, ℕ, ◌+◌, List, [], ◌∷◌, ◌++◌, Option, Some, None, cond, Bool, true, false, length, refl, ap, sym, ◌∙◌, arith, append-nil, min, sum_by, filter, map}
+use Rattle.std.proofs.Common.{◌≡◌, ℕ, ◌+◌, List, [], ◌∷◌, ◌++◌, Option, Some, None, cond, Bool, true, false, length, refl, ap, ◌∙◌, arith, append-nil, sum_by, filter, map}
 use Rattle.std.proofs.lemmas.List.{length_push}
 use Rattle.std.proofs.lemmas.List.Sums.{sum_by_push}
 use Rattle.std.specs.Str.{bytes_eq}

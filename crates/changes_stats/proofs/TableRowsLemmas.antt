@@ -1,12 +1,12 @@
 -- The rows of tables in a transaction, with some more of one table.
-use Rattle.std.proofs.Common.{◌≡◌, ℕ, suc, ◌+◌, ◌<◌, ◌≤◌, List, [], ◌∷◌, ◌++◌, Bool, true, false, cond, length, get_or, set, take, drop, map, filter, refl, ap, sym, subst, ◌∙◌, arith, add-one, append-nil, append_assoc, inl, inr, ◌⊎◌, ⊎_elim}
+use Rattle.std.proofs.Common.{◌≡◌, ℕ, suc, ◌+◌, ◌<◌, ◌≤◌, List, [], ◌∷◌, ◌++◌, Bool, true, false, cond, length, get_or, set, take, drop, map, refl, ap, sym, subst, ◌∙◌, arith, append-nil, ◌⊎◌, ⊎_elim}
 use Rattle.std.specs.Str.{bytes_eq}
 use Rattle.std.specs.Cmp.Lexicographic.{bytes_decides, nat_list_eq_equiv}
 use Rattle.std.proofs.lemmas.Bool.{cases_Bool}
 use Rattle.std.proofs.lemmas.List.{map-append, map_more, set-get_or, set_split, take-append-le, take_all}
 use Rattle.std.proofs.lemmas.List.Elements.{filter-append}
 use Rattle.changes_stats.specs.RowSums.{plus, sum_of_counts}
-use Rattle.changes_stats.specs.TableSums.{AddsRows, AreSummed, NamedCounts, named_counts, of_table, summed}
+use Rattle.changes_stats.specs.TableSums.{AddsRows, NamedCounts, named_counts, of_table, summed}
 use Rattle.changes_stats.specs.declared.counts.RowCounts.{RowCounts}
 use Rattle.changes_stats.specs.declared.tables.TableRows.{TableRows}
 use Rattle.changes_stats.proofs.SumLemmas.{of_table-push, of_table-same, of_table-other, sum_of_counts-none, sum_of_counts-push}

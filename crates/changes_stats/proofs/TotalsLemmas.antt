@@ -1,5 +1,5 @@
 -- The counts of transactions with one more.
-use Rattle.std.proofs.Common.{◌≡◌, ℕ, ◌+◌, List, [], ◌∷◌, ◌++◌, true, false, length, map, sum_by, refl, ap, sym, subst, ◌∙◌, arith, append-nil}
+use Rattle.std.proofs.Common.{◌≡◌, ℕ, ◌+◌, List, [], ◌∷◌, ◌++◌, true, false, length, map, sum_by, ap, sym, subst, ◌∙◌, arith, append-nil}
 use Rattle.std.specs.List.{flat_map}
 use Rattle.std.proofs.lemmas.List.{map-append, length_push}
 use Rattle.std.proofs.lemmas.List.Concat.{flat_map-append}
@@ -7,7 +7,7 @@ use Rattle.std.proofs.lemmas.List.Sums.{sum_by_push}
 use Rattle.changes_stats.specs.CountedTransactions.{AreTotals, Counted, bytes_of, counted, counts_of, has_nothing, large, transaction_of}
 use Rattle.changes_stats.specs.Courses.{IsCourse}
 use Rattle.changes_stats.specs.Largest.{AreLargest}
-use Rattle.changes_stats.specs.RowSums.{all_rows, capped, sum_of_counts, with_transaction}
+use Rattle.changes_stats.specs.RowSums.{all_rows, sum_of_counts, with_transaction}
 use Rattle.changes_stats.specs.TableSums.{AreTables}
 use Rattle.changes_stats.specs.declared.recorder.StatsRecorder.{StatsRecorder}
 use Rattle.changes_stats.specs.declared.totals.Totals.{Totals}

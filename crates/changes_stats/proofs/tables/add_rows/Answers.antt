@@ -1,4 +1,4 @@
-use Rattle.std.proofs.Common.{◌≡◌, ◌∙◌, sym, refl, true, false, set, get_or, arith, length-set}
+use Rattle.std.proofs.Common.{◌≡◌, ◌∙◌, sym, refl, true, false, get_or, arith, length-set}
 use Rattle.std.specs.Str.{bytes_eq}
 use Rattle.std.proofs.lemmas.List.{set-get_or}
 use Rattle.changes_stats.proofs.TableRowsLemmas.{changed_rows, rows_in_loop, none_more, pushed_rows}

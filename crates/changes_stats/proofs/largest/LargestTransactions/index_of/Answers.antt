@@ -1,4 +1,4 @@
-use Rattle.std.proofs.Common.{◌≡◌, ◌<◌, length, get_or, arith}
+use Rattle.std.proofs.Common.{◌<◌, length, arith}
 use Rattle.changes_stats.proofs.LargestLemmas.{index_of-here, index_of-more}
 use Rattle.changes_stats.proofs.largest.LargestTransactions.index_of.Goals as goal
 
