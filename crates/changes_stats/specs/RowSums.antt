@@ -1,26 +1,34 @@
 -- Sums of what transactions have: rows by their kind, statements, and bytes.
-use Rattle.std.specs.Prelude.{◌+◌, ◌-◌, ◌==◌, ◌&&◌, ℕ, Bool, List, [], ◌∷◌, min, if◌then◌else◌}
-use Rattle.std.specs.Int.{w32}
+use Rattle.std.specs.Prelude.{◌+◌, ℕ, List, min, sum_by}
 use Rattle.rows_event_body.specs.declared.rows_event_type.RowImages.{RowImages}
 use Rattle.rows_event_body.specs.declared.rows_event_type.RowImages.TheVariants as images
 use Rattle.changes_stats.specs.declared.counts.Counts.{Counts}
 use Rattle.changes_stats.specs.declared.counts.RowCounts.{RowCounts}
 
--- a sum, or the greatest number of 64 bits
-abbrev pub sum_of_two : ℕ → ℕ → ℕ
-sum_of_two a b = min (a + b) 18446744073709551615
+-- a number, or the greatest of 64 bits
+abbrev pub capped : ℕ → ℕ
+capped n = min n 18446744073709551615
 
 -- all rows, of each kind
 abbrev pub all_rows : RowCounts → ℕ
-all_rows c = sum_of_two (sum_of_two c.inserted c.deleted) c.updated
+all_rows c = capped (capped (c.inserted + c.deleted) + c.updated)
 
 -- the rows of two, kind by kind, and the bytes of their events
 abbrev pub plus : RowCounts → RowCounts → RowCounts
 plus a b = record {
-  inserted = sum_of_two a.inserted b.inserted;
-  deleted = sum_of_two a.deleted b.deleted;
-  updated = sum_of_two a.updated b.updated;
-  bytes = sum_of_two a.bytes b.bytes;
+  inserted = capped (a.inserted + b.inserted);
+  deleted = capped (a.deleted + b.deleted);
+  updated = capped (a.updated + b.updated);
+  bytes = capped (a.bytes + b.bytes);
+}
+
+-- the rows of all, kind by kind, and the bytes of their events
+unfoldable pub sum_of_counts : List RowCounts → RowCounts
+sum_of_counts l = record {
+  inserted = capped (sum_by (λ c. c.inserted) l);
+  deleted = capped (sum_by (λ c. c.deleted) l);
+  updated = capped (sum_by (λ c. c.updated) l);
+  bytes = capped (sum_by (λ c. c.bytes) l);
 }
 
 -- the rows of an event: images after the change alone are those of inserted rows, images before it those of deleted ones
@@ -32,8 +40,8 @@ of_event _ rows bytes = record { inserted = 0; deleted = 0; updated = rows; byte
 -- the counts with one more transaction
 abbrev pub with_transaction : Counts → RowCounts → ℕ → ℕ → Counts
 with_transaction c rows statements bytes = record {
-  transactions = sum_of_two c.transactions 1;
-  statements = sum_of_two c.statements statements;
+  transactions = capped (c.transactions + 1);
+  statements = capped (c.statements + statements);
   rows = plus c.rows rows;
-  bytes = sum_of_two c.bytes bytes;
+  bytes = capped (c.bytes + bytes);
 }

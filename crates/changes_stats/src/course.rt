@@ -1,9 +1,11 @@
 //! The course of the transactions over time.
 
+ghost use Rattle.std.specs.Prelude.{◌≡◌, ◌<◌, ◌∷◌, ◌++◌, ℕ, List, [], OnOk};
+
 use std::alloc::{AllocError, Global};
 use std::collections::BTreeMap;
 
-/// Rows and transactions.
+/// Rows and transactions. Each stays at 2^64 - 1 once it is there.
 #[derive(Clone, Copy)]
 pub struct PeriodTotals {
     pub rows: u64,
@@ -17,13 +19,18 @@ pub struct Course {
     pub period: u32,
     /// The time of the first and of the last transaction.
     pub times: Option<(u32, u32)>,
-    /// The periods by the second at which they begin.
+    /// The periods with transactions by the second at which they begin.
     pub periods: BTreeMap<u32, PeriodTotals>,
+    ghost some: { 0 < period },
 }
 
 impl Course {
-    /// No transactions.
-    pub(crate) fn new(alloc: Global, period: u32) -> Course {
+    ghost use Rattle.changes_stats.specs.Courses.{IsCourse};
+
+    /// No transactions. A period of 0 seconds is one of 1.
+    pub(crate) fn new(alloc: Global, period: u32) -> Course
+        ensures { IsCourse result [] }
+    {
         Course {
             period: period.max(1),
             times: None,
@@ -31,22 +38,24 @@ impl Course {
         }
     }
 
-    /// Adds a transaction of so many rows.
-    pub(crate) fn add(&mut self, seconds: u32, rows: u64) -> Result<(), AllocError> {
+    /// Adds a transaction of so many rows. `AllocError`: out of memory.
+    pub(crate) fn add(&mut self, seconds: u32, rows: u64) -> Result<(), AllocError>
+        ensures { OnOk result ((l : List (ℕ × ℕ)) → IsCourse self.old l → IsCourse self.new (l ++ (seconds, rows) ∷ [])) }
+    {
         self.times = match self.times {
             None => Some((seconds, seconds)),
             Some((first, last)) => Some((first.min(seconds), last.max(seconds))),
         };
-        let start = seconds - seconds % self.period.max(1);
-        if let Some(period) = self.periods.get_mut(&start) {
-            period.rows = period.rows.saturating_add(rows);
-            period.transactions = period.transactions.saturating_add(1);
-            return Ok(());
-        }
-        let period = PeriodTotals {
-            rows,
-            transactions: 1,
+        let start = seconds - seconds % self.period;
+        let mut period = PeriodTotals {
+            rows: 0,
+            transactions: 0,
         };
+        if let Some(so_far) = self.periods.get(&start) {
+            period = *so_far;
+        }
+        period.rows = period.rows.saturating_add(rows);
+        period.transactions = period.transactions.saturating_add(1);
         self.periods.insert(start, period)?;
         Ok(())
     }

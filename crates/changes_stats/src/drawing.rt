@@ -101,17 +101,14 @@ fn put_course(totals: &Totals, text: &mut Text) {
 fn put_shares(totals: &Totals, text: &mut Text) -> Result<(), AllocError> {
     let all = totals.counts.rows.rows();
     let mut y = HEIGHT + 2 * LINE;
-    for (place, index) in totals.tables.by_rows()?.iter().enumerate() {
-        if place >= TABLES {
+    for (index, (rest, number)) in totals.tables.by_rows()?.iter().enumerate() {
+        if index >= TABLES {
             break;
         }
-        let Some(table) = totals.tables.list.get(*index) else {
-            continue;
-        };
-        let rows = table.counts.rows();
+        let rows = u64::MAX - *rest;
         put_bar(0, y, share(rows, all, WIDTH / 2), LINE - 4, text);
         begin_label(WIDTH / 2 + 8, y.saturating_add(LINE - 8), text);
-        put_escaped(&table.name, text);
+        put_escaped(totals.tables.name(*number), text);
         text.words(": ");
         text.unsigned(rows);
         text.words("</text>\n");
@@ -122,7 +119,7 @@ fn put_shares(totals: &Totals, text: &mut Text) -> Result<(), AllocError> {
 
 /// Appends a drawing of the course and of the shares of the tables. `AllocError`: out of memory.
 pub fn put_drawing(totals: &Totals, text: &mut Text) -> Result<(), AllocError> {
-    let lines = totals.tables.list.len().min(TABLES) as u64;
+    let lines = totals.tables.names.len().min(TABLES) as u64;
     text.words(
         "<svg xmlns=\"http://www.w3.org/2000/svg\" font-family=\"sans-serif\" font-size=\"12\"",
     );

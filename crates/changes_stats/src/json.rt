@@ -29,13 +29,14 @@ fn put_counts(counts: RowCounts, text: &mut Text) {
 /// Appends the tables, those with the most rows first.
 fn put_tables(totals: &Totals, text: &mut Text) -> Result<(), AllocError> {
     text.words(",\"tables\":[");
-    for (place, index) in totals.tables.by_rows()?.iter().enumerate() {
-        if place > 0 {
+    for (index, (_, number)) in totals.tables.by_rows()?.iter().enumerate() {
+        if index > 0 {
             text.push(b',');
         }
-        if let Some(table) = totals.tables.list.get(*index) {
+        let name = totals.tables.name(*number);
+        if let Some(table) = totals.tables.totals.get(name) {
             text.words("{\"table\":");
-            text.text(&table.name);
+            text.text(name);
             put_counts(table.counts, text);
             put_number(",\"transactions\":", table.transactions, text);
             text.push(b'}');
@@ -55,7 +56,7 @@ fn put_large(large: &LargeTransaction, text: &mut Text) {
     put_number(",\"position\":", u64::from(large.end), text);
     put_number(",\"ts\":", u64::from(large.seconds), text);
     text.words(",\"gtid\":");
-    text.put(&large.gtid);
+    text.gtid(large.gtid.get());
     text.words(",\"tables\":");
     text.text(&large.tables);
     text.push(b'}');
@@ -95,16 +96,10 @@ fn put_pairs(totals: &Totals, text: &mut Text) {
         if index > 0 {
             text.push(b',');
         }
-        let (Some(one), Some(other)) = (
-            totals.tables.list.get(pair.0),
-            totals.tables.list.get(pair.1),
-        ) else {
-            continue;
-        };
         text.words("{\"tables\":[");
-        text.text(&one.name);
+        text.text(totals.tables.name(pair.0));
         text.push(b',');
-        text.text(&other.name);
+        text.text(totals.tables.name(pair.1));
         text.push(b']');
         put_number(",\"transactions\":", *count, text);
         text.push(b'}');

@@ -1,8 +1,13 @@
 //! The largest transactions.
 
+ghost use Rattle.std.specs.Prelude.{◌≡◌, ◌≤◌, ◌∷◌, ◌++◌, List, [], IfOk, OnOk, map, vec_len};
+ghost use Rattle.changes_stats.specs.CountedTransactions.{large, transaction_of};
+ghost use Rattle.changes_stats.specs.Largest.{Large, large_of};
+ghost use Rattle.changes_stats.specs.TableNames.{names_text};
+
 use crate::recorder::StatsRecorder;
-use changes_origins::put_gtid;
-use feed_text::TextBuffer;
+use crate::tables::TableRows;
+use feed_transactions::KeptGtid;
 use std::alloc::{AllocError, Global};
 
 /// One of the largest transactions.
@@ -15,10 +20,50 @@ pub struct LargeTransaction {
     pub begin: u32,
     pub end: u32,
     pub seconds: u32,
-    /// Its GTID as JSON.
-    pub gtid: Vec<u8>,
-    /// The names of its tables as text.
+    pub gtid: KeptGtid,
+    /// The names of its tables, with commas between them.
     pub tables: Vec<u8>,
+}
+
+impl LargeTransaction {
+    /// The newest transaction of a recorder, of a log with this name. `AllocError`: out of memory.
+    fn of(
+        alloc: Global,
+        file: &[u8],
+        newest: &StatsRecorder<'_>,
+    ) -> Result<LargeTransaction, AllocError>
+        ensures { IfOk result (λ t. large_of t ≡ large (transaction_of file.now newest.now)) }
+    {
+        let end = newest.commit.log_pos();
+        let mut gtid = KeptGtid::new(alloc);
+        gtid.keep_of(&newest.gtid)?;
+        Ok(LargeTransaction {
+            rows: newest.all.rows(),
+            bytes: u64::from(end.wrapping_sub(newest.begin)),
+            file: Vec::from_slice(alloc, file)?,
+            begin: newest.begin,
+            end,
+            seconds: newest.commit.timestamp(),
+            gtid,
+            tables: names_of(alloc, &newest.tables)?,
+        })
+    }
+}
+
+/// The names of tables, with commas between them. `AllocError`: out of memory.
+fn names_of(alloc: Global, tables: &[TableRows]) -> Result<Vec<u8>, AllocError>
+    ensures { IfOk result (λ v. v.items ≡ names_text (map (λ t. t.name.items) tables.now)) }
+{
+    let mut names = Vec::new(alloc);
+    let Some((first, rest)) = tables.split_first() else {
+        return Ok(names);
+    };
+    names.extend_from_slice(&first.name)?;
+    for table in rest {
+        names.extend_from_slice(b", ")?;
+        names.extend_from_slice(&table.name)?;
+    }
+    Ok(names)
 }
 
 /// The largest transactions, the largest first.
@@ -30,43 +75,13 @@ pub struct LargestTransactions {
     pub list: Vec<LargeTransaction>,
 }
 
-/// The names of the tables of the newest transaction of a recorder, as text.
-fn names_of(alloc: Global, newest: &StatsRecorder<'_>) -> Result<Vec<u8>, AllocError> {
-    let mut names = Vec::new(alloc);
-    for table in newest.rows() {
-        if !names.is_empty() {
-            names.extend_from_slice(b", ")?;
-        }
-        names.extend_from_slice(newest.name(table.table))?;
-    }
-    Ok(names)
-}
-
-/// The newest transaction of a recorder, of a log with this name.
-fn large_transaction(
-    alloc: Global,
-    file: &[u8],
-    newest: &StatsRecorder<'_>,
-    rows: u64,
-) -> Result<LargeTransaction, AllocError> {
-    let header = newest.commit_header();
-    let mut gtid = TextBuffer::new(alloc);
-    put_gtid(newest.gtid().get(), &mut gtid)?;
-    Ok(LargeTransaction {
-        rows,
-        bytes: newest.len(),
-        file: Vec::from_slice(alloc, file)?,
-        begin: newest.begin(),
-        end: header.log_pos(),
-        seconds: header.timestamp(),
-        gtid: Vec::from_slice(alloc, gtid.as_slice())?,
-        tables: names_of(alloc, newest)?,
-    })
-}
-
 impl LargestTransactions {
+    ghost use Rattle.changes_stats.specs.Largest.{AreLargest, index_of};
+
     /// No transactions; so many will be kept.
-    pub(crate) fn new(alloc: Global, count: usize) -> LargestTransactions {
+    pub(crate) fn new(alloc: Global, count: usize) -> LargestTransactions
+        ensures { AreLargest result [] }
+    {
         LargestTransactions {
             alloc,
             count,
@@ -75,7 +90,10 @@ impl LargestTransactions {
     }
 
     /// The index at which a transaction of so many rows belongs: after those with as many.
-    fn place_of(&self, rows: u64) -> usize {
+    fn index_of(&self, rows: u64) -> usize
+        ensures index { result ≡ index_of rows (map large_of self.now.list.items) }
+        ensures within { result ≤ vec_len self.now.list }
+    {
         for (index, other) in self.list.iter().enumerate() {
             if other.rows < rows {
                 return index;
@@ -84,19 +102,21 @@ impl LargestTransactions {
         self.list.len()
     }
 
-    /// Adds the newest transaction of a recorder, of a log with this name, if it has rows and is one of the largest.
-    pub(crate) fn add(
-        &mut self,
-        file: &[u8],
-        newest: &StatsRecorder<'_>,
-        rows: u64,
-    ) -> Result<(), AllocError> {
-        let place = self.place_of(rows);
-        if rows == 0 || place >= self.count {
+    /// Adds the newest transaction of a recorder, of a log with this name, if it has rows and is one of the largest. `AllocError`: out of
+    /// memory.
+    pub(crate) fn add(&mut self, file: &[u8], newest: &StatsRecorder<'_>) -> Result<(), AllocError>
+        ensures { OnOk result ((l : List Large) → AreLargest self.old l → AreLargest self.new (l ++ large (transaction_of file.now newest.now) ∷ [])) }
+    {
+        let rows = newest.all.rows();
+        if rows == 0 {
             return Ok(());
         }
-        let large = large_transaction(self.alloc, file, newest, rows)?;
-        self.list.insert(place, large)?;
+        let index = self.index_of(rows);
+        if index >= self.count {
+            return Ok(());
+        }
+        let large = LargeTransaction::of(self.alloc, file, newest)?;
+        self.list.insert(index, large)?;
         self.list.truncate(self.count);
         Ok(())
     }

@@ -1,120 +1,156 @@
 //! The tables of all transactions.
 
+ghost use Rattle.std.specs.Prelude.{◌≡◌, ◌∷◌, ◌++◌, List, [], OnOk, map};
+ghost use Rattle.changes_stats.specs.TableSums.{AddsRows, named_counts};
+
 use crate::counts::RowCounts;
-use crate::recorder::StatsRecorder;
 use std::alloc::{AllocError, Global};
 use std::collections::BTreeMap;
 
-/// The rows of a table, and in how many transactions they are.
+/// The rows of a table in a transaction.
 #[derive(Drop)]
-pub struct TableTotals {
+pub struct TableRows {
+    /// Its name: that of the database, a point, and that of the table.
     pub name: Vec<u8>,
     pub counts: RowCounts,
+}
+
+/// Adds rows of the table with this name. `AllocError`: out of memory.
+pub(crate) fn add_rows(
+    alloc: Global,
+    tables: &mut Vec<TableRows>,
+    name: &[u8],
+    counts: RowCounts,
+) -> Result<(), AllocError>
+    ensures { OnOk result (AddsRows (map named_counts tables.old.items) (map named_counts tables.new.items) (record { name = name.now; counts = counts })) }
+{
+    for rows in tables.iter_mut() {
+        if rows.name.as_slice() == name {
+            rows.counts = rows.counts.plus(counts);
+            return Ok(());
+        }
+    }
+    tables.push(TableRows {
+        name: Vec::from_slice(alloc, name)?,
+        counts: RowCounts::NONE.plus(counts),
+    })?;
+    Ok(())
+}
+
+/// The rows of a table, and in how many transactions they are.
+#[derive(Clone, Copy)]
+pub struct TableTotals {
+    /// The number of the table, in the order of their first rows.
+    pub number: usize,
+    pub counts: RowCounts,
+    /// It stays at 2^64 - 1 once it is there.
     pub transactions: u64,
 }
 
 /// Tables of one transaction, up to which each two of them are counted.
 const MANY_TABLES: usize = 32;
 
+/// Adds one to each pair of these tables. `AllocError`: out of memory.
+fn add_pairs(
+    numbers: &[usize],
+    pairs: &mut BTreeMap<(usize, usize), u64>,
+) -> Result<(), AllocError> {
+    for one in numbers {
+        for other in numbers {
+            if one < other {
+                let mut count = 0;
+                if let Some(so_far) = pairs.get(&(*one, *other)) {
+                    count = *so_far;
+                }
+                pairs.insert((*one, *other), count.saturating_add(1))?;
+            }
+        }
+    }
+    Ok(())
+}
+
 /// The tables of all transactions.
 #[derive(Drop)]
 pub struct TableList {
     alloc: Global,
-    pub list: Vec<TableTotals>,
+    /// The names of the tables by their numbers.
+    pub(crate) names: Vec<Vec<u8>>,
     /// The tables by their names.
-    indexes: BTreeMap<Vec<u8>, usize>,
-    /// The tables of the newest transaction.
+    pub(crate) totals: BTreeMap<Vec<u8>, TableTotals>,
+    /// The numbers of the tables of the newest transaction.
     newest: Vec<usize>,
-    /// In how many transactions two tables are together, by their indexes.
-    pub pairs: BTreeMap<(usize, usize), u64>,
+    /// In how many transactions two tables are together, by their numbers, the lower one first. It stays at 2^64 - 1 once it is there.
+    pub(crate) pairs: BTreeMap<(usize, usize), u64>,
 }
 
 impl TableList {
+    ghost use Rattle.changes_stats.specs.TableSums.{AreTables, NamedCounts};
+
     /// No tables.
-    pub(crate) fn new(alloc: Global) -> TableList {
+    pub(crate) fn new(alloc: Global) -> TableList
+        ensures { AreTables result [] }
+    {
         TableList {
             alloc,
-            list: Vec::new(alloc),
-            indexes: BTreeMap::new(alloc),
+            names: Vec::new(alloc),
+            totals: BTreeMap::new(alloc),
             newest: Vec::new(alloc),
             pairs: BTreeMap::new(alloc),
         }
     }
 
-    /// The index of the table with this name.
-    fn index_of(&mut self, name: &[u8]) -> Result<usize, AllocError> {
-        if let Some(index) = self.indexes.get(name) {
-            return Ok(*index);
-        }
-        let index = self.list.len();
-        let key = Vec::from_slice(self.alloc, name)?;
-        self.indexes.insert(key, index)?;
-        self.list.push(TableTotals {
-            name: Vec::from_slice(self.alloc, name)?,
-            counts: RowCounts::NONE,
-            transactions: 0,
-        })?;
-        Ok(index)
-    }
-
-    /// Adds the rows of a table.
-    fn add_table(&mut self, name: &[u8], counts: RowCounts) -> Result<(), AllocError> {
-        let index = self.index_of(name)?;
-        if let Some(table) = self.list.get_mut(index) {
+    /// Adds the rows of a table in a transaction. `AllocError`: out of memory.
+    fn add_table(&mut self, name: &[u8], counts: RowCounts) -> Result<(), AllocError>
+        ensures { OnOk result ((l : List NamedCounts) → AreTables self.old l → AreTables self.new (l ++ record { name = name.now; counts = counts } ∷ [])) }
+    {
+        if let Some(table) = self.totals.get_mut(name) {
             table.counts = table.counts.plus(counts);
             table.transactions = table.transactions.saturating_add(1);
-        }
-        self.newest.push(index)?;
-        Ok(())
-    }
-
-    /// Adds one to a pair of tables.
-    fn add_pair(&mut self, one: usize, other: usize) -> Result<(), AllocError> {
-        let pair = (one.min(other), one.max(other));
-        if let Some(count) = self.pairs.get_mut(&pair) {
-            *count = count.saturating_add(1);
+            self.newest.push(table.number)?;
             return Ok(());
         }
-        self.pairs.insert(pair, 1)?;
+        let number = self.names.len();
+        self.names.push(Vec::from_slice(self.alloc, name)?)?;
+        self.newest.push(number)?;
+        let table = TableTotals {
+            number,
+            counts: RowCounts::NONE.plus(counts),
+            transactions: 1,
+        };
+        self.totals
+            .insert(Vec::from_slice(self.alloc, name)?, table)?;
         Ok(())
     }
 
-    /// Adds one to each pair of tables of the newest transaction.
-    fn add_pairs(&mut self) -> Result<(), AllocError> {
-        let count = self.newest.len();
-        if count > MANY_TABLES {
-            return Ok(());
-        }
-        for first in 0..count {
-            for second in first + 1..count {
-                let one = self.newest[first];
-                let other = self.newest[second];
-                self.add_pair(one, other)?;
-            }
-        }
-        Ok(())
-    }
-
-    /// Adds the tables of the newest transaction of a recorder.
-    pub(crate) fn add(&mut self, newest: &StatsRecorder<'_>) -> Result<(), AllocError> {
+    /// Adds the tables of a transaction. `AllocError`: out of memory.
+    pub(crate) fn add(&mut self, tables: &[TableRows]) -> Result<(), AllocError>
+        ensures { OnOk result ((l : List NamedCounts) → AreTables self.old l → AreTables self.new (l ++ map named_counts tables.now)) }
+    {
         self.newest.clear();
-        for table in newest.rows() {
-            self.add_table(newest.name(table.table), table.counts)?;
+        for table in tables {
+            self.add_table(&table.name, table.counts)?;
         }
-        self.add_pairs()
+        if self.newest.len() <= MANY_TABLES {
+            add_pairs(&self.newest, &mut self.pairs)?;
+        }
+        Ok(())
     }
 
-    /// The indexes of the tables, those with the most rows first.
-    pub(crate) fn by_rows(&self) -> Result<Vec<usize>, AllocError> {
+    /// The numbers of the tables, those with the most rows first, each after 2^64 - 1 less its rows. `AllocError`: out of memory.
+    pub(crate) fn by_rows(&self) -> Result<Vec<(u64, usize)>, AllocError> {
         let mut order = Vec::new(self.alloc);
-        for (index, table) in self.list.iter().enumerate() {
-            order.push((u64::MAX - table.counts.rows(), index))?;
+        for (_, table) in &self.totals {
+            order.push((u64::MAX - table.counts.rows(), table.number))?;
         }
         order.sort()?;
-        let mut indexes = Vec::new(self.alloc);
-        for (_, index) in &order {
-            indexes.push(*index)?;
+        Ok(order)
+    }
+
+    /// The name of the table with a number; no bytes if there is none.
+    pub(crate) fn name(&self, number: usize) -> &[u8] {
+        match self.names.get(number) {
+            Some(name) => name,
+            None => &[],
         }
-        Ok(indexes)
     }
 }

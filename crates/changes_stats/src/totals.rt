@@ -1,6 +1,7 @@
 //! The counts of all transactions.
 
-ghost use Rattle.std.specs.Prelude.{◌≡◌, OnOk};
+ghost use Rattle.std.specs.Prelude.{◌≡◌, ◌++◌, List, [], OnOk};
+ghost use Rattle.changes_stats.specs.CountedTransactions.{Counted, counted};
 
 use crate::counts::Counts;
 use crate::course::Course;
@@ -19,10 +20,12 @@ pub struct Totals {
 }
 
 impl Totals {
-    ghost use Rattle.changes_stats.specs.RecordedCounts.{counts_with};
+    ghost use Rattle.changes_stats.specs.CountedTransactions.{AreTotals};
 
     /// No transactions. The course is by periods of so many seconds, and so many of the largest transactions are kept.
-    pub fn new(alloc: Global, period: u32, largest: usize) -> Totals {
+    pub fn new(alloc: Global, period: u32, largest: usize) -> Totals
+        ensures { AreTotals result [] }
+    {
         Totals {
             counts: Counts::NONE,
             tables: TableList::new(alloc),
@@ -33,21 +36,21 @@ impl Totals {
 
     /// Adds the newest transaction of a recorder, of a log with this name, if it has rows or statements.
     ///
-    /// - `AllocError`: out of memory; the counts are those before it.
+    /// - `AllocError`: out of memory; a part of it may be added.
     pub fn add(&mut self, file: &[u8], newest: &StatsRecorder<'_>) -> Result<(), AllocError>
-        ensures { OnOk result (self.new.counts ≡ counts_with self.old.counts newest.now) }
+        ensures { OnOk result ((l : List Counted) → AreTotals self.old l → AreTotals self.new (l ++ counted file.now newest.now)) }
     {
         if newest.is_empty() {
             return Ok(());
         }
-        let rows = newest.all().rows();
-        let seconds = newest.commit_header().timestamp();
-        self.tables.add(newest)?;
-        self.course.add(seconds, rows)?;
-        self.largest.add(file, newest, rows)?;
+        let bytes = u64::from(newest.commit.log_pos().wrapping_sub(newest.begin));
         self.counts = self
             .counts
-            .with_transaction(newest.all(), newest.statements(), newest.len());
+            .with_transaction(newest.all, newest.statements, bytes);
+        self.course
+            .add(newest.commit.timestamp(), newest.all.rows())?;
+        self.tables.add(&newest.tables)?;
+        self.largest.add(file, newest)?;
         Ok(())
     }
 }

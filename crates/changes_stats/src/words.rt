@@ -16,11 +16,11 @@ const NUMBER_WIDTH: usize = 14;
 /// How many pairs of tables are shown.
 const PAIRS: usize = 10;
 
-/// Appends a number at the right of so many characters.
-fn put_right(number: u64, width: usize, text: &mut Text) {
+/// Appends a number at the right of its width.
+fn put_right(number: u64, text: &mut Text) {
     let mut digits = [0; 20];
     let len = put_number(&mut digits, 0, number);
-    for _ in len..width {
+    for _ in len..NUMBER_WIDTH {
         text.push(b' ');
     }
     text.put(&digits[..len]);
@@ -42,11 +42,11 @@ pub(crate) fn put_time(seconds: u32, text: &mut Text) {
 
 /// Appends a line of counts.
 fn put_counts(counts: RowCounts, transactions: u64, name: &[u8], text: &mut Text) {
-    put_right(counts.inserted, NUMBER_WIDTH, text);
-    put_right(counts.updated, NUMBER_WIDTH, text);
-    put_right(counts.deleted, NUMBER_WIDTH, text);
-    put_right(counts.bytes, NUMBER_WIDTH, text);
-    put_right(transactions, NUMBER_WIDTH, text);
+    put_right(counts.inserted, text);
+    put_right(counts.updated, text);
+    put_right(counts.deleted, text);
+    put_right(counts.bytes, text);
+    put_right(transactions, text);
     text.words("  ");
     text.put(name);
     text.push(b'\n');
@@ -55,9 +55,10 @@ fn put_counts(counts: RowCounts, transactions: u64, name: &[u8], text: &mut Text
 /// Appends the rows by table.
 fn put_tables(totals: &Totals, text: &mut Text) -> Result<(), AllocError> {
     text.words("      inserted       updated       deleted   event bytes  transactions  table\n");
-    for index in &totals.tables.by_rows()? {
-        if let Some(table) = totals.tables.list.get(*index) {
-            put_counts(table.counts, table.transactions, &table.name, text);
+    for (_, number) in &totals.tables.by_rows()? {
+        let name = totals.tables.name(*number);
+        if let Some(table) = totals.tables.totals.get(name) {
+            put_counts(table.counts, table.transactions, name, text);
         }
     }
     put_counts(totals.counts.rows, totals.counts.transactions, b"all", text);
@@ -85,8 +86,8 @@ fn put_largest(totals: &Totals, text: &mut Text) {
         "\nthe largest transactions\n          rows         bytes  log, from and to position, time, GTID, tables\n",
     );
     for large in &totals.largest.list {
-        put_right(large.rows, NUMBER_WIDTH, text);
-        put_right(large.bytes, NUMBER_WIDTH, text);
+        put_right(large.rows, text);
+        put_right(large.bytes, text);
         text.words("  ");
         text.put(&large.file);
         text.push(b' ');
@@ -96,7 +97,7 @@ fn put_largest(totals: &Totals, text: &mut Text) {
         text.push(b' ');
         put_time(large.seconds, text);
         text.push(b' ');
-        text.put(&large.gtid);
+        text.gtid(large.gtid.get());
         text.push(b' ');
         text.put(&large.tables);
         text.push(b'\n');
@@ -120,19 +121,12 @@ fn put_course(totals: &Totals, text: &mut Text) {
     let most = totals.course.most_rows();
     for (start, period) in &totals.course.periods {
         put_time(*start, text);
-        put_right(period.rows, NUMBER_WIDTH, text);
+        put_right(period.rows, text);
         text.words("  ");
         for _ in 0..bar_len(period.rows, most) {
             text.push(b'#');
         }
         text.push(b'\n');
-    }
-}
-
-/// Appends the name of a table.
-fn put_name(totals: &Totals, index: usize, text: &mut Text) {
-    if let Some(table) = totals.tables.list.get(index) {
-        text.put(&table.name);
     }
 }
 
@@ -151,11 +145,11 @@ fn put_pairs(totals: &Totals, text: &mut Text) -> Result<(), AllocError> {
         if index >= PAIRS {
             break;
         }
-        put_right(u64::MAX - *rest, NUMBER_WIDTH, text);
+        put_right(u64::MAX - *rest, text);
         text.words("  ");
-        put_name(totals, pair.0, text);
+        text.put(totals.tables.name(pair.0));
         text.words(", ");
-        put_name(totals, pair.1, text);
+        text.put(totals.tables.name(pair.1));
         text.push(b'\n');
     }
     Ok(())
