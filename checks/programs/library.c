@@ -1,7 +1,9 @@
 /* Tries libcuvragyen from C, for checks/programs/library.
 
-   library lines FILE SEED OPTIONS: prints JSON lines of a log that is pushed in pieces of random lengths, or of one byte if SEED is 1.
+   library lines FILE SEED OPTIONS: prints JSON lines of a log that is pushed in pieces of random lengths, or of one byte if SEED is 1;
+   on standard error how the log ended, and before it for each transaction what the commit's header has.
    library misuse FILE: makes calls that a careful program doesn't.
+   library beside FILE OTHER: reads two logs by turns, and each finds what it finds alone.
    library threads FILE: 8 threads read the log, and one handle goes from thread to thread; prints nothing if all find the same.
    library refused FILE OPTIONS: each allocation fails in turn; prints how many runs there were. A log then shows
    no other transactions, and ends by Memory, or at an event that others should have replaced, or all is the same in another way. */
@@ -97,9 +99,21 @@ static void take_all(cuvragyen *log, struct result *found, FILE *out) {
             sums[found->transactions] = found->sum;
         }
         if (out) {
+            cuvragyen_header commit;
+            expect(cuvragyen_commit(log, &commit) == CUVRAGYEN_TRANSACTION, "a transaction without a commit");
             fwrite(shown.at, 1, shown.len, out);
+            fprintf(stderr, "%u %u %u\n", commit.time, commit.server_id, commit.position);
         }
     }
+}
+
+/* Prints how a log ended, as binlog-changes check --json does. */
+static void print_end(cuvragyen_end end) {
+    cuvragyen_view name;
+    cuvragyen_verdict_name(end.verdict, &name);
+    fprintf(stderr, "{\"verdict\": \"%.*s\", \"offset\": %llu, \"remaining\": %llu, \"is_open\": %d, \"is_cut\": %d, \"last_commit\": ", (int)name.len,
+            (const char *)name.at, (unsigned long long)end.offset, (unsigned long long)end.remaining, end.is_open, end.is_cut);
+    fprintf(stderr, end.has_last_commit ? "%u}\n" : "null}\n", end.last_commit);
 }
 
 /* Reads a log in pieces. Each piece is freed before the next call, so that a checker sees a use of it. */
@@ -128,6 +142,9 @@ static struct result read_log(struct bytes all, unsigned seed, const char *optio
     expect(cuvragyen_stop(&log, &end) == CUVRAGYEN_OK, "an open log can't be stopped");
     found.verdict = end.verdict;
     cuvragyen_close(&log);
+    if (out) {
+        print_end(end);
+    }
     return found;
 }
 
@@ -146,16 +163,80 @@ static void while_closed(cuvragyen *log) {
     cuvragyen_close(log);
 }
 
+/* What an option's text gives. */
+static const struct {
+    const char *text;
+    uint32_t result;
+} OPTIONS[] = {
+    {"", CUVRAGYEN_OK},
+    {"\n\n", CUVRAGYEN_OK},
+    {"file=", CUVRAGYEN_OK},
+    {"file=a=b", CUVRAGYEN_OK},
+    {"transactions=1\ntransactions=0\n", CUVRAGYEN_OK},
+    {"table=a.b\ntable=c.*\ndatabase=d\ndatabase=e", CUVRAGYEN_OK},
+    {"after=4294967295\nup-to=0", CUVRAGYEN_OK},
+    {"from-time=18446744073709551615\nto-time=0", CUVRAGYEN_OK},
+    {"character-set=latin1", CUVRAGYEN_OK},
+    {"max-transaction=0", CUVRAGYEN_OK},
+    {"colour=red", CUVRAGYEN_BAD_OPTION},
+    {"file", CUVRAGYEN_OK},
+    {"=", CUVRAGYEN_BAD_OPTION},
+    {"FILE=a", CUVRAGYEN_BAD_OPTION},
+    {" file=a", CUVRAGYEN_BAD_OPTION},
+    {"file=a\nfile", CUVRAGYEN_OK},
+    {"transactions", CUVRAGYEN_BAD_VALUE},
+    {"transactions=yes", CUVRAGYEN_BAD_VALUE},
+    {"transactions=1 ", CUVRAGYEN_BAD_VALUE},
+    {"numbers-as-strings=2", CUVRAGYEN_BAD_VALUE},
+    {"with=", CUVRAGYEN_BAD_VALUE},
+    {"with=begin,xid", CUVRAGYEN_BAD_VALUE},
+    {"character-set=latin99", CUVRAGYEN_BAD_VALUE},
+    {"character-set=\xff", CUVRAGYEN_BAD_VALUE},
+    {"database=", CUVRAGYEN_BAD_VALUE},
+    {"database=sho*", CUVRAGYEN_BAD_VALUE},
+    {"table=orders", CUVRAGYEN_BAD_VALUE},
+    {"table=.orders", CUVRAGYEN_BAD_VALUE},
+    {"table=shop.", CUVRAGYEN_BAD_VALUE},
+    {"exclude-table=orders", CUVRAGYEN_BAD_VALUE},
+    {"after=-1", CUVRAGYEN_BAD_VALUE},
+    {"after=4294967296", CUVRAGYEN_BAD_VALUE},
+    {"up-to=", CUVRAGYEN_BAD_VALUE},
+    {"from-time=2026-11-27", CUVRAGYEN_BAD_VALUE},
+    {"to-time=18446744073709551616", CUVRAGYEN_BAD_VALUE},
+    {"max-transaction=1G", CUVRAGYEN_BAD_VALUE},
+};
+
+/* Opens a log by each text of options. One that isn't taken leaves the handle closed, and a log can still be opened. */
+static void with_options(void) {
+    for (size_t at = 0; at < sizeof OPTIONS / sizeof *OPTIONS; at++) {
+        cuvragyen log = CUVRAGYEN_CLOSED;
+        uint32_t opened = cuvragyen_open(&log, OPTIONS[at].text, strlen(OPTIONS[at].text));
+        if (opened != OPTIONS[at].result) {
+            fprintf(stderr, "library: the options %s: %u\n", OPTIONS[at].text, opened);
+            exit(1);
+        }
+        expect((log.log != NULL) == (opened == CUVRAGYEN_OK), "a handle that isn't open after wrong options");
+        cuvragyen_close(&log);
+    }
+}
+
+/* Each number has a name exactly if a verdict has it. */
+static void with_names(void) {
+    for (uint32_t number = 0; number < 300; number++) {
+        cuvragyen_view name = {NULL, 99};
+        cuvragyen_verdict_name(number, &name);
+        expect((name.len > 0) == (number >= CUVRAGYEN_END && number <= CUVRAGYEN_READ + 1), "the name of a number");
+    }
+}
+
 static void misuse(struct bytes all) {
     cuvragyen log = CUVRAGYEN_CLOSED;
     cuvragyen_view view = {NULL, 0};
     cuvragyen_header header = {1, 2, 3};
     cuvragyen_end end;
     while_closed(&log);
-    expect(cuvragyen_open(&log, "colour=red", 10) == CUVRAGYEN_BAD_OPTION, "an unknown option");
-    expect(cuvragyen_open(&log, "table=orders", 12) == CUVRAGYEN_BAD_VALUE, "a table without a database");
-    expect(cuvragyen_open(&log, "after=x\n", 8) == CUVRAGYEN_BAD_VALUE, "a position that is none");
-    while_closed(&log);
+    with_options();
+    with_names();
     expect(cuvragyen_open(&log, "", 0) == CUVRAGYEN_OK, "no options");
     expect(cuvragyen_open(&log, "", 0) == CUVRAGYEN_OPEN_HANDLE, "an open handle is opened");
     expect(cuvragyen_next(&log) == CUVRAGYEN_OK, "next before the first piece");
@@ -175,6 +256,32 @@ static void misuse(struct bytes all) {
     expect(cuvragyen_stop(&moved, &end) == CUVRAGYEN_OK, "the stop before the transactions");
     expect(cuvragyen_push(&moved, all.at, all.len) == CUVRAGYEN_END && cuvragyen_next(&moved) == CUVRAGYEN_END, "calls after the stop");
     cuvragyen_close(&moved);
+}
+
+/* Two logs that are read by turns, with other options. */
+static void beside(struct bytes first, struct bytes second) {
+    static const char *const options[2] = {"", "transactions=1\nwith=all"};
+    struct bytes all[2] = {first, second};
+    struct result wanted[2], found[2] = {{0, 0, 0}, {0, 0, 0}};
+    cuvragyen logs[2] = {CUVRAGYEN_CLOSED, CUVRAGYEN_CLOSED};
+    for (int which = 0; which < 2; which++) {
+        wanted[which] = read_log(all[which], 2, options[which], NULL);
+        expect(cuvragyen_open(&logs[which], options[which], strlen(options[which])) == CUVRAGYEN_OK, "no log beside another");
+    }
+    for (size_t at = 0; at < first.len || at < second.len; at += 100) {
+        for (int which = 0; which < 2; which++) {
+            size_t left = at < all[which].len ? all[which].len - at : 0;
+            cuvragyen_push(&logs[which], all[which].at + (left ? at : 0), left < 100 ? left : 100);
+            take_all(&logs[which], &found[which], NULL);
+        }
+    }
+    for (int which = 0; which < 2; which++) {
+        cuvragyen_end end;
+        cuvragyen_stop(&logs[which], &end);
+        found[which].verdict = end.verdict;
+        cuvragyen_close(&logs[which]);
+        expect(!memcmp(&found[which], &wanted[which], sizeof found[which]), "a log beside another gives something else");
+    }
 }
 
 struct shared {
@@ -246,12 +353,16 @@ static void refused(struct bytes all, const char *options) {
 }
 
 int main(int argc, char **argv) {
-    expect(argc > 2, "library lines | misuse | threads | refused FILE ..");
+    expect(argc > 2, "library lines | misuse | beside | threads | refused FILE ..");
     struct bytes all = read_all(argv[2]);
     if (!strcmp(argv[1], "lines")) {
         read_log(all, strtoul(argv[3], NULL, 10), argv[4], stdout);
     } else if (!strcmp(argv[1], "misuse")) {
         misuse(all);
+    } else if (!strcmp(argv[1], "beside")) {
+        struct bytes other = read_all(argv[3]);
+        beside(all, other);
+        __real_free(other.at);
     } else if (!strcmp(argv[1], "threads")) {
         threads(all);
     } else {

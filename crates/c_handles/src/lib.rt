@@ -1,9 +1,8 @@
-//! What crosses to C: a handle of a box, and where bytes are.
+//! What crosses to C: a box as its pointer, and where bytes are.
 #![tactic(auto)]
 
-mod handle;
-mod loose_box;
+mod held;
 mod view;
 
-pub use handle::Handle;
+pub use held::Held;
 pub use view::{View, view_of};

@@ -4,15 +4,15 @@ use Rattle.c_handles.specs.declared.view.View.{View}
 use Rattle.events_frames.specs.Headers.{event_header_of}
 use Rattle.feed_checks.specs.EventFields.{Event}
 use Rattle.feed_checks.specs.declared.verdict.Verdict.{Verdict}
-use Rattle.feed_checks.specs.declared.verdict.Verdict.TheVariants.{Memory}
+use Rattle.feed_checks.specs.declared.verdict.Verdict.TheVariants.{End, Memory}
 use Rattle.feed_transactions.specs.Changes.{Committed}
 use Rattle.feed_transactions.specs.Recorders.{Stays}
 use Rattle.feed_change_log.specs.Filters.{table_filter_of}
 use Rattle.feed_change_log.specs.declared.stop.Stop.{Stop}
 use Rattle.feed_pushed_log.specs.PushedLogs.{left_in, recorder_in, source_of, verdict_in}
 use Rattle.changes_lines.specs.RecordedLines.{IsDoneJson, IsLikeJson, filter_of}
-use Rattle.library_sources.specs.LibrarySources.{Begins}
-use Rattle.library_log.specs.ReadLogs.{log_in, fault_in, filter_in, has_newest, shown_in, is_by_transaction_in, file_in, finds, early_end, ended_by, HasTaken, Advances, Pushes, IsPushError, CountsTaken}
+use Rattle.library_sources.specs.LibrarySources.{Begins, unread_in}
+use Rattle.library_log.specs.ReadLogs.{log_in, fault_in, filter_in, has_newest, shown_in, is_by_transaction_in, file_in, finds, early_end, ended_by, HasTaken, Advances, Pushes, IsPushError, CountsTaken, CountsUnread}
 use Rattle.library_log.specs.ShownTransactions.{HasLines}
 use Rattle.library_log.specs.declared.part.Part.{Part}
 use Rattle.library_log.specs.declared.part.Part.TheVariants as parts
@@ -103,6 +103,7 @@ pub record Ends (s new : ReadLog) (stop : Stop) : Type 0 where
   pub verdict : stop.verdict ≡ ended_by s
   pub counts : (past : List Event) → HasTaken (log_in s) past → CountsTaken stop past
   pub begin : IfSome (early_end s) (λ v. stop.offset ≡ 0)
+  pub unread : early_end s ≡ None → stop.verdict ≡ End → CountsUnread stop (unread_in (source_of (log_in s)))
   pub ended : IsSome (verdict_in (log_in new))
   pub fault : fault_in new ≡ early_end s
 

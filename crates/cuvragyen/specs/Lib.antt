@@ -1,3 +1,4 @@
+pub mod PartRows
 pub mod VerdictNumbers
 pub mod Exports
 pub mod KeptTexts

@@ -2,6 +2,7 @@
 #![tactic(auto)]
 
 mod checksums;
+mod handle;
 mod kept;
 mod logs;
 mod numbers;
@@ -9,5 +10,6 @@ mod parts;
 mod requests;
 mod verdicts;
 
+pub use handle::Handle;
 pub use kept::KeptText;
 pub use logs::{LogHeader, LogStop};

@@ -3,8 +3,9 @@
 ghost use Rattle.std.specs.Prelude.{◌≡◌, IfSome, None, Some};
 ghost use Rattle.cuvragyen.specs.Exports.{GoesOn, HasHeader, IsHarmless, Keeps, OnLog, RepresentsStop, Shows, Stops, open_log};
 
+use crate::handle::Handle;
 use crate::numbers::{CLOSED, OK, TRANSACTION, number_of, number_of_done, number_of_next};
-use c_handles::{Handle, View, view_of};
+use c_handles::{View, view_of};
 use feed_change_log::Stop;
 use library_log::Part;
 use std::alloc::Global;

@@ -3,8 +3,8 @@
 ghost use Rattle.std.specs.Prelude.{◌≡◌, None, Some};
 ghost use Rattle.cuvragyen.specs.Exports.{HasNew, HasState, IsHarmless};
 
+use crate::handle::Handle;
 use crate::numbers::{CLOSED, MEMORY, OK, number_of_fault};
-use c_handles::Handle;
 use library_log::{Part, ReadLog, SharedState};
 use std::alloc::Global;
 use std::mem::replace;

@@ -1,6 +1,7 @@
 //! A binary log as libcuvragyen reads it: its options, the pieces that were pushed, and the newest transaction as JSON lines.
 #![tactic(auto)]
 
+mod log_end;
 mod magic_number;
 mod option_text;
 mod options;

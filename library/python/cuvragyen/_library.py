@@ -6,7 +6,8 @@ import os
 from typing import Optional, Tuple
 
 LIBRARY = ctypes.CDLL(os.environ.get("CUVRAGYEN_LIBRARY", "libcuvragyen.so.0"))
-OK, TRANSACTION, BAD_OPTION, BAD_VALUE = 0, 1, 3, 4
+OK, TRANSACTION = 0, 1
+NAMES = {2: "ClosedHandle", 3: "Option", 4: "Value"}
 END = 100
 MAX_FILE_LEN = 1024
 
@@ -79,9 +80,9 @@ class Fault(Exception):
 
 
 def verdict_name(number: int) -> str:
-    """The name of a verdict, such as Checksum; Option or Value for options that can't be taken."""
-    if number in (BAD_OPTION, BAD_VALUE):
-        return "Option" if number == BAD_OPTION else "Value"
+    """The name of a verdict, such as Checksum; ClosedHandle for a closed log, Option or Value for options that can't be taken."""
+    if number in NAMES:
+        return NAMES[number]
     view = View()
     LIBRARY.cuvragyen_verdict_name(number, ctypes.byref(view))
     return ctypes.string_at(view.at, view.len).decode() if view.len else "Unknown"

@@ -39,6 +39,14 @@ class End(NamedTuple):
         return self.verdict == "End" and not self.is_open and not self.is_cut
 
 
+def _is_there(result: int) -> None:
+    """Raises an error if a call found no transaction."""
+    if result == c.OK:
+        raise ValueError("the log has gone on from this transaction")
+    if result != c.TRANSACTION:
+        raise c.Fault(result)
+
+
 class Transaction:
     """A committed transaction. It and its views are valid until its log goes on."""
 
@@ -49,18 +57,14 @@ class Transaction:
     def header(self) -> Header:
         """The event that committed it."""
         header = c.CommitHeader()
-        c.LIBRARY.cuvragyen_commit(self._log._handle, ctypes.byref(header))
+        _is_there(c.LIBRARY.cuvragyen_commit(self._log._handle, ctypes.byref(header)))
         return Header(header.time, header.server_id, header.position)
 
     def view(self) -> memoryview:
         """Its JSON lines, without a copy."""
         view = c.View()
-        result = c.LIBRARY.cuvragyen_show(self._log._handle, ctypes.byref(view))
-        if result == c.TRANSACTION:
-            return memoryview((ctypes.c_ubyte * view.len).from_address(view.at)).cast("B").toreadonly()
-        if result == c.OK:
-            return memoryview(b"")
-        raise c.Fault(result)
+        _is_there(c.LIBRARY.cuvragyen_show(self._log._handle, ctypes.byref(view)))
+        return memoryview((ctypes.c_ubyte * view.len).from_address(view.at)).cast("B").toreadonly()
 
     def lines(self) -> bytes:
         """Its JSON lines, each with a line feed."""
@@ -114,7 +118,9 @@ class Log:
     def stop(self) -> End:
         """Ends the log, and returns how it ended: by End if it has no fault."""
         end = c.Ended()
-        c.LIBRARY.cuvragyen_stop(self._handle, ctypes.byref(end))
+        result = c.LIBRARY.cuvragyen_stop(self._handle, ctypes.byref(end))
+        if result != c.OK:
+            raise c.Fault(result)
         return End(
             c.verdict_name(end.verdict),
             end.offset,

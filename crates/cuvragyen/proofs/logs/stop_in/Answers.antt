@@ -7,5 +7,5 @@ returns-clause-stops c = goes_to _ _ c.in-Log.log c.finish.new.self c.in-Log.is 
   number = refl;
   stop = c.finish.result;
   represents = c.stop_of.ensures;
-  ends = record { verdict = c.finish.ensures.verdict; counts = c.finish.ensures.counts; begin = c.finish.ensures.begin; ended = c.finish.ensures.ended; fault = c.finish.ensures.fault };
+  ends = record { verdict = c.finish.ensures.verdict; counts = c.finish.ensures.counts; begin = c.finish.ensures.begin; unread = c.finish.ensures.unread; ended = c.finish.ensures.ended; fault = c.finish.ensures.fault };
 })
