@@ -1,1 +1,2 @@
 pub mod LineSinkLemmas
+pub mod CountSinkLemmas

@@ -1,1 +1,2 @@
 pub mod LineSinks
+pub mod CountSinks

@@ -18,26 +18,38 @@ struct StatsSink<'s> {
 }
 
 impl<'f> TransactionSink<StatsRecorder<'f>> for StatsSink<'_> {
-    ghost use Rattle.std.specs.Prelude.{⊤};
+    ghost use Rattle.std.specs.Prelude.{◌≡◌, ◌++◌, ◌∷◌, List, [], IfErr, OnOk};
+    ghost use Rattle.feed_transactions.specs.Changes.{Committed};
+    ghost use Rattle.feed_change_log.specs.Filters.{table_filter_of};
+    ghost use Rattle.changes_commands.specs.declared.output.Failure.TheVariants.{Memory};
+    ghost use Rattle.changes_stats.specs.RecordedCounts.{IsDoneCounts, filter_of};
+    ghost use Rattle.changes_walks.specs.Selections.{Selected, selected};
+    ghost use Rattle.program_changes.specs.CountSinks.{CountsAll};
+    ghost use Rattle.program_changes.specs.declared.stats.StatsSink.{StatsSink};
 
-    ghost Expects = { λ first f newest. ⊤ };
+    ghost Expects = { λ first f newest. filter_of newest ≡ table_filter_of f };
 
-    ghost HasAll = { λ first s m. ⊤ };
+    ghost HasAll = { CountsAll };
 
-    ghost HasFailed = { λ first s m e. ⊤ };
+    ghost HasFailed = { λ first s m e. e ≡ Memory };
 
-    fn log_pos(newest: &StatsRecorder<'f>) -> u32 {
+    fn log_pos(newest: &StatsRecorder<'f>) -> u32
+        ensures { (t : Committed) → IsDoneCounts newest.now t → result ≡ t.commit.log_pos }
+    {
         newest.commit_header().log_pos()
     }
 
-    fn take(&mut self, filter: Filter<'_>, newest: &StatsRecorder<'f>) -> Result<(), Failure> {
+    fn take(&mut self, filter: Filter<'_>, newest: &StatsRecorder<'f>) -> Result<(), Failure>
+        ensures ok { OnOk result ((first : StatsSink) (m : List Selected) (t : Committed) → filter_of newest.now ≡ table_filter_of filter.entry → IsDoneCounts newest.now t → CountsAll first self.old m → CountsAll first self.new (m ++ selected filter.entry (t ∷ []))) }
+        ensures err { IfErr result (λ e. (first : StatsSink) (m : List Selected) (t : Committed) → filter_of newest.now ≡ table_filter_of filter.entry → IsDoneCounts newest.now t → CountsAll first self.old m → e ≡ Memory) }
+    {
         if !filter.takes_header(newest.commit_header()) {
             return Ok(());
         }
-        match self.totals.add(self.file, newest) {
-            Ok(()) => Ok(()),
-            Err(_) => Err(Failure::Memory),
-        }
+        let Ok(()) = self.totals.add(self.file, newest) else {
+            return Err(Failure::Memory);
+        };
+        Ok(())
     }
 }
 
