@@ -126,7 +126,12 @@ pub(crate) fn outcome_of<R>(
 }
 
 /// What is found of a log, whose last bytes these are. Prints that it leads to another than the next log of its server.
-pub(crate) fn followed_by_its_own(rt: &HostRuntime, log: Log<'_>, stop: Stop, last: &[u8]) -> Finding {
+pub(crate) fn followed_by_its_own(
+    rt: &HostRuntime,
+    log: Log<'_>,
+    stop: Stop,
+    last: &[u8],
+) -> Finding {
     let mut name = Text::new(rt.alloc());
     let (next, names_other) = match log.next {
         Some(next) if are_of_one_server(log.path, next) => {
