@@ -234,6 +234,9 @@ fn follow_answer<'f, R: Read, F: Fn(&[u8]) -> u32, G: Fn(&[u8]) -> u32, W: Write
             return FollowEnd::Failed(Failure::Memory);
         }
         let outcome = take_packets(options, checksum, answer, log, printer);
+        if let Err(FollowEnd::Failed(failure)) = outcome {
+            return FollowEnd::Failed(failure);
+        }
         if let Err(failure) = write_out(rt, answer, printer) {
             return FollowEnd::Failed(failure);
         }
