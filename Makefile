@@ -21,11 +21,14 @@ install: ## prove, build and install PROGRAMS in PREFIX/bin, with their manual p
 uninstall: ## remove what `make install` installed in PREFIX
 	@tools/uninstall $(PREFIX)
 
-library: ## prove and build libcuvragyen, for C, Rust, Python and Java, in out/library
+library: ## prove and build libcuvragyen, for C, Rust, Python, Java and Go, in out/library
 	@tools/library out/library
 
 install-library: ## prove and build libcuvragyen, and install it in PREFIX
 	@PREFIX=$(PREFIX) tools/library $(PREFIX)
+
+wheel: ## prove and build libcuvragyen, and make a wheel of its Python package, in this folder
+	@tools/wheel
 
 deb: ## prove, build and make a Debian package of all programs, in this folder
 	@tools/deb
@@ -42,4 +45,4 @@ docs: ## write the generated pages and drawings anew; LOG=FILE takes the times f
 bench: ## time reports of several kinds of logs; PROGRAM=PATH times that program without proving it first
 	@bench/run $(if $(PROGRAM),--program $(PROGRAM))
 
-.PHONY: help try test quick install uninstall library install-library deb edits docs bench
+.PHONY: help try test quick install uninstall library install-library wheel deb edits docs bench

@@ -3,4 +3,5 @@ pub mod EventWalks
 pub mod GrowingTexts
 pub mod LogReaders
 pub mod MemberNames
+pub mod SchemaOptions
 pub mod TimeZones

@@ -2,11 +2,12 @@
 
 use crate::follow_options::FollowOptions;
 use crate::known_commands::{
-    CHARACTER_SET, DATABASE, EXCLUDED, MAX_TRANSACTION, NUMBERS_AS_STRINGS, PAYLOAD, SCHEMA,
+    CHARACTER_SET, DATABASE, EXCLUDED, MAX_TRANSACTION, NUMBERS_AS_STRINGS, PAYLOAD,
     SKIP_UNREADABLE, TABLE, TIME_ZONE, TRANSACTION, WITH, command,
 };
 use crate::member_names::members_in;
 use crate::refused::{Refused, Unusable};
+use crate::schema_options::{SchemaFile, add_schemas};
 use crate::sql_options::{DRY_RUN, LEAVE_OUT, STATEMENTS, SqlOptions, StatsOptions};
 use crate::table_names::{add_databases, add_tables};
 use crate::time_zone::Zone;
@@ -63,8 +64,8 @@ pub struct Options<'w> {
     pub quotes_numbers: bool,
     /// The members that lines have on request.
     pub added: AddedMembers,
-    /// The path of the schema that completes table maps.
-    pub schema: Option<&'w str>,
+    /// The files of the schemas that complete table maps, in their order.
+    pub schemas: Vec<SchemaFile<'w>>,
     /// The maximum length of the events of a compressed transaction, in bytes.
     pub max_transaction: u32,
     /// Whether the events in compressed ones are listed too.
@@ -183,7 +184,7 @@ impl<'w> Options<'w> {
             character_set: None,
             quotes_numbers: prints_changes(task) && matches.get_flag(NUMBERS_AS_STRINGS.name),
             added: AddedMembers::NONE,
-            schema: None,
+            schemas: Vec::new(alloc),
             max_transaction: USUAL_MAX_TRANSACTION,
             lists_payloads: matches!(task, Task::Events) && matches.get_flag(PAYLOAD.name),
             skips_unreadable: matches!(task, Task::Json | Task::Check)
@@ -241,7 +242,7 @@ impl<'w> Options<'w> {
     }
 
     /// Adds the names and the files that a command has.
-    fn add(&mut self, matches: &ArgMatches<'w>) -> Result<(), Unusable> {
+    fn add(&mut self, matches: &ArgMatches<'w>, zone: &Zone) -> Result<(), Unusable> {
         if prints_changes(self.task) {
             self.character_set = character_set_of(matches)?;
             self.added = added_of(matches)?;
@@ -250,7 +251,7 @@ impl<'w> Options<'w> {
             self.max_transaction = max;
         }
         if !matches!(self.task, Task::Events | Task::Plain) {
-            self.schema = matches.get_str(SCHEMA.name);
+            add_schemas(matches, self.task, zone, &mut self.schemas)?;
         }
         self.add_statement_options(matches)?;
         add_databases(matches, DATABASE.name, &mut self.databases)?;
@@ -283,7 +284,7 @@ fn options_of<'w, R: Files + AllocGlobal>(
     let zone = zone_of(rt, matches)?;
     let range = range_of(task, matches, &zone)?;
     let mut options = Options::new(rt.alloc(), task, matches, range);
-    match options.add(matches) {
+    match options.add(matches, &zone) {
         Ok(()) => Ok(options),
         Err(unusable) => Err(unusable),
     }

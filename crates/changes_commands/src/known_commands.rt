@@ -87,10 +87,10 @@ pub(crate) const SKIP_UNREADABLE: Known = Known {
 };
 
 pub(crate) const SCHEMA: Known = Known {
-    takes: Takes::Value,
+    takes: Takes::Values,
     name: "schema",
     value: "FILE",
-    help: "what the logs don't say of tables: names, keys, members, signs and character sets, as recipes/schema prints them",
+    help: "what the logs don't say of tables: names, keys, members, signs and character sets, as recipes/schema prints them; FILE@TIME or FILE@LOG:POSITION for tables as they are from there on",
 };
 
 const START: Known = Known {
@@ -353,31 +353,26 @@ const PLAIN: KnownCommand = KnownCommand {
     options: &[ONE_FILE],
 };
 
+/// With what its value is called, and what becomes of the values.
+fn valued<'a>(argument: Arg<'a>, known: Known, action: ArgAction) -> Arg<'a> {
+    argument.value_name(known.value).action(action)
+}
+
 /// An option, or the last words.
 fn argument<'a>(alloc: Global, known: Known) -> Arg<'a> {
     let argument = Arg::new(alloc, known.name).help(known.help);
     match known.takes {
         Takes::Nothing => argument.long(known.name).action(ArgAction::SetTrue),
-        Takes::Number => argument
-            .long(known.name)
-            .value_name(known.value)
-            .action(ArgAction::Set)
-            .value_parser(clap::value_parser!(u32)),
-        Takes::Value => argument
-            .long(known.name)
-            .value_name(known.value)
-            .action(ArgAction::Set),
-        Takes::SignedValue => argument
-            .long(known.name)
-            .value_name(known.value)
-            .action(ArgAction::Set)
-            .allow_hyphen_values(true),
-        Takes::Values => argument
-            .long(known.name)
-            .value_name(known.value)
-            .action(ArgAction::Append),
-        Takes::Words => argument.value_name(known.value).action(ArgAction::Append),
-        Takes::Word => argument.value_name(known.value).action(ArgAction::Set),
+        Takes::Number => valued(argument.long(known.name), known, ArgAction::Set).value_parser(
+            clap::value_parser!(u32),
+        ),
+        Takes::Value => valued(argument.long(known.name), known, ArgAction::Set),
+        Takes::SignedValue => {
+            valued(argument.long(known.name), known, ArgAction::Set).allow_hyphen_values(true)
+        }
+        Takes::Values => valued(argument.long(known.name), known, ArgAction::Append),
+        Takes::Words => valued(argument, known, ArgAction::Append),
+        Takes::Word => valued(argument, known, ArgAction::Set),
     }
 }
 
@@ -404,11 +399,16 @@ const PROGRAM: KnownProgram = KnownProgram {
     about: "Prints the committed changes of MySQL binary logs",
 };
 
-/// The command line of a program, without its commands.
-fn program<'a>(alloc: Global, known: KnownProgram) -> Command<'a> {
+/// A command line with a program's name, its version, and what it does.
+fn named<'a>(alloc: Global, known: KnownProgram) -> Command<'a> {
     Command::new(alloc, known.name)
         .version(known.version)
         .about(known.about)
+}
+
+/// The command line of a program, without its commands.
+fn program<'a>(alloc: Global, known: KnownProgram) -> Command<'a> {
+    named(alloc, known)
         .subcommand_required(true)
         .arg_required_else_help(true)
 }

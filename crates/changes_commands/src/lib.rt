@@ -18,6 +18,7 @@ mod plain;
 mod progress;
 mod refused;
 mod rotation;
+mod schema_options;
 mod shown;
 mod sql_options;
 mod table_names;
@@ -29,7 +30,7 @@ pub use event_walk::Listed;
 pub use events::{Names, list};
 pub use follow_options::FollowOptions;
 pub use log_reader::LogReader;
-pub use logs::{Log, are_in_order, are_of_one_server};
+pub use logs::{Log, LogOrder, are_in_order, are_of_one_server, order_of};
 pub use messages::{
     Explanation, explain, put_led_astray, put_no_start, put_no_transaction, put_remaining,
 };
@@ -38,6 +39,7 @@ pub use plain::{PlainEnd, Unplain, write_plain};
 pub use progress::Progress;
 pub use refused::Refused;
 pub use rotation::leads_to;
+pub use schema_options::{SchemaBeginning, SchemaFile};
 pub use shown::put_type;
 pub use sql_options::{SqlOptions, StatsOptions};
 pub use text::Text;

@@ -78,6 +78,7 @@ impl Refused {
     pub fn example(option: &str) -> &'static str {
         match option {
             "database" => "shop",
+            "schema" => "'schema.tsv@2026-11-24 10:00:00'",
             "table" | "exclude-table" => "shop.orders",
             "character-set" => "utf8mb4",
             "where" => "id=42",

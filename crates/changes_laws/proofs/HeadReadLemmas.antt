@@ -11,13 +11,13 @@ use Rattle.rows_event_body.specs.declared.rows_event_type.RowImages.{RowImages}
 use Rattle.changes_tables.specs.MemberTexts.{utf8_json}
 use Rattle.changes_tables.specs.PrimaryKeys.{key_member}
 use Rattle.changes_lines.specs.ChangeLines.{key_of, rows_back, rows_front}
-use Rattle.changes_lines.specs.FactMembers.{TransactionFacts, number_member, query_member, transaction_members}
+use Rattle.changes_lines.specs.FactMembers.{OfNumber, OfText, TransactionFacts, TransactionXid, number_member, query_member, transaction_members, xid_member, xid_value}
 use Rattle.changes_lines.specs.Origins.{header_members, origin_members}
 use Rattle.changes_origins.specs.declared.added_members.AddedMembers.{AddedMembers}
 use Rattle.changes_laws.specs.JsonGrammar.{IsAfterValue}
-use Rattle.changes_laws.specs.JsonLines.{AreLoggedFacts, IsJsonValue, IsLoggedHeader, IsLoggedNumber}
+use Rattle.changes_laws.specs.JsonLines.{AreLoggedFacts, IsJsonValue, IsLoggedHeader, IsLoggedNumber, IsLoggedXid}
 use Rattle.changes_laws.specs.SameCells.{AreQueryBytes, ShowsFacts, ShowsHead, ShowsOrigin}
-use Rattle.changes_laws.proofs.LineReadLemmas.{front_read, header_read, number_read, origin_read, statement_text, utf8_read}
+use Rattle.changes_laws.proofs.LineReadLemmas.{front_read, header_read, number_no_text, number_read, origin_read, statement_text, utf8_read}
 
 abbrev others : List ℕ → List ℕ
 others [] = []
@@ -49,6 +49,33 @@ member_read true a b c d k (Some m) (Some n) s t h i sa ta us ut e =
     let f = number_read m n s t h i sa ta (append_cancel_left key (decimal m ++ s) (decimal n ++ t) (sym (append_assoc key (decimal m) s) ∙ e ∙ append_assoc key (decimal n) t)) in
     (λ g. ap (λ (x : ℕ). Some x) f.0, f.1)
 
+-- ---- the XID
+unlike_xid : (asked : Bool) (o : Option TransactionXid) (s : List ℕ) (x y : ℕ) → (120 ≡ x → 105 ≡ y → ⊥) → IsUnlike x y s → IsUnlike x y (xid_member asked o ++ s)
+unlike_xid false o s x y h u = u
+unlike_xid true None s x y h u = u
+unlike_xid true (Some xid) s x y h u = h
+
+after_xid : (asked : Bool) (o : Option TransactionXid) (s : List ℕ) → IsAfterValue s → IsAfterValue (xid_member asked o ++ s)
+after_xid false o s h = h
+after_xid true None s h = h
+after_xid true (Some xid) s h = refl
+
+value_read : (x y : TransactionXid) (s t : List ℕ) → IsLoggedXid true (Some x) → IsLoggedXid true (Some y) → IsAfterValue s → IsAfterValue t → xid_value x ++ s ≡ xid_value y ++ t → (Some x ≡ Some y) × (s ≡ t)
+value_read (OfNumber m) (OfNumber n) s t h i sa ta e = let f = number_read m n s t h i sa ta e in (ap (λ (k : ℕ). Some (OfNumber k)) f.0, f.1)
+value_read (OfText a) (OfText b) s t h i sa ta e = let f = utf8_read a b s t h i e in (ap (λ (l : List ℕ). Some (OfText l)) f.0, f.1)
+value_read (OfNumber m) (OfText b) s t h i sa ta e = absurd (number_no_text m b s t h sa ta e)
+value_read (OfText a) (OfNumber n) s t h i sa ta e = absurd (number_no_text n a t s i ta sa (sym e))
+
+xid_read : (asked : Bool) (o p : Option TransactionXid) (s t : List ℕ) → IsLoggedXid asked o → IsLoggedXid asked p → IsAfterValue s → IsAfterValue t → IsUnlike 120 105 s → IsUnlike 120 105 t → xid_member asked o ++ s ≡ xid_member asked p ++ t → (asked ≡ true → o ≡ p) × (s ≡ t)
+xid_read false o p s t h i sa ta us ut e = (λ f. absurd (false≢true f), e)
+xid_read true None None s t h i sa ta us ut e = (λ f. refl, e)
+xid_read true None (Some y) s t h i sa ta us ut e = absurd (us (ap (λ (l : List ℕ). slice_index l 2) e) (ap (λ (l : List ℕ). slice_index l 3) e))
+xid_read true (Some x) None s t h i sa ta us ut e = absurd (ut (ap (λ (l : List ℕ). slice_index l 2) (sym e)) (ap (λ (l : List ℕ). slice_index l 3) (sym e)))
+xid_read true (Some x) (Some y) s t h i sa ta us ut e =
+    let key = codes ",\"xid\":" in
+    let f = value_read x y s t h i sa ta (append_cancel_left key (xid_value x ++ s) (xid_value y ++ t) (sym (append_assoc key (xid_value x) s) ∙ e ∙ append_assoc key (xid_value y) t)) in
+    (λ g. f.0, f.1)
+
 -- ---- those of a transaction
 -- what comes after them: a comma and a name that begins with another letter than theirs
 pub record IsAfterFacts (s : List ℕ) : Type 0 where
@@ -59,9 +86,9 @@ pub record IsAfterFacts (s : List ℕ) : Type 0 where
 xid_unlike : (a : AddedMembers) (x : TransactionFacts) (y : List ℕ) → IsAfterFacts y → IsUnlike 120 105 (number_member a.thread_id (codes ",\"thread_id\":") x.thread_id ++ y)
 xid_unlike a x y h = unlike_member a.thread_id 44 34 116 104 (codes "read_id\":") x.thread_id y 120 105 (λ e f. omega (arith, e)) (λ e f. h.no_x e)
 
-ts_unlike : (a : AddedMembers) (x : TransactionFacts) (y : List ℕ) → IsAfterFacts y → IsUnlike 116 115 (number_member a.xid (codes ",\"xid\":") x.xid ++ (number_member a.thread_id (codes ",\"thread_id\":") x.thread_id ++ y))
+ts_unlike : (a : AddedMembers) (x : TransactionFacts) (y : List ℕ) → IsAfterFacts y → IsUnlike 116 115 (xid_member a.xid x.xid ++ (number_member a.thread_id (codes ",\"thread_id\":") x.thread_id ++ y))
 ts_unlike a x y h =
-    unlike_member a.xid 44 34 120 105 (codes "d\":") x.xid (number_member a.thread_id (codes ",\"thread_id\":") x.thread_id ++ y) 116 115 (λ e f. omega (arith, e))
+    unlike_xid a.xid x.xid (number_member a.thread_id (codes ",\"thread_id\":") x.thread_id ++ y) 116 115 (λ e f. omega (arith, e))
     (unlike_member a.thread_id 44 34 116 104 (codes "read_id\":") x.thread_id y 116 115 (λ e f. omega (arith, f)) (λ e f. h.no_t e))
 
 begin_read : (a : AddedMembers) (f g : TransactionFacts) (s t : List ℕ) → IsLoggedNumber a.begin (Some f.begin) → IsLoggedNumber a.begin (Some g.begin) → IsAfterValue s → IsAfterValue t
@@ -77,21 +104,20 @@ begin_read a f g s t l m sa ta e = go a.begin l m e
 pub facts_read : (a : AddedMembers) (f g : TransactionFacts) (s t : List ℕ) → AreLoggedFacts a f → AreLoggedFacts a g → IsAfterFacts s → IsAfterFacts t → transaction_members a f ++ s ≡ transaction_members a g ++ t → ShowsFacts a f g × (s ≡ t)
 facts_read a f g s t l m sa ta e =
     let ts = codes ",\"ts_ms\":" in
-    let xid = codes ",\"xid\":" in
     let thread = codes ",\"thread_id\":" in
     let four = λ (x : TransactionFacts) (y : List ℕ). number_member a.thread_id thread x.thread_id ++ y in
-    let three = λ (x : TransactionFacts) (y : List ℕ). number_member a.xid xid x.xid ++ four x y in
+    let three = λ (x : TransactionFacts) (y : List ℕ). xid_member a.xid x.xid ++ four x y in
     let two = λ (x : TransactionFacts) (y : List ℕ). number_member a.ts_ms ts x.ts_ms ++ three x y in
     let parts = λ (x : TransactionFacts) (y : List ℕ).
-    append_assoc (number_member a.begin (codes ",\"begin\":") (Some x.begin)) (number_member a.ts_ms ts x.ts_ms ++ (number_member a.xid xid x.xid ++ number_member a.thread_id thread x.thread_id)) y
-    ∙ ap (λ (z : List ℕ). number_member a.begin (codes ",\"begin\":") (Some x.begin) ++ z) (append_assoc (number_member a.ts_ms ts x.ts_ms) (number_member a.xid xid x.xid ++ number_member a.thread_id thread x.thread_id) y
-    ∙ ap (λ (z : List ℕ). number_member a.ts_ms ts x.ts_ms ++ z) (append_assoc (number_member a.xid xid x.xid) (number_member a.thread_id thread x.thread_id) y)) in
+    append_assoc (number_member a.begin (codes ",\"begin\":") (Some x.begin)) (number_member a.ts_ms ts x.ts_ms ++ (xid_member a.xid x.xid ++ number_member a.thread_id thread x.thread_id)) y
+    ∙ ap (λ (z : List ℕ). number_member a.begin (codes ",\"begin\":") (Some x.begin) ++ z) (append_assoc (number_member a.ts_ms ts x.ts_ms) (xid_member a.xid x.xid ++ number_member a.thread_id thread x.thread_id) y
+    ∙ ap (λ (z : List ℕ). number_member a.ts_ms ts x.ts_ms ++ z) (append_assoc (xid_member a.xid x.xid) (number_member a.thread_id thread x.thread_id) y)) in
     let value4 = λ (x : TransactionFacts) (y : List ℕ) (h : IsAfterFacts y). after_member a.thread_id (others thread) x.thread_id y h.value in
-    let value3 = λ (x : TransactionFacts) (y : List ℕ) (h : IsAfterFacts y). after_member a.xid (others xid) x.xid (four x y) (value4 x y h) in
+    let value3 = λ (x : TransactionFacts) (y : List ℕ) (h : IsAfterFacts y). after_xid a.xid x.xid (four x y) (value4 x y h) in
     let value2 = λ (x : TransactionFacts) (y : List ℕ) (h : IsAfterFacts y). after_member a.ts_ms (others ts) x.ts_ms (three x y) (value3 x y h) in
     let one = begin_read a f g (two f s) (two g t) l.0 m.0 (value2 f s sa) (value2 g t ta) (sym (parts f s) ∙ e ∙ parts g t) in
     let i2 = member_read a.ts_ms 44 34 116 115 (codes "_ms\":") f.ts_ms g.ts_ms (three f s) (three g t) l.1 m.1 (value3 f s sa) (value3 g t ta) (ts_unlike a f s sa) (ts_unlike a g t ta) one.1 in
-    let i3 = member_read a.xid 44 34 120 105 (codes "d\":") f.xid g.xid (four f s) (four g t) l.2 m.2 (value4 f s sa) (value4 g t ta) (xid_unlike a f s sa) (xid_unlike a g t ta) i2.1 in
+    let i3 = xid_read a.xid f.xid g.xid (four f s) (four g t) l.2 m.2 (value4 f s sa) (value4 g t ta) (xid_unlike a f s sa) (xid_unlike a g t ta) i2.1 in
     let i4 = member_read a.thread_id 44 34 116 104 (codes "read_id\":") f.thread_id g.thread_id s t l.3 m.3 sa.value ta.value (λ x y. sa.no_t x) (λ x y. ta.no_t x) i3.1 in
     (record { begin = one.0; ts_ms = i2.0; xid = i3.0; thread_id = i4.0 }, i4.1)
 
@@ -100,7 +126,7 @@ abbrev origin_with : AddedMembers → List ℕ → List ℕ → ℕ → Transact
 origin_with a gtid file position f = origin_members gtid file position ++ transaction_members a f
 
 after_facts : (a : AddedMembers) (f : TransactionFacts) (s : List ℕ) → IsAfterFacts s → IsAfterValue (transaction_members a f ++ s)
-after_facts a f s h = subst IsAfterValue (sym (append_assoc one (two ++ (three ++ four)) s ∙ ap (λ (z : List ℕ). one ++ z) (append_assoc two (three ++ four) s ∙ ap (λ (z : List ℕ). two ++ z) (append_assoc three four s)))) (after_member a.begin (codes "\"begin\":") (Some f.begin) (two ++ (three ++ (four ++ s))) (after_member a.ts_ms (codes "\"ts_ms\":") f.ts_ms (three ++ (four ++ s)) (after_member a.xid (codes "\"xid\":") f.xid (four ++ s) (after_member a.thread_id (codes "\"thread_id\":") f.thread_id s h.value))))
+after_facts a f s h = subst IsAfterValue (sym (append_assoc one (two ++ (three ++ four)) s ∙ ap (λ (z : List ℕ). one ++ z) (append_assoc two (three ++ four) s ∙ ap (λ (z : List ℕ). two ++ z) (append_assoc three four s)))) (after_member a.begin (codes "\"begin\":") (Some f.begin) (two ++ (three ++ (four ++ s))) (after_member a.ts_ms (codes "\"ts_ms\":") f.ts_ms (three ++ (four ++ s)) (after_xid a.xid f.xid (four ++ s) (after_member a.thread_id (codes "\"thread_id\":") f.thread_id s h.value))))
   where
     one : List ℕ
     one = number_member a.begin (codes ",\"begin\":") (Some f.begin)
@@ -109,7 +135,7 @@ after_facts a f s h = subst IsAfterValue (sym (append_assoc one (two ++ (three +
     two = number_member a.ts_ms (codes ",\"ts_ms\":") f.ts_ms
 
     three : List ℕ
-    three = number_member a.xid (codes ",\"xid\":") f.xid
+    three = xid_member a.xid f.xid
 
     four : List ℕ
     four = number_member a.thread_id (codes ",\"thread_id\":") f.thread_id

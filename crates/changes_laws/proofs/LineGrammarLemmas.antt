@@ -24,10 +24,10 @@ use Rattle.changes_tables.specs.ShownTables.{names_member}
 use Rattle.changes_lines.specs.ChangeLines.{change_word, rows_front, rows_back}
 use Rattle.changes_lines.specs.Origins.{header_members, origin_members}
 use Rattle.changes_lines.specs.RowJson.{AreRowsJson}
-use Rattle.changes_lines.specs.FactMembers.{TransactionFacts, number_member, transaction_members, query_member, row_member, row_member_if, numbered, numbered_if}
+use Rattle.changes_lines.specs.FactMembers.{OfNumber, OfText, TransactionFacts, TransactionXid, number_member, transaction_members, xid_member, query_member, row_member, row_member_if, numbered, numbered_if}
 use Rattle.changes_origins.specs.declared.added_members.AddedMembers.{AddedMembers}
 use Rattle.changes_laws.specs.JsonNames.{AreDistinct}
-use Rattle.changes_laws.specs.JsonLines.{IsLoggedHeader, IsLoggedNumber, AreLoggedFacts}
+use Rattle.changes_laws.specs.JsonLines.{IsLoggedHeader, IsLoggedNumber, IsLoggedXid, AreLoggedFacts}
 use Rattle.changes_laws.proofs.StringGrammarLemmas.{all_ascii}
 use Rattle.changes_laws.proofs.WrittenJson.{IsJson, AllJson, joined_array, string_json}
 use Rattle.changes_laws.proofs.NumberGrammarLemmas.{decimal_json}
@@ -72,12 +72,19 @@ number_named P true k (Some n) h lt = subst (λ (t : List ℕ). HasNamed P (k �
 number_named P true k None h lt = none_named P (k ∷ [])
 number_named P false k o h lt = none_named P (k ∷ [])
 
+xid_named : (P : Type 0) (asked : Bool) (o : Option TransactionXid) → IsLoggedXid asked o → HasNamed P (codes "xid" ∷ []) (xid_member asked o)
+unfolding json_string
+xid_named P true (Some (OfNumber n)) lt = last_named P (codes "xid") (decimal n) tt (decimal_json P n (omega (arith, lt)))
+xid_named P true (Some (OfText text)) h = last_named P (codes "xid") (utf8_json text) tt (utf8_or_object P text)
+xid_named P true None h = none_named P (codes "xid" ∷ [])
+xid_named P false o h = none_named P (codes "xid" ∷ [])
+
 pub transaction_named : (P : Type 0) (a : AddedMembers) (f : TransactionFacts) → AreLoggedFacts a f → HasNamed P (codes "begin" ∷ codes "ts_ms" ∷ codes "xid" ∷ codes "thread_id" ∷ []) (transaction_members a f)
 unfolding json_string
 transaction_named P a f l =
     let begin = number_named P a.begin (codes "begin") (Some f.begin) tt l.0 in
     let ts_ms = number_named P a.ts_ms (codes "ts_ms") f.ts_ms tt l.1 in
-    let xid = number_named P a.xid (codes "xid") f.xid tt l.2 in
+    let xid = xid_named P a.xid f.xid l.2 in
     let thread_id = number_named P a.thread_id (codes "thread_id") f.thread_id tt l.3 in
     both_named P (codes "begin" ∷ []) (codes "ts_ms" ∷ codes "xid" ∷ codes "thread_id" ∷ []) _ _ begin
     (both_named P (codes "ts_ms" ∷ []) (codes "xid" ∷ codes "thread_id" ∷ []) _ _ ts_ms (both_named P (codes "xid" ∷ []) (codes "thread_id" ∷ []) _ _ xid thread_id))

@@ -3,6 +3,7 @@ use Rattle.std.proofs.Common.{◌≡◌, ℕ, ◌<◌, ◌^◌, Bool, true, fals
 use Rattle.std.specs.Prelude.{codes, if◌then◌else◌}
 use Rattle.std.specs.Fmt.{decimal}
 use Rattle.std.specs.Str.{is_utf8}
+use Rattle.std.proofs.lemmas.Bool.{true≢false}
 use Rattle.std.proofs.lemmas.List.{append_cancel_left}
 use Rattle.std.proofs.lemmas.Fmt.{decimal_injective}
 use Rattle.base64.specs.GeneralPurpose.{IsBytes}
@@ -23,6 +24,9 @@ use Rattle.changes_laws.specs.SameCells.{ShowsOrigin}
 use Rattle.changes_laws.proofs.WrittenJson.{IsJson}
 use Rattle.changes_laws.proofs.NumberGrammarLemmas.{decimal_json}
 use Rattle.changes_laws.proofs.ValueEnds.{values_end}
+use Rattle.changes_laws.proofs.DateReadLemmas.{is_digit}
+use Rattle.changes_laws.proofs.MemberReadLemmas.{first_digit, first as head_of}
+use Rattle.changes_laws.proofs.PlainGrammarLemmas.{utf8_or_object}
 
 -- ---- leaves
 json_read : (x y s t : List ℕ) → IsJson (Unit {0}) x → IsJson (Unit {0}) y → IsAfterValue s → IsAfterValue t → x ++ s ≡ y ++ t → (x ≡ y) × (s ≡ t)
@@ -42,6 +46,25 @@ utf8_read m n s t p q e = go (is_utf8 m) (is_utf8 n) e
     go true false f = absurd (no_object m n s t f)
     go false true f = absurd (no_object n m t s (sym f))
     go false false f = base64_objects_read m n s t p q f
+
+-- a number is no text
+no_digit : (n c : ℕ) (rest : List ℕ) → n < 2 ^ 64 → is_digit c ≡ false → decimal n ≡ c ∷ rest → ⊥
+no_digit n c rest lt other e = true≢false (sym (first_digit n lt) ∙ ap (λ (l : List ℕ). is_digit (head_of l)) e ∙ other)
+
+no_string : (n : ℕ) (b : List ℕ) → n < 2 ^ 64 → decimal n ≡ json_string b → ⊥
+unfolding json_string
+no_string n b lt e = no_digit n 34 _ lt refl e
+
+no_base64 : (n : ℕ) (b : List ℕ) → n < 2 ^ 64 → decimal n ≡ base64_object b → ⊥
+unfolding base64_object
+no_base64 n b lt e = no_digit n 123 _ lt refl e
+
+pub number_no_text : (n : ℕ) (b s t : List ℕ) → n < 2 ^ 64 → IsAfterValue s → IsAfterValue t → decimal n ++ s ≡ utf8_json b ++ t → ⊥
+number_no_text n b s t lt a k e = go (is_utf8 b) (json_read (decimal n) (utf8_json b) s t (decimal_json (Unit {0}) n (omega (arith, lt))) (utf8_or_object (Unit {0}) b) a k e).0
+  where
+    go : (u : Bool) → decimal n ≡ (if u then json_string b else base64_object b) → ⊥
+    go true f = no_string n b lt f
+    go false f = no_base64 n b lt f
 
 -- ---- words
 abbrev first : List ℕ → ℕ

@@ -8,7 +8,7 @@ use Rattle.feed_transactions.specs.Changes.{Content, OfRows, OfStatement, EventC
 use Rattle.changes_origins.specs.TaggedGtids.{TaggedGtid}
 use Rattle.changes_lines.specs.RowJson.{CellJson}
 use Rattle.changes_lines.specs.ChangeLines.{rows_of_all}
-use Rattle.changes_lines.specs.FactMembers.{TransactionFacts}
+use Rattle.changes_lines.specs.FactMembers.{OfNumber, OfText, TransactionFacts, TransactionXid}
 use Rattle.changes_origins.specs.declared.added_members.AddedMembers.{AddedMembers}
 use Rattle.changes_laws.specs.JsonGrammar.{Json, Members, object, IsValue, IsJsonText}
 use Rattle.changes_laws.specs.JsonNames.{HasDistinctNames}
@@ -50,9 +50,16 @@ IsLoggedNumber true (Some n) = n < 2 ^ 64
 IsLoggedNumber true None = ⊤
 IsLoggedNumber false n = ⊤
 
+-- the XID of a transaction, if it is asked for and there is one: a number, or the bytes of a text
+abbrev pub IsLoggedXid : Bool → Option TransactionXid → Type 0
+IsLoggedXid true (Some (OfNumber n)) = n < 2 ^ 64
+IsLoggedXid true (Some (OfText text)) = AreBytes text
+IsLoggedXid true None = ⊤
+IsLoggedXid false xid = ⊤
+
 -- those of a transaction: where it begins, when it was committed, its XID and its thread
 abbrev pub AreLoggedFacts : AddedMembers → TransactionFacts → Type 0
-AreLoggedFacts a f = IsLoggedNumber a.begin (Some f.begin) × IsLoggedNumber a.ts_ms f.ts_ms × IsLoggedNumber a.xid f.xid × IsLoggedNumber a.thread_id f.thread_id
+AreLoggedFacts a f = IsLoggedNumber a.begin (Some f.begin) × IsLoggedNumber a.ts_ms f.ts_ms × IsLoggedXid a.xid f.xid × IsLoggedNumber a.thread_id f.thread_id
 
 -- how many rows and statements there are among changes, if their numbers are asked for
 abbrev pub AreLoggedRows : AddedMembers → List EventChange → Type 0

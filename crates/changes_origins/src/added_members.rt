@@ -7,7 +7,7 @@ pub struct AddedMembers {
     pub begin: bool,
     /// The time at which its server committed it, in milliseconds since 1970.
     pub ts_ms: bool,
-    /// The number of its XID_EVENT.
+    /// The number of its XID_EVENT, or the XID of an XA transaction.
     pub xid: bool,
     /// The id of the thread that wrote it.
     pub thread_id: bool,

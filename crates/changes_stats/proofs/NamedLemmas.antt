@@ -1,5 +1,5 @@
 -- What tables by their names have after a change at one name.
-use Rattle.std.proofs.Common.{◌≡◌, ℕ, List, [], ◌∷◌, ◌++◌, Bool, true, false, cond, Option, Some, sym, ap, subst, ◌∙◌, ⊎_elim, refl, ◌+◌, ◌<◌, length, get_or, take, map, append_assoc}
+use Rattle.std.proofs.Common.{◌≡◌, ℕ, List, [], ◌∷◌, ◌++◌, Bool, true, false, cond, Option, Some, sym, ap, subst, ◌∙◌, ⊎_elim, map, append_assoc}
 use Rattle.std.specs.Prelude.{option_map}
 use Rattle.std.specs.Global.{Vec}
 use Rattle.std.specs.Ordering.{is_eq, nat_cmp}
@@ -9,15 +9,14 @@ use Rattle.std.specs.Str.{bytes_eq}
 use Rattle.std.specs.Map.{lookup, IsKeyTest, AreApart, KeepsOthers}
 use Rattle.std.specs.BTreeMap.{BTreeMap, get_by, UpdatesBy}
 use Rattle.std.proofs.lemmas.Bool.{cases_Bool, cond-true, cond-false}
-use Rattle.std.proofs.lemmas.List.{map_more}
+use Rattle.std.proofs.lemmas.List.{map-append}
 use Rattle.std.proofs.lemmas.Map.Text.{is_eq-slice_cmp}
 use Rattle.changes_stats.specs.TableSums.{AreSums, NamedCounts, named_counts, sums_in, total_at}
 use Rattle.changes_stats.specs.declared.counts.RowCounts.{RowCounts}
-use Rattle.changes_stats.specs.declared.tables.TableRows.{TableRows}
 use Rattle.changes_stats.specs.declared.tables.TableTotals.{TableTotals}
 use Rattle.changes_stats.proofs.SumLemmas.{with_sums, sums_of-same, sums_of-other}
 
-apart : (bs cs ks : List ℕ) → bytes_eq bs cs ≡ false → bytes_eq bs ks ≡ true → bytes_eq cs ks ≡ false
+pub apart : (bs cs ks : List ℕ) → bytes_eq bs cs ≡ false → bytes_eq bs ks ≡ true → bytes_eq cs ks ≡ false
 apart bs cs ks n y = nat_list_eq_equiv.symm cs ks ∙ sym (nat_list_eq_equiv.congr bs ks cs y) ∙ n
 
 apart_in_order : (bs cs ks : List ℕ) → bytes_eq bs cs ≡ false → is_eq (slice_cmp nat_cmp bs ks) ≡ true → is_eq (slice_cmp nat_cmp cs ks) ≡ false
@@ -52,8 +51,5 @@ sums_with old m n key name c w l unchanged named h e are cs =
     (cases_Bool (bytes_eq name cs))
 
 -- the tables of a transaction, one more of them
-pub sums_more : (totals : BTreeMap (Vec ℕ) TableTotals) (l : List NamedCounts) (xs : List TableRows) (i : ℕ) (x : TableRows) (name : List ℕ) → i < length xs → x ≡ get_or xs i x → name ≡ x.name.items
-    → AreSums totals ((l ++ map named_counts (take i xs)) ++ record { name = name; counts = x.counts } ∷ []) → AreSums totals (l ++ map named_counts (take (i + 1) xs))
-sums_more totals l xs i x name lt is named are =
-    let one : named_counts (get_or xs i x) ≡ record { name = name; counts = x.counts } = rw (sym is, named) refl in
-    subst (AreSums totals) (rw (map_more named_counts xs i x lt, one) (append_assoc l (map named_counts (take i xs)) (record { name = name; counts = x.counts } ∷ []))) are
+pub sums_more : (totals : BTreeMap (Vec ℕ) TableTotals) (l : List NamedCounts) (done : List (Vec ℕ × RowCounts)) (e : Vec ℕ × RowCounts) → AreSums totals ((l ++ map named_counts done) ++ named_counts e ∷ []) → AreSums totals (l ++ map named_counts (done ++ e ∷ []))
+sums_more totals l done e are = subst (AreSums totals) (append_assoc l (map named_counts done) (named_counts e ∷ []) ∙ ap (λ r. l ++ r) (sym (map-append named_counts done (e ∷ [])))) are

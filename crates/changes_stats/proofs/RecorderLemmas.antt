@@ -19,13 +19,13 @@ use Rattle.feed_transactions.specs.MappedRows.{plan_by}
 use Rattle.feed_transactions.specs.TableFilters.{full_name, takes_change, takes_database, takes_table}
 use Rattle.changes_stats.specs.RecordedCounts.{CountsRows, HasCounts, HasRows, IsOpenCounts, changes_counts, content_counts, is_statement, rows_by, rows_in}
 use Rattle.changes_stats.specs.RowSums.{capped, of_event, plus, sum_of_counts}
-use Rattle.changes_stats.specs.TableSums.{AddsRows, NamedCounts, named_counts}
+use Rattle.changes_stats.specs.TableSums.{AddsRows, NamedCounts, tables_in}
 use Rattle.changes_stats.specs.declared.counts.RowCounts.{RowCounts}
 use Rattle.changes_stats.specs.declared.recorder.StatsRecorder.{StatsRecorder}
 use Rattle.changes_stats.proofs.SumLemmas.{capped-more, sum_of_counts-none, sum_of_counts-push}
 
 -- no changes
-pub no_counts : (s : StatsRecorder) → s.tables.items ≡ [] → s.all ≡ record { inserted = 0; deleted = 0; updated = 0; bytes = 0 } → s.statements ≡ 0 → HasCounts s []
+pub no_counts : (s : StatsRecorder) → s.tables.entries ≡ [] → s.all ≡ record { inserted = 0; deleted = 0; updated = 0; bytes = 0 } → s.statements ≡ 0 → HasCounts s []
 no_counts s tables all statements = record {
   rows = record { all = all ∙ sym sum_of_counts-none; tables = λ name. rw tables refl };
   statements = statements;
@@ -36,7 +36,7 @@ pub rows_left : (s : StatsRecorder) (l : List NamedCounts) (t : NamedCounts) (b 
 rows_left s l t b e rows = subst (HasRows s) (sym (ap (λ b. l ++ cond b (t ∷ []) []) e ∙ append-nil l)) rows
 
 -- rows that it takes
-pub rows_taken : (old new : StatsRecorder) (l : List NamedCounts) (t : NamedCounts) (b : Bool) → b ≡ true → AddsRows (map named_counts old.tables.items) (map named_counts new.tables.items) t → new.all ≡ plus old.all t.counts → HasRows old l
+pub rows_taken : (old new : StatsRecorder) (l : List NamedCounts) (t : NamedCounts) (b : Bool) → b ≡ true → AddsRows (tables_in old.tables) (tables_in new.tables) t → new.all ≡ plus old.all t.counts → HasRows old l
     → HasRows new (l ++ cond b (t ∷ []) [])
 rows_taken old new l t b e adds all rows =
     let more : HasRows new (l ++ t ∷ []) = record {

@@ -7,7 +7,7 @@ use Rattle.changes_stats.specs.RowSums.{all_rows, capped, sum_of_counts}
 use Rattle.changes_stats.specs.Courses.{IsCourse}
 use Rattle.changes_stats.specs.Largest.{AreLargest, Large}
 use Rattle.changes_stats.specs.TableNames.{names_text}
-use Rattle.changes_stats.specs.TableSums.{AreTables, NamedCounts, named_counts}
+use Rattle.changes_stats.specs.TableSums.{AreTables, NamedCounts, tables_in}
 use Rattle.changes_stats.specs.declared.counts.Counts.{Counts}
 use Rattle.changes_stats.specs.declared.counts.RowCounts.{RowCounts}
 use Rattle.changes_stats.specs.declared.recorder.StatsRecorder.{StatsRecorder}
@@ -36,14 +36,14 @@ transaction_of file s = record {
   end = s.commit.log_pos;
   seconds = s.commit.timestamp;
   gtid = kept_gtid s.gtid;
-  tables = map named_counts s.tables.items;
+  tables = tables_in s.tables;
   all = s.all;
   statements = s.statements;
 }
 
 -- whether it has neither rows of a table nor statements
 abbrev pub has_nothing : StatsRecorder → Bool
-has_nothing s = length s.tables.items == 0 && s.statements == 0
+has_nothing s = length s.tables.entries == 0 && s.statements == 0
 
 -- that of a recorder, if it has some
 abbrev pub counted : List ℕ → StatsRecorder → List Counted

@@ -15,7 +15,7 @@ use Rattle.feed_transactions.specs.MappedRows.{plan_by}
 use Rattle.feed_transactions.specs.TableFilters.{full_name, takes_change, takes_table}
 use Rattle.feed_transactions.specs.declared.table_filter.TableFilter.{TableFilter}
 use Rattle.changes_stats.specs.RowSums.{capped, of_event, sum_of_counts}
-use Rattle.changes_stats.specs.TableSums.{AreSummed, NamedCounts, named_counts}
+use Rattle.changes_stats.specs.TableSums.{AreSummed, NamedCounts, tables_in}
 use Rattle.changes_stats.specs.declared.counts.RowCounts.{RowCounts}
 use Rattle.changes_stats.specs.declared.recorder.StatsRecorder.{StatsRecorder}
 
@@ -49,7 +49,7 @@ is_statement (OfStatement q) = true
 -- it has the sums of these rows, of all tables and table by table
 pub record HasRows (s : StatsRecorder) (l : List NamedCounts) : Type 0 where
   pub all : s.all ≡ sum_of_counts (map (λ t. t.counts) l)
-  pub tables : AreSummed (map named_counts s.tables.items) l
+  pub tables : AreSummed (tables_in s.tables) l
 
 -- rows of the table with this map were added, if the filter takes it
 abbrev pub CountsRows : StatsRecorder → StatsRecorder → TableMap → RowCounts → Type 0

@@ -9,7 +9,6 @@ use Rattle.std.specs.Global.{Vec}
 use Rattle.changes_stats.specs.RowSums.{capped, sum_of_counts}
 use Rattle.changes_stats.specs.declared.counts.RowCounts.{RowCounts}
 use Rattle.changes_stats.specs.declared.tables.TableList.{TableList}
-use Rattle.changes_stats.specs.declared.tables.TableRows.{TableRows}
 use Rattle.changes_stats.specs.declared.tables.TableTotals.{TableTotals}
 
 -- the rows of a table in a transaction
@@ -17,8 +16,13 @@ pub record NamedCounts : Type 0 where
   pub name : List ℕ
   pub counts : RowCounts
 
-abbrev pub named_counts : TableRows → NamedCounts
-named_counts t = record { name = t.name.items; counts = t.counts }
+-- an entry of the code's
+abbrev pub named_counts : Vec ℕ × RowCounts → NamedCounts
+named_counts e = record { name = e.0.items; counts = e.1 }
+
+-- the tables by their names, each with its rows
+abbrev pub tables_in : BTreeMap (Vec ℕ) RowCounts → List NamedCounts
+tables_in m = map named_counts m.entries
 
 -- those of the table with a name
 abbrev pub of_table : List ℕ → List NamedCounts → List RowCounts
@@ -42,10 +46,12 @@ pub record Sums : Type 0 where
   pub counts : RowCounts
   pub transactions : ℕ
 
+-- those of a table's rows in each transaction
 abbrev pub sums_of : List RowCounts → Option Sums
 sums_of [] = None
 sums_of (c ∷ l) = Some (record { counts = sum_of_counts (c ∷ l); transactions = capped (length (c ∷ l)) })
 
+-- the code's
 abbrev pub sums_in : TableTotals → Sums
 sums_in t = record { counts = t.counts; transactions = t.transactions }
 

@@ -1,6 +1,6 @@
 //! The course of the transactions over time.
 
-ghost use Rattle.std.specs.Prelude.{◌≡◌, ◌<◌, ◌∷◌, ◌++◌, ℕ, List, [], OnOk};
+ghost use Rattle.std.specs.Prelude.{◌≡◌, ◌<◌, ◌∷◌, ◌++◌, ℕ, List, [], OnOk, max};
 
 use std::alloc::{AllocError, Global};
 use std::collections::BTreeMap;
@@ -29,7 +29,8 @@ impl Course {
 
     /// No transactions. A period of 0 seconds is one of 1.
     pub(crate) fn new(alloc: Global, period: u32) -> Course
-        ensures { IsCourse result [] }
+        ensures none { IsCourse result [] }
+        ensures period { result.period ≡ max period 1 }
     {
         Course {
             period: period.max(1),
@@ -40,7 +41,8 @@ impl Course {
 
     /// Adds a transaction of so many rows. `AllocError`: out of memory.
     pub(crate) fn add(&mut self, seconds: u32, rows: u64) -> Result<(), AllocError>
-        ensures { OnOk result ((l : List (ℕ × ℕ)) → IsCourse self.old l → IsCourse self.new (l ++ (seconds, rows) ∷ [])) }
+        ensures period { self.new.period ≡ self.old.period }
+        ensures added { OnOk result ((l : List (ℕ × ℕ)) → IsCourse self.old l → IsCourse self.new (l ++ (seconds, rows) ∷ [])) }
     {
         self.times = match self.times {
             None => Some((seconds, seconds)),

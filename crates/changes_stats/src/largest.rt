@@ -4,11 +4,13 @@ ghost use Rattle.std.specs.Prelude.{◌≡◌, ◌≤◌, ◌∷◌, ◌++◌, L
 ghost use Rattle.changes_stats.specs.CountedTransactions.{large, transaction_of};
 ghost use Rattle.changes_stats.specs.Largest.{Large, large_of};
 ghost use Rattle.changes_stats.specs.TableNames.{names_text};
+ghost use Rattle.changes_stats.specs.TableSums.{tables_in};
 
+use crate::counts::RowCounts;
 use crate::recorder::StatsRecorder;
-use crate::tables::TableRows;
 use feed_transactions::KeptGtid;
 use std::alloc::{AllocError, Global};
+use std::collections::BTreeMap;
 
 /// One of the largest transactions.
 #[derive(Drop)]
@@ -51,17 +53,18 @@ impl LargeTransaction {
 }
 
 /// The names of tables, with commas between them. `AllocError`: out of memory.
-fn names_of(alloc: Global, tables: &[TableRows]) -> Result<Vec<u8>, AllocError>
-    ensures { IfOk result (λ v. v.items ≡ names_text (map (λ t. t.name.items) tables.now)) }
+fn names_of(alloc: Global, tables: &BTreeMap<Vec<u8>, RowCounts>) -> Result<Vec<u8>, AllocError>
+    ensures { IfOk result (λ v. v.items ≡ names_text (map (λ t. t.name) (tables_in tables.now))) }
 {
     let mut names = Vec::new(alloc);
-    let Some((first, rest)) = tables.split_first() else {
+    let mut rest = tables.iter();
+    let Some((first, _)) = rest.next() else {
         return Ok(names);
     };
-    names.extend_from_slice(&first.name)?;
-    for table in rest {
+    names.extend_from_slice(first)?;
+    for (name, _) in rest {
         names.extend_from_slice(b", ")?;
-        names.extend_from_slice(&table.name)?;
+        names.extend_from_slice(name)?;
     }
     Ok(names)
 }
@@ -80,7 +83,8 @@ impl LargestTransactions {
 
     /// No transactions; so many will be kept.
     pub(crate) fn new(alloc: Global, count: usize) -> LargestTransactions
-        ensures { AreLargest result [] }
+        ensures none { AreLargest result [] }
+        ensures count { result.count ≡ count }
     {
         LargestTransactions {
             alloc,
@@ -105,7 +109,8 @@ impl LargestTransactions {
     /// Adds the newest transaction of a recorder, of a log with this name, if it has rows and is one of the largest. `AllocError`: out of
     /// memory.
     pub(crate) fn add(&mut self, file: &[u8], newest: &StatsRecorder<'_>) -> Result<(), AllocError>
-        ensures { OnOk result ((l : List Large) → AreLargest self.old l → AreLargest self.new (l ++ large (transaction_of file.now newest.now) ∷ [])) }
+        ensures count { self.new.count ≡ self.old.count }
+        ensures added { OnOk result ((l : List Large) → AreLargest self.old l → AreLargest self.new (l ++ large (transaction_of file.now newest.now) ∷ [])) }
     {
         let rows = newest.all.rows();
         if rows == 0 {

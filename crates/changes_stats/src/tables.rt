@@ -1,39 +1,27 @@
 //! The tables of all transactions.
 
-ghost use Rattle.std.specs.Prelude.{◌≡◌, ◌∷◌, ◌++◌, List, [], OnOk, map};
-ghost use Rattle.changes_stats.specs.TableSums.{AddsRows, named_counts};
+ghost use Rattle.std.specs.Prelude.{◌≡◌, ◌∷◌, ◌++◌, List, [], OnOk};
+ghost use Rattle.changes_stats.specs.TableSums.{AddsRows, tables_in};
 
 use crate::counts::RowCounts;
 use std::alloc::{AllocError, Global};
 use std::collections::BTreeMap;
 
-/// The rows of a table in a transaction.
-#[derive(Drop)]
-pub struct TableRows {
-    /// Its name: that of the database, a point, and that of the table.
-    pub name: Vec<u8>,
-    pub counts: RowCounts,
-}
-
 /// Adds rows of the table with this name. `AllocError`: out of memory.
 pub(crate) fn add_rows(
     alloc: Global,
-    tables: &mut Vec<TableRows>,
+    tables: &mut BTreeMap<Vec<u8>, RowCounts>,
     name: &[u8],
     counts: RowCounts,
 ) -> Result<(), AllocError>
-    ensures { OnOk result (AddsRows (map named_counts tables.old.items) (map named_counts tables.new.items) (record { name = name.now; counts = counts })) }
+    ensures { OnOk result (AddsRows (tables_in tables.old) (tables_in tables.new) (record { name = name.now; counts = counts })) }
 {
-    for rows in tables.iter_mut() {
-        if rows.name.as_slice() == name {
-            rows.counts = rows.counts.plus(counts);
-            return Ok(());
-        }
+    if let Some(so_far) = tables.get_mut(name) {
+        *so_far = so_far.plus(counts);
+        return Ok(());
     }
-    tables.push(TableRows {
-        name: Vec::from_slice(alloc, name)?,
-        counts: RowCounts::NONE.plus(counts),
-    })?;
+    let counts = RowCounts::NONE.plus(counts);
+    tables.insert(Vec::from_slice(alloc, name)?, counts)?;
     Ok(())
 }
 
@@ -123,12 +111,12 @@ impl TableList {
     }
 
     /// Adds the tables of a transaction. `AllocError`: out of memory.
-    pub(crate) fn add(&mut self, tables: &[TableRows]) -> Result<(), AllocError>
-        ensures { OnOk result ((l : List NamedCounts) → AreTables self.old l → AreTables self.new (l ++ map named_counts tables.now)) }
+    pub(crate) fn add(&mut self, tables: &BTreeMap<Vec<u8>, RowCounts>) -> Result<(), AllocError>
+        ensures { OnOk result ((l : List NamedCounts) → AreTables self.old l → AreTables self.new (l ++ tables_in tables.now)) }
     {
         self.newest.clear();
-        for table in tables {
-            self.add_table(&table.name, table.counts)?;
+        for (name, counts) in tables {
+            self.add_table(name, *counts)?;
         }
         if self.newest.len() <= MANY_TABLES {
             add_pairs(&self.newest, &mut self.pairs)?;

@@ -1,6 +1,6 @@
 //! The counts of all transactions.
 
-ghost use Rattle.std.specs.Prelude.{◌≡◌, ◌++◌, List, [], OnOk};
+ghost use Rattle.std.specs.Prelude.{◌≡◌, ◌++◌, List, [], OnOk, max};
 ghost use Rattle.changes_stats.specs.CountedTransactions.{Counted, counted};
 
 use crate::counts::Counts;
@@ -24,7 +24,9 @@ impl Totals {
 
     /// No transactions. The course is by periods of so many seconds, and so many of the largest transactions are kept.
     pub fn new(alloc: Global, period: u32, largest: usize) -> Totals
-        ensures { AreTotals result [] }
+        ensures none { AreTotals result [] }
+        ensures period { result.course.period ≡ max period 1 }
+        ensures kept { result.largest.count ≡ largest }
     {
         Totals {
             counts: Counts::NONE,
@@ -38,7 +40,9 @@ impl Totals {
     ///
     /// - `AllocError`: out of memory; a part of it may be added.
     pub fn add(&mut self, file: &[u8], newest: &StatsRecorder<'_>) -> Result<(), AllocError>
-        ensures { OnOk result ((l : List Counted) → AreTotals self.old l → AreTotals self.new (l ++ counted file.now newest.now)) }
+        ensures period { self.new.course.period ≡ self.old.course.period }
+        ensures kept { self.new.largest.count ≡ self.old.largest.count }
+        ensures added { OnOk result ((l : List Counted) → AreTotals self.old l → AreTotals self.new (l ++ counted file.now newest.now)) }
     {
         if newest.is_empty() {
             return Ok(());

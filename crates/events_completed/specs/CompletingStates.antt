@@ -1,5 +1,5 @@
 -- The state of a source that gives table maps as MySQL's servers write them, and completed, and what it may give from there on.
-use Rattle.std.specs.Prelude.{◌≡◌, ◌+◌, ◌*◌, ℕ, Bool, true, false, List, [], Option, if◌then◌else◌}
+use Rattle.std.specs.Prelude.{◌≡◌, ◌+◌, ◌*◌, ℕ, Bool, true, false, List, [], length, Option, if◌then◌else◌}
 use Rattle.events_frames.specs.GivenEvents.{MayBe}
 use Rattle.events_frames.specs.declared.event_error.EventError.{EventError}
 use Rattle.events_frames.specs.declared.event_error.EventError.TheVariants as faults
@@ -87,10 +87,10 @@ pub record WaitsNow {S : Type 0} (old new : CompletedEvents S) : Type 0 where
   pub waits : new.waits ≡ true
   pub newest : new.newest ≡ newest.None
 
--- its newest event is the other source's, which is idle, none waits to be given, the log isn't MariaDB's, and the schema has no tables
+-- its newest event is the other source's, which is idle, none waits to be given, the log isn't MariaDB's, and there are no schemas
 pub record IsIdleOver {S : Type 0} (IsIdle : S → Type 0) (s : CompletedEvents S) : Type 0 where
   pub own : s.newest ≡ newest.Own
   pub none : s.waits ≡ false
   pub mysql : s.described.is_mariadb ≡ false
-  pub tables : tables_in s ≡ []
+  pub tables : length (tables_in s) ≡ 0
   pub below : IsIdle s.source

@@ -1,4 +1,5 @@
 pub mod XidLemmas
+mod CommitLemmas
 pub mod GivenLemmas
 pub mod StepLemmas
 pub mod WholeLemmas

@@ -1,7 +1,8 @@
 -- What is kept and given of XA transactions is whole events.
 use Rattle.std.proofs.Common.{◌≡◌, ◌≤◌, ◌<◌, ◌+◌, ◌^◌, inl, inr, ℕ, Bool, true, false, List, [], ◌∷◌, ◌++◌, length, take, drop, refl, sym, ap, subst, ◌∙◌, append_assoc, arith}
-use Rattle.std.specs.Prelude.{codes}
+use Rattle.std.specs.Prelude.{◌&&◌, codes, nat_le, if◌then◌else◌}
 use Rattle.std.specs.List.{All, concat}
+use Rattle.std.proofs.lemmas.Bool.{leb-true}
 use Rattle.std.proofs.lemmas.List.{append-nil, append_cancel_left, length-append, length-take-le}
 use Rattle.std.proofs.lemmas.List.Elements.{All-append, All-cons, All-head, All-tail}
 use Rattle.std.proofs.lemmas.List.Folds.{concat-append}
@@ -15,10 +16,12 @@ use Rattle.events_mariadb.proofs.MadeLemmas.{statement_body_len}
 use Rattle.events_replaced.specs.StampedEvents.{AreFirstEvents, stamped}
 use Rattle.events_replaced.proofs.StandingLemmas.{made_len, made_whole}
 use Rattle.events_replaced.proofs.UnpackLemmas.{whole_by}
+use Rattle.events_xa.specs.XaCommits.{commit_made, commit_of, has_room, xid_body}
+use Rattle.events_xa.proofs.CommitLemmas.{xid_body_len}
 use Rattle.events_xa.specs.WholeXaEvents.{AreEvents, KeepsEvents}
 use Rattle.events_xa.specs.XaStates.{PreparedTransaction, XaState, no_transactions}
-use Rattle.events_xa.specs.XaSteps.{Drops, TakesRole, begin_made, commit_made, given_prepared, prepared_after, thread_of}
-use Rattle.events_xa.specs.XaIdentifiers.{is_one_phase, prepared_xid, rolled_back_xid}
+use Rattle.events_xa.specs.XaSteps.{Drops, TakesRole, begin_made, given_prepared, prepared_after, thread_of}
+use Rattle.events_xa.specs.XaIdentifiers.{committed_xid, is_one_phase, prepared_xid, rolled_back_xid}
 use Rattle.events_xa.specs.declared.role.XaRole.{XaRole}
 use Rattle.events_xa.specs.declared.role.XaRole.TheVariants as roles
 
@@ -52,6 +55,20 @@ module _ (event : List ℕ) (long : 19 ≤ length event) where
 
   commit_whole : AreEvents (commit_made event)
   commit_whole = statement 0 (codes "COMMIT") (omega arith)
+
+  -- COMMIT with an XID
+  xid_whole : (xid : List ℕ) → length xid ≤ 274 → AreEvents (made 2 (xid_body xid) event)
+  xid_whole xid few =
+      let body = xid_body xid in
+      one_event (made 2 body event) (made_whole 2 body event long (omega (arith, few, made_len 2 body event long, xid_body_len xid)))
+
+  commit_of_whole : (events xid : List ℕ) → AreEvents (commit_of events xid event)
+  commit_of_whole events xid = by (nat_le (length events) 4294966784) (nat_le (length xid) 274) refl
+    where
+      by : (a b : Bool) → nat_le (length xid) 274 ≡ b → AreEvents (if a && b then made 2 (xid_body xid) event else commit_made event)
+      by true true h = xid_whole xid (leb-true (length xid) 274 h)
+      by true false h = commit_whole
+      by false b h = commit_whole
 
   module _ (few : length event + 4 < 2 ^ 32) where
     fields : List ℕ
@@ -94,9 +111,9 @@ add_whole : (one_phase : Bool) (xid kept : List ℕ) (l : List PreparedTransacti
 add_whole true xid kept l events h = h
 add_whole false xid kept l events h = All-append Whole l (record { xid = xid; events = kept } ∷ []) h (All-cons Whole (record { xid = xid; events = kept }) [] events none_whole)
 
-given_whole : (one_phase : Bool) (kept : List ℕ) → AreEvents kept → AreEvents (given_prepared one_phase kept)
-given_whole true kept events = events
-given_whole false kept events = no_events
+given_whole : (one_phase : Bool) (xid kept event : List ℕ) → 19 ≤ length event → AreEvents kept → AreEvents (given_prepared one_phase xid kept event)
+given_whole true xid kept event long events = both kept (commit_of kept xid event) events (commit_of_whole event long kept xid)
+given_whole false xid kept event long events = commit_whole event long
 
 -- before any event
 pub nothing_kept : (limit : ℕ) → KeepsEvents (no_transactions limit)
@@ -117,13 +134,13 @@ taken_whole s t roles.Prepare event content k long few h =
     let kept : AreEvents h.kept = rw h.open_is at k.kept_are in
     let one = is_one_phase event in (
       rw h.state (record { kept_are = tt; prepared_are = add_whole one (prepared_xid event) h.kept s.prepared kept k.prepared_are }),
-      rw h.given (both (given_prepared one h.kept) (commit_made event) (given_whole one h.kept kept) (commit_whole event long)),
+      rw h.given (given_whole one (prepared_xid event) h.kept event long kept),
     )
 taken_whole s t roles.Commit event content k long few h =
     let x = h.has in
     let p = split_all x.before x.after _ (rw x.is at k.prepared_are) in (
       rw (h.state, x.others_are) (record { kept_are = tt; prepared_are = p.1 }),
-      rw h.given (both (begin_made event ++ h.events) (commit_made event) (both (begin_made event) h.events (begin_whole event long) p.0) (commit_whole event long)),
+      rw h.given (both (begin_made event ++ h.events) (commit_of h.events (committed_xid event) event) (both (begin_made event) h.events (begin_whole event long) p.0) (commit_of_whole event long h.events (committed_xid event))),
     )
 taken_whole s t roles.Rollback event content k long few (inl h) = (rw h.state (record { kept_are = tt; prepared_are = dropped h.drops }), rw h.given (both (begin_made event) (commit_made event) (begin_whole event long) (commit_whole event long)))
   where

@@ -2,6 +2,7 @@ pub mod XaRoles
 pub mod XaIdentifiers
 pub mod ReadPrepares
 pub mod XaStates
+pub mod XaCommits
 pub mod XaSteps
 pub mod GivenXaEvents
 pub mod XaTransactionStates

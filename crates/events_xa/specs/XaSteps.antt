@@ -6,6 +6,7 @@ use Rattle.events_replaced.specs.GivenReplacements.{checksums_after}
 use Rattle.events_replaced.specs.PayloadContents.{IsChecked, IsSummed}
 use Rattle.events_replaced.specs.StampedEvents.{stamped}
 use Rattle.events_xa.specs.XaRoles.{role_of}
+use Rattle.events_xa.specs.XaCommits.{commit_made, commit_of}
 use Rattle.events_xa.specs.XaIdentifiers.{committed_xid, is_one_phase, is_prepare, prepared_xid, rolled_back_xid}
 use Rattle.events_xa.specs.XaStates.{HasNoXid, HasXid, PreparedTransaction, XaState, is_open, with_checksum, with_kept, with_prepared}
 use Rattle.events_xa.specs.declared.fault.XaFault.{XaFault}
@@ -49,12 +50,9 @@ passed s role event = if s.has_failed then s else passed_role s role event
 abbrev pub thread_of : List ℕ → ℕ
 thread_of event = if nat_le 23 (length event) then little_number 4 (drop 19 event) else 0
 
--- BEGIN with the thread of a statement, and COMMIT
+-- BEGIN with the thread of a statement
 abbrev pub begin_made : List ℕ → List ℕ
 begin_made event = made 2 (statement_body (thread_of event) (codes "BEGIN")) event
-
-abbrev pub commit_made : List ℕ → List ℕ
-commit_made event = made 2 (statement_body 0 (codes "COMMIT")) event
 
 -- an event of the open transaction is kept, if that isn't longer than the limit then, and nothing given
 pub record KeepsPart (s : XaState) (event content : List ℕ) (t : XaState) : Type 0 where
@@ -76,28 +74,28 @@ pub record Ends (s : XaState) (content : List ℕ) (t : XaState) : Type 0 where
   pub nothing : content ≡ []
   pub state : t ≡ s
 
--- the events that are given, and the transactions that are prepared then: a commit in one phase gives the events of the open transaction, and another keeps them
-abbrev pub given_prepared : Bool → List ℕ → List ℕ
-given_prepared is_one_phase kept = if is_one_phase then kept else []
+-- the events that are given, and the transactions that are prepared then: a commit in one phase gives the events of the open transaction and COMMIT with its XID, and another keeps the events and gives COMMIT
+abbrev pub given_prepared : Bool → List ℕ → List ℕ → List ℕ → List ℕ
+given_prepared is_one_phase xid kept event = if is_one_phase then kept ++ commit_of kept xid event else commit_made event
 
 abbrev pub prepared_after : Bool → List ℕ → List ℕ → List PreparedTransaction → List PreparedTransaction
 prepared_after is_one_phase xid kept l = if is_one_phase then l else l ++ record { xid = xid; events = kept } ∷ []
 
--- the open transaction is prepared, or committed in one phase: COMMIT is given
+-- the open transaction is prepared, or committed in one phase
 pub record Prepares (s : XaState) (event content : List ℕ) (t : XaState) : Type 0 where
   pub kept : List ℕ
   pub open_is : s.kept ≡ Some kept
   pub fields : is_prepare event ≡ true
-  pub given : content ≡ given_prepared (is_one_phase event) kept ++ commit_made event
+  pub given : content ≡ given_prepared (is_one_phase event) (prepared_xid event) kept event
   pub state : t ≡ with_prepared (prepared_after (is_one_phase event) (prepared_xid event) kept s.prepared) s
 
--- XA COMMIT gives the events of the last transaction that was prepared with this XID, between BEGIN and COMMIT
+-- XA COMMIT gives the events of the last transaction that was prepared with this XID, between BEGIN and COMMIT with the XID
 pub record Commits (s : XaState) (event content : List ℕ) (t : XaState) : Type 0 where
   pub closed : s.kept ≡ None
   pub events : List ℕ
   pub others : List PreparedTransaction
   pub has : HasXid (committed_xid event) s.prepared events others
-  pub given : content ≡ (begin_made event ++ events) ++ commit_made event
+  pub given : content ≡ (begin_made event ++ events) ++ commit_of events (committed_xid event) event
   pub state : t ≡ with_prepared others s
 
 -- the last transaction with an XID is dropped, if there is one

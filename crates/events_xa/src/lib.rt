@@ -4,6 +4,7 @@
 //! those in `prepared`, and [`XaEvents`] is the source of events that gives them where they are committed.
 #![tactic(auto)]
 
+mod commits;
 mod fault;
 mod laws;
 mod prepared;

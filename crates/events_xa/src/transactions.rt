@@ -1,9 +1,10 @@
 //! The events of XA transactions that are prepared, and of the open one.
 
 ghost use Rattle.std.specs.Prelude.{◌≡◌, ◌≤◌, ◌<◌, ◌+◌, ◌++◌, ◌^◌, true, false, [], length, drop, min, vec_len, None, IfErr, IsFalse, IsSomeAnd, IsTrue, OnOk};
-ghost use Rattle.events_xa.specs.XaSteps.{begin_made, commit_made, thread_of};
+ghost use Rattle.events_xa.specs.XaSteps.{begin_made, thread_of};
 ghost use Rattle.events_xa.specs.declared.role.XaRole.TheVariants as roles;
 
+use crate::commits::{put_commit, put_commit_of};
 use crate::fault::XaFault;
 use crate::prepared::Prepared;
 use crate::role::{XaRole, committed_xid, is_indifferent, role_of, rolled_back_xid};
@@ -24,10 +25,8 @@ const CHECKSUM_LEN: usize = 4;
 /// The maximum length of the events of a transaction, in bytes.
 const MAX_LEN: usize = 0xffff_ff00;
 
-/// The statements that begin and commit the transactions that are given.
+/// The statement that begins the transactions that are given.
 const BEGIN: &[u8] = b"BEGIN";
-
-const COMMIT: &[u8] = b"COMMIT";
 
 /// The XA transactions that are prepared, and the open one: it is used again from log to log.
 #[derive(Drop)]
@@ -70,15 +69,6 @@ fn put_begin(event: &[u8], out: &mut Vec<u8>) -> Result<(), AllocError>
     ensures few { vec_len out.new ≤ vec_len out.old + 38 }
 {
     put_statement(event, thread_of(event), BEGIN, out)
-}
-
-/// Appends COMMIT, with the time and the server of an event. `AllocError`: out of memory.
-fn put_commit(event: &[u8], out: &mut Vec<u8>) -> Result<(), AllocError>
-    requires { 19 ≤ length event.now }
-    ensures made { OnOk result (out.new.items ≡ out.old.items ++ commit_made event.now) }
-    ensures few { vec_len out.new ≤ vec_len out.old + 39 }
-{
-    put_statement(event, 0, COMMIT, out)
 }
 
 impl XaTransactions {
@@ -292,7 +282,8 @@ impl XaTransactions {
         Ok(())
     }
 
-    /// Ends the open transaction: its events are given if it is committed in one phase, else kept, and COMMIT is given.
+    /// Ends the open transaction: its events and COMMIT with its XID are given if it is committed in one phase, else COMMIT is given, and
+    /// they are kept.
     fn prepare(&mut self, event: &[u8]) -> Result<(), XaFault>
         requires long { 19 ≤ length event.now }
         requires none { content_of self.old ≡ [] }
@@ -305,20 +296,21 @@ impl XaTransactions {
         let Some(prepared) = read_prepared(event) else {
             return Err(XaFault::Statement);
         };
+        let xid = xid_text(
+            self.alloc,
+            prepared.format,
+            prepared.global,
+            prepared.branch,
+        )?;
         if prepared.is_one_phase {
             self.content.extend_from_slice(&self.kept)?;
+            put_commit_of(&self.kept, &xid, event, &mut self.content)?;
         } else {
-            let xid = xid_text(
-                self.alloc,
-                prepared.format,
-                prepared.global,
-                prepared.branch,
-            )?;
             let events = mem::replace(&mut self.kept, Vec::new(self.alloc));
             self.add(Prepared { xid, events })?;
+            put_commit(event, &mut self.content)?;
         }
         self.is_open = false;
-        put_commit(event, &mut self.content)?;
         Ok(())
     }
 
@@ -346,9 +338,9 @@ impl XaTransactions {
             return Err(XaFault::Unprepared);
         };
         put_begin(event, &mut self.content)?;
-        self.content
-            .extend_from_slice(&self.prepared[index].events)?;
-        put_commit(event, &mut self.content)?;
+        let events = &self.prepared[index].events;
+        self.content.extend_from_slice(events)?;
+        put_commit_of(events, committed_xid(event), event, &mut self.content)?;
         drop(self.prepared.remove(index));
         Ok(())
     }

@@ -51,7 +51,7 @@ zip_one R (y ∷ m) [] s x h k = absurd h
 
 -- what is counted of it: nothing if it has neither rows nor statements
 counted-is : (file : List ℕ) (s : StatsRecorder) → filter has_some (transaction_of file s ∷ []) ≡ counted file s
-counted-is file s = by (length s.tables.items == 0 && s.statements == 0) (ap (λ n. not (n == 0 && s.statements == 0)) (length-map s.tables.items named_counts))
+counted-is file s = by (length s.tables.entries == 0 && s.statements == 0) (ap (λ n. not (n == 0 && s.statements == 0)) (length-map s.tables.entries named_counts))
   where
     by : (b : Bool) → has_some (transaction_of file s) ≡ not b → cond (has_some (transaction_of file s)) (transaction_of file s ∷ []) [] ≡ cond b [] (transaction_of file s ∷ [])
     by true e = ap (λ b. cond b (transaction_of file s ∷ []) []) e

@@ -1,2 +1,3 @@
 mod LoggedLemmas
+mod StartLemmas
 mod TableLemmas

@@ -7,18 +7,19 @@ use Rattle.feed_checks.specs.Kinds.{map_kind}
 use Rattle.feed_checks.specs.KindViews.{IsKindError}
 use Rattle.feed_checks.specs.declared.verdict.Verdict.{Verdict}
 use Rattle.feed_checks.specs.declared.verdict.Verdict.TheVariants as verdicts
-use Rattle.table_schemas.specs.CompletedMaps.{Tables, AddsTable, is_named, table_named, missing, missing_if_known, missing_if_read}
+use Rattle.table_schemas.specs.CompletedMaps.{missing, missing_if_known, missing_if_read}
 use Rattle.table_schemas.specs.LoggedFields.{logged_kinds}
+use Rattle.table_schemas.specs.NamedTables.{NamedTables, AddsTable, is_named, table_named}
 use Rattle.table_schemas.specs.SchemaFits.{first_difference}
 use Rattle.table_schemas.specs.declared.logged.Logged.{Logged}
 use Rattle.table_schemas.specs.declared.schema_table.SchemaTable.{SchemaTable}
 
 -- under the names that a key has
-pub added_by : (key : Vec ℕ) (names : List ℕ) (t : SchemaTable) (old new : Tables) → key.items ≡ names → table_named key.items new ≡ Some t → ((k : Vec ℕ) → is_named key.items k ≡ false → table_named k.items new ≡ table_named k.items old) → AddsTable names t old new
+pub added_by : (key : Vec ℕ) (names : List ℕ) (t : SchemaTable) (old new : NamedTables) → key.items ≡ names → table_named key.items new ≡ Some t → ((k : Vec ℕ) → is_named key.items k ≡ false → table_named k.items new ≡ table_named k.items old) → AddsTable names t old new
 added_by key names t old new is added others = subst (λ (n : List ℕ). AddsTable n t old new) is (record { added = added; others = others })
 
 -- nothing is known of bytes that are no table map
-pub unread : (tables : Tables) (body : List ℕ) (o : Option TableMap) (v : Verdict) → IsKindError (map_kind o) v → (v ≡ verdicts.Memory → ⊥) → [] ≡ missing_if_read tables body o
+pub unread : (tables : NamedTables) (body : List ℕ) (o : Option TableMap) (v : Verdict) → IsKindError (map_kind o) v → (v ≡ verdicts.Memory → ⊥) → [] ≡ missing_if_read tables body o
 unread tables body None v why other = refl
 unread tables body (Some m) v (inl why) other = absurd (let e = why.1 in cc)
 unread tables body (Some m) v (inr why) other = absurd (other why)

@@ -1,44 +1,47 @@
 -- Table maps that a schema completes: an event of the type TABLE_MAP_EVENT with more fields at the end of its optional metadata (MySQL Internals: Table_map_event; the header is MySQL's Binlog Event Header, with the size of the event at 9).
-use Rattle.std.specs.Prelude.{◌≡◌, ℕ, ◌+◌, ◌-◌, ◌==◌, ◌&&◌, not, Bool, true, false, List, [], ◌∷◌, ◌++◌, length, take, drop, min, nat_le, Option, Some, None, is_none, if◌then◌else◌}
-use Rattle.std.specs.Global.{Vec}
-use Rattle.std.specs.Ordering.{nat_cmp}
-use Rattle.std.specs.Cmp.Lexicographic.{slice_cmp}
-use Rattle.std.specs.BTreeMap.{is_at}
-use Rattle.std.specs.Map.{lookup}
+use Rattle.std.specs.Prelude.{◌≡◌, ℕ, ◌+◌, ◌-◌, ◌==◌, ◌&&◌, not, Bool, true, false, List, [], ◌∷◌, ◌++◌, length, map, take, drop, min, nat_le, Option, Some, None, is_none, if◌then◌else◌}
+use Rattle.std.specs.List.{flat_map}
 use Rattle.byteorder.specs.Endian.{little_bytes, little_number}
 use Rattle.crc32.specs.Checksums.{crc32_of}
+use Rattle.events_frames.specs.HeaderFields.{header_field}
 use Rattle.rows_table_map.specs.TableMaps.{TableMap}
 use Rattle.feed_checks.specs.BodyReaders.{table_map_in}
 use Rattle.table_schemas.specs.SchemaFits.{first_difference}
 use Rattle.table_schemas.specs.LoggedFields.{logged_kinds}
 use Rattle.table_schemas.specs.declared.logged.Logged.{Logged}
 use Rattle.table_schemas.specs.declared.schema_table.SchemaTable.{SchemaTable}
+use Rattle.table_schemas.specs.declared.schema_start.SchemaStart.{SchemaStart}
+use Rattle.table_schemas.specs.declared.schemas.SchemaFrom.{SchemaFrom}
 use Rattle.table_schemas.specs.declared.schemas.Schemas.{Schemas}
+use Rattle.table_schemas.specs.NamedTables.{NamedTables, named_in, table_named}
 
--- tables by their names
+-- several schemas, each with where it begins, the newest first
 abbrev pub Tables : Type 0
-Tables = List (Vec ℕ × SchemaTable)
+Tables = List SchemaFrom
 
--- the tables of a schema
+-- those of a source of tables
 abbrev pub tables_of : Schemas → Tables
-tables_of s = s.tables.entries
+tables_of s = s.schemas.items
 
--- the names of a table as a table map's body has them: each after its length, and with a byte without meaning after it, which servers write as 0
-abbrev pub names_of : List ℕ → List ℕ → List ℕ
-names_of database table = (length database ∷ database) ++ (0 ∷ length table ∷ table) ++ 0 ∷ []
+-- these schemas, of which the one with this index begins there
+abbrev pub begun_from : ℕ → SchemaStart → Tables → Tables
+begun_from i start schemas = take i schemas ++ (map (λ s. record { start = start; schema = s.schema }) (take 1 (drop i schemas)) ++ drop 1 (drop i schemas))
 
--- whether these are the names of a table
-abbrev pub is_named : List ℕ → Vec ℕ → Bool
-is_named names k = is_at (λ (k : Vec ℕ). slice_cmp nat_cmp names k.items) k
+-- whether an event isn't before a start: it has this time or a later one, and ends at this position or after it
+abbrev pub has_begun : SchemaStart → List ℕ → Bool
+has_begun start event = nat_le start.time (header_field 0 4 event) && nat_le start.position (header_field 13 4 event)
 
--- a table by its names
-abbrev pub table_named : List ℕ → Tables → Option SchemaTable
-table_named names tables = lookup (is_named names) tables
+-- the start after a position, which has 32 bits
+abbrev pub start_after : ℕ → SchemaStart
+start_after position = record { time = 0; position = min (position + 1) 4294967295 }
 
--- a table was added under these names, or put in place of the one that had them; the others are unchanged
-pub record AddsTable (names : List ℕ) (t : SchemaTable) (old new : Tables) : Type 0 where
-  pub added : table_named names new ≡ Some t
-  pub others : (k : Vec ℕ) → is_named names k ≡ false → table_named k.items new ≡ table_named k.items old
+-- the tables that an event has by a schema: all, if it isn't before where that begins
+abbrev pub tables_from : List ℕ → SchemaFrom → NamedTables
+tables_from event s = if has_begun s.start event then named_in s.schema else []
+
+-- the tables that an event has by all of them, the newest first: of a table that several have the first counts
+abbrev pub tables_at : Tables → List ℕ → NamedTables
+tables_at schemas event = flat_map (tables_from event) schemas
 
 -- the names in the body of a table map: after the table id and the flags, which are eight bytes; none is longer than 255 bytes
 abbrev pub names_in : TableMap → List ℕ → List ℕ
@@ -64,13 +67,13 @@ missing_if_known m None = []
 missing_if_known m (Some t) = missing_if_fits m (logged_kinds m) t
 
 -- the same by the body of the table map, if that can be read
-abbrev pub missing_if_read : Tables → List ℕ → Option TableMap → List ℕ
+abbrev pub missing_if_read : NamedTables → List ℕ → Option TableMap → List ℕ
 missing_if_read tables body None = []
 missing_if_read tables body (Some m) = missing_if_known m (table_named (names_in m body) tables)
 
 -- the fields that complete a table map, which is without its checksum
 abbrev pub missing_fields : Tables → List ℕ → List ℕ
-missing_fields tables event = missing_if_read tables (drop 19 event) (table_map_in 8 (drop 19 event))
+missing_fields tables event = missing_if_read (tables_at tables event) (drop 19 event) (table_map_in 8 (drop 19 event))
 
 -- the bytes of an event before its checksum; None if that is wrong
 abbrev pub before_checksum : Bool → List ℕ → Option (List ℕ)

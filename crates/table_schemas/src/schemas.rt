@@ -1,11 +1,15 @@
-//! The tables of a schema, and the events that they complete.
+//! Schemas, and the events that they complete.
 
-ghost use Rattle.std.specs.Prelude.{◌≡◌, ◌≤◌, ◌+◌, ◌^◌, Bool, List, [], ℕ, ◌==◌, length, IfOk, IfSome, OnOk, OnErr, is_none, option_map, if◌then◌else◌};
+ghost use Rattle.std.specs.Prelude.{◌≡◌, ◌≤◌, ◌+◌, ◌++◌, ◌∷◌, [], ◌==◌, length, IfOk, IfSome, OnOk, OnErr, option_map, if◌then◌else◌};
+ghost use Rattle.std.specs.Option.{option_copied};
 ghost use Rattle.rows_table_map.specs.MapViews.{map_of};
-ghost use Rattle.table_schemas.specs.CompletedMaps.{Tables, tables_of, names_of as names_bytes, table_named, names_in as names_within, missing_fields, missing_if_known, before_checksum, with_more, completed, AddsTable};
+ghost use Rattle.table_schemas.specs.NamedTables.{table_named};
+ghost use Rattle.table_schemas.specs.CompletedMaps.{tables_of, tables_at, begun_from, names_in as names_within, missing_fields, missing_if_known, before_checksum, with_more, completed};
 
 use crate::fits::{Difference, first_difference};
 use crate::logged::Logged;
+use crate::schema::Schema;
+use crate::schema_start::SchemaStart;
 use crate::schema_table::SchemaTable;
 use byteorder::{ByteOrder, LittleEndian};
 use crc32::crc32;
@@ -47,30 +51,22 @@ pub struct Misfit {
     pub columns: u64,
 }
 
-/// The tables of a schema, by their names as table maps have them.
+/// A schema, and where it begins.
+#[derive(Drop)]
+struct SchemaFrom {
+    start: SchemaStart,
+    schema: Schema,
+}
+
+/// Schemas, each from where it begins on.
 #[derive(Drop)]
 pub struct Schemas {
     alloc: Global,
-    tables: BTreeMap<Vec<u8>, SchemaTable>,
+    /// The newest is the first.
+    schemas: Vec<SchemaFrom>,
     misfits: BTreeMap<Vec<u8>, Misfit>,
     /// The fields that complete the newest table map.
     fields: Vec<u8>,
-}
-
-/// The names of a table as table maps have them: each after its length, and with a zero after it.
-fn names_of(alloc: Global, database: &[u8], table: &[u8]) -> Result<Vec<u8>, AllocError>
-    requires database { length database.now ≤ 255 }
-    requires table { length table.now ≤ 255 }
-    ensures { IfOk result (λ v. v.items ≡ names_bytes database.now table.now) }
-{
-    let mut names = Vec::new(alloc);
-    names.push(database.len() as u8)?;
-    names.extend_from_slice(database)?;
-    names.push(0)?;
-    names.push(table.len() as u8)?;
-    names.extend_from_slice(table)?;
-    names.push(0)?;
-    Ok(names)
 }
 
 /// The names in a table map's body.
@@ -83,6 +79,34 @@ fn names_in<'b>(map: &TableMapEvent<'_>, body: &'b [u8]) -> &'b [u8]
     let (_, rest) = body.split_at(body.len().min(NAMES_OFFSET));
     let (names, _) = rest.split_at(rest.len().min(len));
     names
+}
+
+impl SchemaFrom {
+    ghost use Rattle.table_schemas.specs.CompletedMaps.{tables_from};
+
+    /// The table with these names that an event has by this schema.
+    fn table_at(&self, event: &[u8], names: &[u8]) -> Option<&SchemaTable>
+        requires { 19 ≤ length event.now }
+        ensures { option_copied result ≡ table_named names.now (tables_from event.now self.now) }
+    {
+        if !self.start.has_begun(event) {
+            return None;
+        }
+        self.schema.get(names)
+    }
+}
+
+/// The table with these names that an event has: that of the newest schema which has one and begins before it.
+fn table_at<'s>(schemas: &'s [SchemaFrom], event: &[u8], names: &[u8]) -> Option<&'s SchemaTable>
+    requires { 19 ≤ length event.now }
+    ensures { option_copied result ≡ table_named names.now (tables_at schemas.now event.now) }
+{
+    for from in schemas {
+        if let Some(table) = from.table_at(event, names) {
+            return Some(table);
+        }
+    }
+    None
 }
 
 /// The bytes of an event before its checksum; None if that is wrong.
@@ -130,42 +154,44 @@ pub fn put_longer(
 }
 
 impl Schemas {
-    /// Returns no tables.
+    /// Returns no schemas.
     pub fn new(alloc: Global) -> Schemas
         ensures { tables_of result ≡ [] }
     {
         Schemas {
             alloc,
-            tables: BTreeMap::new(alloc),
+            schemas: Vec::new(alloc),
             misfits: BTreeMap::new(alloc),
             fields: Vec::new(alloc),
         }
     }
 
-    /// Whether there are no tables.
+    /// Whether there are no schemas.
     pub fn is_empty(&self) -> bool
         ensures { result ≡ (length (tables_of self.now) == 0) }
     {
-        self.tables.is_empty()
+        self.schemas.is_empty()
     }
 
-    /// Adds a table, and returns whether there was none with its names. Names have 255 bytes at most.
-    pub fn add(
-        &mut self,
-        database: &[u8],
-        table: &[u8],
-        columns: SchemaTable,
-    ) -> Result<bool, AllocError>
-        requires database { length database.now ≤ 255 }
-        requires table { length table.now ≤ 255 }
-        ensures new { IfOk result (λ is_new. is_new ≡ is_none (table_named (names_bytes database.now table.now) (tables_of self.old))) }
-        ensures added { OnOk result (AddsTable (names_bytes database.now table.now) columns (tables_of self.old) (tables_of self.new)) }
+    /// Adds a schema, which is older than all so far.
+    ///
+    /// - `AllocError`: out of memory; there is no other.
+    pub fn add(&mut self, start: SchemaStart, schema: Schema) -> Result<(), AllocError>
+        ensures ok { OnOk result (tables_of self.new ≡ tables_of self.old ++ record { start = start; schema = schema } ∷ []) }
         ensures err { OnErr result (tables_of self.new ≡ tables_of self.old) }
     {
-        let names = names_of(self.alloc, database, table)?;
-        match self.tables.insert(names, columns) {
-            Ok(old) => Ok(old.is_none()),
+        match self.schemas.push(SchemaFrom { start, schema }) {
+            Ok(()) => Ok(()),
             Err(_) => Err(AllocError),
+        }
+    }
+
+    /// Lets the schema with this index begin there in the log that is read next. Nothing changes without such a schema.
+    pub fn begin(&mut self, index: usize, start: SchemaStart)
+        ensures { tables_of self.new ≡ begun_from index start (tables_of self.old) }
+    {
+        if index < self.schemas.len() {
+            self.schemas[index].start = start;
         }
     }
 
@@ -207,20 +233,26 @@ impl Schemas {
         self.fields.clear();
         let (_, body) = event.split_at(BinlogEventHeader::LEN);
         match read_table_map(self.alloc, TABLE_MAP_POST_HEADER_LEN, body) {
-            Ok(map) => self.find_of(&map, body),
+            Ok(map) => self.find_of(event, &map, body),
             Err(Verdict::Memory) => Err(AllocError),
             Err(_) => Ok(()),
         }
     }
 
     /// Finds the fields that a table map with this body lacks, and its table has.
-    fn find_of(&mut self, map: &TableMapEvent<'_>, body: &[u8]) -> Result<(), AllocError>
-        requires { self.old.fields.items ≡ [] }
-        ensures fields { OnOk result (self.new.fields.items ≡ missing_if_known (map_of map.now) (table_named (names_within (map_of map.now) body.now) (tables_of self.old))) }
+    fn find_of(
+        &mut self,
+        event: &[u8],
+        map: &TableMapEvent<'_>,
+        body: &[u8],
+    ) -> Result<(), AllocError>
+        requires none { self.old.fields.items ≡ [] }
+        requires long { 19 ≤ length event.now }
+        ensures fields { OnOk result (self.new.fields.items ≡ missing_if_known (map_of map.now) (table_named (names_within (map_of map.now) body.now) (tables_at (tables_of self.old) event.now))) }
         ensures tables { tables_of self.new ≡ tables_of self.old }
     {
         let names = names_in(map, body);
-        let Some(table) = self.tables.get(names) else {
+        let Some(table) = table_at(self.schemas.as_slice(), event, names) else {
             return Ok(());
         };
         let Some(logged) = Logged::of(map) else {

@@ -5,7 +5,14 @@ import ctypes
 import os
 from typing import Optional, Tuple
 
-LIBRARY = ctypes.CDLL(os.environ.get("CUVRAGYEN_LIBRARY", "libcuvragyen.so.0"))
+
+def _path() -> str:
+    """The shared library: that which the environment names, that of a wheel, or that which the system finds."""
+    own = os.path.join(os.path.dirname(os.path.abspath(__file__)), "libcuvragyen.so")
+    return os.environ.get("CUVRAGYEN_LIBRARY") or (own if os.path.exists(own) else "libcuvragyen.so.0")
+
+
+LIBRARY = ctypes.CDLL(_path())
 OK, TRANSACTION = 0, 1
 NAMES = {2: "ClosedHandle", 3: "Option", 4: "Value"}
 END = 100

@@ -3,7 +3,7 @@ use Rattle.feed_checks.specs.Kinds.{Gtid}
 use Rattle.changes_stats.specs.Largest.{Large}
 use Rattle.changes_stats.specs.RowSums.{all_rows}
 use Rattle.changes_stats.specs.TableNames.{names_text}
-use Rattle.changes_stats.proofs.TableRowsLemmas.{names-map}
+use Rattle.changes_stats.specs.TableSums.{tables_in}
 use Rattle.changes_stats.proofs.largest.LargeTransaction.of.Goals as goal
 
 pub returns : goal.returns
@@ -17,7 +17,7 @@ returns c =
       end = newest.commit.log_pos;
       seconds = newest.commit.timestamp;
       gtid = g;
-      tables = names_text (map (λ t. t.name.items) newest.tables.items);
+      tables = names_text (map (λ t. t.name) (tables_in newest.tables));
     } in
-    rw (c.rows.ensures, c.in_ok-names_of.ensures, names-map, c.in_ok-from_slice.ensures.items, c.deref.ensures.value, c.from.ensures, c.log_pos-end.ensures, c.timestamp.ensures)
+    rw (c.rows.ensures, c.in_ok-names_of.ensures, c.in_ok-from_slice.ensures.items, c.from.ensures, c.log_pos-end.ensures, c.timestamp.ensures)
     (ap with_gtid c.in_ok-keep_of.ensures)

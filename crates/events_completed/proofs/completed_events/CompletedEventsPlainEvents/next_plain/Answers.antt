@@ -1,4 +1,5 @@
 use Rattle.wire_buf.specs.Watched.{inner_of}
+use Rattle.std.proofs.lemmas.List.{nil_from_length}
 use Rattle.events_completed.specs.CompletingStates.{tables_in}
 use Rattle.events_completed.proofs.PlainLemmas.{plain_given}
 use Rattle.events_completed.proofs.completed_events.CompletedEventsPlainEvents.next_plain.Goals as goal
@@ -11,4 +12,4 @@ returns-clause-given g c taken =
     let new = g.S.Events.MayGive c.next_plain.new.self (g.R.Read.remaining (inner_of c.next_plain.new.reader)) in
     let event = g.S.Events.newest c.next_plain.new.self in
     let waiting = g.S.Events.at_hand c.next_plain.new.self in
-    rw i.own (plain_given old new (tables_in s) s.described s.waits (g.S.Events.newest s.source) event event waiting i.none i.mysql i.tables (c.next_plain.ensures.given taken))
+    rw i.own (plain_given old new (tables_in s) s.described s.waits (g.S.Events.newest s.source) event event waiting i.none i.mysql (nil_from_length (tables_in s) i.tables) (c.next_plain.ensures.given taken))

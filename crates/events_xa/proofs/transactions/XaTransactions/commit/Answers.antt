@@ -1,6 +1,7 @@
 use Rattle.std.proofs.Common.{rules, ◌≡◌, ◌++◌, sym, ap, ◌∙◌}
 use Rattle.std.specs.Prelude.{map, slice_index_or}
-use Rattle.events_xa.specs.XaSteps.{begin_made, commit_made}
+use Rattle.events_xa.specs.XaSteps.{begin_made}
+use Rattle.events_xa.specs.XaCommits.{commit_of}
 use Rattle.events_xa.specs.XaTransactionStates.{prepared_view}
 use Rattle.events_xa.specs.FoundXids.{FindsXid}
 use Rattle.events_xa.specs.XaIdentifiers.{committed_xid}
@@ -16,8 +17,10 @@ returns-clause-ok c =
     let is : slice_index_or l c.in-Some.index p ≡ p = search rules in
     let at : slice_index_or l c.in-Some.index c.index.result.now ≡ c.index.result.now = search rules in
     let same : p ≡ c.index.result.now = same_found (committed_xid c.args.event.now) l c.in-Some.index finds p is c.index.result.now at in
-    let kept : c.put_commit.new.out.items ≡ (begin_made c.args.event.now ++ c.index.result.now.events.items) ++ commit_made c.args.event.now = search rules in
-    let given : c.put_commit.new.out.items ≡ (begin_made c.args.event.now ++ p.events.items) ++ commit_made c.args.event.now = kept ∙ ap (λ (q : Prepared). (begin_made c.args.event.now ++ q.events.items) ++ commit_made c.args.event.now) (sym same) in
+    let begin = begin_made c.args.event.now in
+    let xid = committed_xid c.args.event.now in
+    let kept : c.put_commit_of.new.out.items ≡ (begin ++ c.index.result.now.events.items) ++ commit_of c.index.result.now.events.items xid c.args.event.now = search rules in
+    let given : c.put_commit_of.new.out.items ≡ (begin ++ p.events.items) ++ commit_of p.events.items xid c.args.event.now = kept ∙ ap (λ (q : Prepared). (begin ++ q.events.items) ++ commit_of q.events.items xid c.args.event.now) (sym same) in
     record {
       closed = search rules;
       events = p.events.items;

@@ -11,4 +11,4 @@ returns-then-not-takes_header-clause-ok c = λ first m t alike d has.
 pub returns-clause-ok : goal.returns-clause-ok
 returns-clause-ok c = λ first m t alike d has.
     let taken = sym (c.takes_header.ensures t (ap event_header_of c.commit_header.ensures ∙ d.commit)) ∙ c.if-not-takes_header.false in
-    counts_more first c.args.self.now _ c.args.filter m t c.args.newest.now taken alike d has refl c.in-Ok.ensures
+    counts_more first c.args.self.now _ c.args.filter m t c.args.newest.now taken alike d has refl c.in-Ok.ensures.added

@@ -1,0 +1,3 @@
+module cuvragyen
+
+go 1.19
