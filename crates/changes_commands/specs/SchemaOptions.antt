@@ -18,6 +18,7 @@ pub data Beginning : Type 0 where
   time : ℕ → Beginning
   position : List ℕ → ℕ → Beginning
 
+-- the same as the program keeps it
 abbrev pub beginning_view : SchemaBeginning → Beginning
 beginning_view First = first
 beginning_view (Time seconds) = time seconds
@@ -28,6 +29,7 @@ pub record File : Type 0 where
   pub path : List ℕ
   pub beginning : Beginning
 
+-- the same as the program keeps it
 abbrev pub file_view : SchemaFile → File
 file_view f = record { path = f.path.now; beginning = beginning_view f.beginning }
 
@@ -40,6 +42,7 @@ abbrev pub IsPlaceBy : Option (List ℕ × List ℕ) → Option Beginning → Ty
 IsPlaceBy None r = r ≡ None
 IsPlaceBy (Some parts) r = (at : Option ℕ) × IsPosition parts.1 at × (r ≡ option_map (λ p. position parts.0 p) at)
 
+-- the place that a text is
 abbrev pub IsPlace : List ℕ → Option Beginning → Type 0
 IsPlace text r = IsPlaceBy (rsplit_once 58 text) r
 
@@ -52,6 +55,7 @@ abbrev pub IsBeginningBy : List ℕ → Option ℕ → Option Beginning → Type
 IsBeginningBy text (Some seconds) r = r ≡ time_in seconds
 IsBeginningBy text None r = IsPlace text r
 
+-- the same by the time that it is in a zone, if it is one
 abbrev pub IsBeginning : Zone → List ℕ → Option Beginning → Type 0
 IsBeginning zone text r = (seconds : Option ℕ) × IsSecondsOf zone text seconds × IsBeginningBy text seconds r
 
@@ -83,6 +87,7 @@ abbrev pub is_position : Beginning → Bool
 is_position (position log at) = true
 is_position _ = false
 
+-- the same of its file
 abbrev pub is_placed : File → Bool
 is_placed f = is_position f.beginning
 

@@ -64,6 +64,10 @@ impl From<AllocError> for Unusable {
 }
 
 impl From<Unusable> for Refused {
+    ghost use Rattle.changes_commands.specs.RefusedOptions.{refused_of};
+
+    ghost from_gives = { λ unusable r. r ≡ refused_of unusable };
+
     fn from(unusable: Unusable) -> Refused {
         match unusable {
             Unusable::Value(option) => Refused::Value(option),

@@ -28,7 +28,7 @@ pub(crate) fn add_rows(
 /// The rows of a table, and in how many transactions they are.
 #[derive(Clone, Copy)]
 pub struct TableTotals {
-    /// The number of the table, in the order of their first rows.
+    /// The number of the table: in the order of the transactions with their first rows, and of the names of one transaction.
     pub number: usize,
     pub counts: RowCounts,
     /// It stays at 2^64 - 1 once it is there.
