@@ -153,7 +153,8 @@ typedef struct cuvragyen_end {
     bool is_cut;          /* whether the log ends within an event */
 } cuvragyen_end;
 
-/* Ends a log, and says how it ended: by CUVRAGYEN_END if it has no fault. From then on pieces are ignored.
+/* Ends a log, and says how it ended: by CUVRAGYEN_END if it has no fault. From then on pieces are ignored. Take the transactions of
+   the last piece by cuvragyen_next before: those that weren't taken are among the bytes that remain.
 
    CUVRAGYEN_OK; or CUVRAGYEN_CLOSED_HANDLE, and end is unchanged. */
 uint32_t cuvragyen_stop(cuvragyen *log, cuvragyen_end *end);
