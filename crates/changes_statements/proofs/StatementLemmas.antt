@@ -1,8 +1,8 @@
 -- Lists of columns, comparisons and statements, part by part.
-use Rattle.std.proofs.Common.{◌≡◌, ◌⊎◌, ◌+◌, ◌==◌, ◌<◌, ℕ, zero, suc, Bool, true, false, List, [], ◌∷◌, ◌++◌, length, map, take, get_or, Option, Some, None, inl, inr, refl, sym, ap, subst, ◌∙◌, append_assoc, arith}
+use Rattle.std.proofs.Common.{◌≡◌, ◌⊎◌, ◌+◌, ◌==◌, ◌<◌, ℕ, suc, Bool, true, false, List, [], ◌∷◌, ◌++◌, length, map, take, get_or, Option, Some, None, inl, inr, refl, sym, ap, subst, ◌∙◌, append_assoc, arith}
 use Rattle.std.specs.Prelude.{slice_get, codes, not, if◌then◌else◌}
 use Rattle.std.specs.List.{AllZip, flat_map, range_with_len}
-use Rattle.std.proofs.Math.Seq.{take-length, take-suc}
+use Rattle.std.proofs.Math.Seq.{take-suc}
 use Rattle.std.proofs.lemmas.Grind.{flat_map-append}
 use Rattle.std.proofs.lemmas.List.{append-nil}
 use Rattle.std.proofs.lemmas.List.FromFn.{map-range_with_len_more}
@@ -14,6 +14,8 @@ use Rattle.changes_statements.specs.declared.statements.Item.{Item}
 use Rattle.changes_statements.specs.declared.statements.Item.TheVariants as item
 use Rattle.changes_statements.specs.RowsOfCells.{Cells, cell_in}
 use Rattle.changes_statements.specs.SqlLiterals.{IsLiteral}
+use Rattle.changes_statements.specs.NoStatements.{HasNoComparison, HasNoCondition, HasNoConditionBy, HasNoKey, HasNoLiteral, HasNoneOfAll, HasNoValue, IsMemoryOr}
+use Rattle.changes_statements.specs.declared.no_statement.NoStatement.{NoStatement}
 use Rattle.changes_statements.specs.SqlStatements.{compared, HasComparisons, HasItems, IsComparison, IsComparisonOfAll, IsComparisonOfKey, IsCondition, IsConditionBy, IsDelete, IsInsert, IsItem, IsItemList, IsKeptItem, IsUpdate, is_none, kept_before, kept_of, may_be_text, separated}
 
 zip_push : {A B : Type 0} (R : A → B → Type 0) (xs : List A) (ys : List B) (x : A) (y : B) → AllZip R xs ys → R x y → AllZip R (xs ++ x ∷ []) (ys ++ y ∷ [])
@@ -48,7 +50,7 @@ two a b c x y e f = f ∙ ap (λ (l : List ℕ). l ++ y) e ∙ append_assoc a x 
 
 -- ---- lists of columns
 
-kept_push : (n : ℕ) (columns : List SqlColumn) (cells : Cells) → kept_before (n + 1) columns cells ≡ kept_before n columns cells ++ kept_of (slice_get columns n) (cell_in cells n)
+pub kept_push : (n : ℕ) (columns : List SqlColumn) (cells : Cells) → kept_before (n + 1) columns cells ≡ kept_before n columns cells ++ kept_of (slice_get columns n) (cell_in cells n)
 kept_push n columns cells =
     ap (flat_map (λ (i : ℕ). kept_of (slice_get columns i) (cell_in cells i))) (range_push n)
     ∙ flat_map-append (λ (i : ℕ). kept_of (slice_get columns i) (cell_in cells i)) (range_with_len 0 n) (n ∷ [])
@@ -168,6 +170,37 @@ by_all table cells a b c d none begun all ended = record {
     of : (indexes : List ℕ) → length indexes ≡ 0 → IsConditionBy indexes table cells (codes " WHERE " ++ (all.text ++ codes " LIMIT 1"))
     of [] e = (all.text, all.such, refl)
     of (i ∷ indexes) e = absurd (omega (arith, e))
+
+-- ---- why there is none
+
+-- an image has the column, whose cell has no literal
+pub no_value : (columns : List SqlColumn) (cells : Cells) (index : ℕ) (column : SqlColumn) (cell : CellRef) (e : NoStatement) → slice_get columns index ≡ Some column → cell_in cells index ≡ Some cell → IsMemoryOr (HasNoLiteral cell) e
+    → IsMemoryOr (HasNoValue columns cells index) e
+no_value columns cells index column cell e column_is cell_is (inl memory) = inl memory
+no_value columns cells index column cell e column_is cell_is (inr none) = inr (record { column = column; cell = cell; column_is = column_is; cell_is = cell_is; none = none })
+
+pub no_comparison_of : (columns : List SqlColumn) (cells : Cells) (index : ℕ) (e : NoStatement) → IsMemoryOr (HasNoValue columns cells index) e → IsMemoryOr (HasNoComparison columns cells index) e
+no_comparison_of columns cells index e (inl memory) = inl memory
+no_comparison_of columns cells index e (inr none) = inr (inr none)
+
+-- the key, or all columns, are those of the condition
+pub no_key : (table : SqlTable) (cells : Cells) (e : NoStatement) → 0 < length table.key.items → IsMemoryOr (HasNoKey table cells) e → IsMemoryOr (HasNoCondition table cells) e
+unfolding HasNoCondition
+no_key table cells e some (inl memory) = inl memory
+no_key table cells e some (inr why) = inr (of table.key.items some)
+  where
+    of : (indexes : List ℕ) → 0 < length indexes → HasNoConditionBy indexes table cells e
+    of [] few = absurd (omega (arith, few))
+    of (i ∷ indexes) few = why
+
+pub none_of_all : (table : SqlTable) (cells : Cells) (e : NoStatement) → length table.key.items ≡ 0 → IsMemoryOr (HasNoneOfAll table cells) e → IsMemoryOr (HasNoCondition table cells) e
+unfolding HasNoCondition
+none_of_all table cells e none (inl memory) = inl memory
+none_of_all table cells e none (inr why) = inr (of table.key.items none)
+  where
+    of : (indexes : List ℕ) → length indexes ≡ 0 → HasNoConditionBy indexes table cells e
+    of [] long = why
+    of (i ∷ indexes) long = absurd (omega (arith, long))
 
 -- ---- statements
 

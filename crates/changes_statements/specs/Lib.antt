@@ -5,3 +5,4 @@ pub mod SqlNumbers
 pub mod SqlLiterals
 pub mod RowsOfCells
 pub mod SqlStatements
+pub mod NoStatements

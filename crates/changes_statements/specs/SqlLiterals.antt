@@ -1,10 +1,9 @@
 -- The literal of a cell of a row, by its column (MySQL Reference Manual, "Literal Values", "Data Types").
-use Rattle.std.specs.Prelude.{◌≡◌, ◌⊎◌, ◌==◌, ℕ, ◌+◌, ◌*◌, ℤ, pos, negsuc, Bool, true, false, ◌&&◌, List, [], ◌∷◌, ◌++◌, length, nat_le, nat_lt, Some, codes, unsigned_abs, if◌then◌else◌}
+use Rattle.std.specs.Prelude.{◌≡◌, ◌⊎◌, ◌==◌, ℕ, ◌+◌, ◌*◌, ℤ, pos, Bool, true, false, ◌&&◌, List, ◌++◌, length, nat_le, nat_lt, Some, codes, unsigned_abs, if◌then◌else◌}
 use Rattle.std.specs.declared.result.Result.TheVariants.{Ok}
 use Rattle.std.specs.Fmt.{decimal, signed_decimal}
 use Rattle.std.specs.Int.{w32, cast_unsigned}
 use Rattle.std.specs.List.{list_any}
-use Rattle.std.specs.Borrow.{Bor}
 use Rattle.byteorder.specs.Endian.{big_number, little_number}
 use Rattle.rows_cells.specs.declared.cell.CellRef.{CellRef}
 use Rattle.rows_cells.specs.declared.cell.CellRef.TheVariants as cell

@@ -1,5 +1,5 @@
 -- The statement of a change of a row (MySQL Reference Manual, "INSERT", "UPDATE" and "DELETE Statement", "Comparison Functions and Operators").
-use Rattle.std.specs.Prelude.{◌≡◌, ◌==◌, ℕ, zero, Bool, true, false, not, List, [], ◌∷◌, ◌++◌, length, take, Option, Some, None, slice_get, codes, if◌then◌else◌}
+use Rattle.std.specs.Prelude.{◌≡◌, ℕ, Bool, true, false, not, List, [], ◌∷◌, ◌++◌, length, Option, Some, None, slice_get, codes, if◌then◌else◌}
 use Rattle.std.specs.List.{AllZip, flat_map, range_with_len}
 use Rattle.std.specs.Borrow.{Bor}
 use Rattle.rows_cells.specs.declared.cell.CellRef.{CellRef}

@@ -1,5 +1,5 @@
 -- Names, strings and bytes in SQL (MySQL Reference Manual, "Schema Object Names", "String Literals", "Hexadecimal Literals").
-use Rattle.std.specs.Prelude.{ℕ, ◌-◌, ◌*◌, map, ◌==◌, Bool, true, false, not, ◌&&◌, List, [], ◌∷◌, ◌++◌, length, nat_le, if◌then◌else◌, codes}
+use Rattle.std.specs.Prelude.{ℕ, ◌-◌, ◌*◌, map, ◌==◌, Bool, false, not, ◌&&◌, List, [], ◌∷◌, ◌++◌, length, nat_le, if◌then◌else◌, codes}
 use Rattle.std.specs.List.{flat_map, list_all, range_with_len}
 use Rattle.hex.specs.Hex.{encode_lower}
 

@@ -1,9 +1,10 @@
 //! JSON documents.
 
-ghost use Rattle.std.specs.Prelude.{◌≡◌, OnOk};
+ghost use Rattle.std.specs.Prelude.{◌≡◌, IfErr, OnOk};
 ghost use Rattle.feed_text.specs.Buffers.{text_in};
 ghost use Rattle.changes_writers.specs.FloatTexts.{AppendsSuch};
 ghost use Rattle.changes_statements.specs.PlainDocuments.{plain_form};
+ghost use Rattle.changes_statements.specs.NoStatements.{HasNoJsonText, IsMemoryOr};
 ghost use Rattle.changes_statements.specs.SqlLiterals.{IsDocumentLiteral, has_no_text};
 
 use crate::no_statement::NoStatement;
@@ -104,7 +105,8 @@ pub(crate) fn put_json(
     text: &mut TextBuffer<Global>,
     out: &mut TextBuffer<Global>,
 ) -> Result<(), NoStatement>
-    ensures { OnOk result (AppendsSuch (IsDocumentLiteral bytes.now) (text_in out.old) (text_in out.new)) }
+    ensures text { OnOk result (AppendsSuch (IsDocumentLiteral bytes.now) (text_in out.old) (text_in out.new)) }
+    ensures err { IfErr result (IsMemoryOr (HasNoJsonText bytes.now)) }
 {
     text.clear();
     match text.put_document_in::<PlainForm>(alloc, bytes) {

@@ -1,10 +1,11 @@
 //! Literals of the cells of rows.
 
-ghost use Rattle.std.specs.Prelude.{◌≡◌, OnOk, Some, unsigned_abs};
+ghost use Rattle.std.specs.Prelude.{◌≡◌, IfErr, OnOk, Some, unsigned_abs};
 ghost use Rattle.std.specs.Int.{w32, cast_unsigned};
 ghost use Rattle.rows_values.specs.Unpacked.{packed_text};
 ghost use Rattle.feed_text.specs.Buffers.{text_in};
 ghost use Rattle.changes_writers.specs.FloatTexts.{AppendsSuch};
+ghost use Rattle.changes_statements.specs.NoStatements.{HasNoLiteral, IsMemoryOr, PacksNoDecimal};
 ghost use Rattle.changes_statements.specs.SqlTimes.{IsInstantText};
 ghost use Rattle.changes_statements.specs.SqlLiterals.{IsIntegerLiteral, IsLiteral};
 
@@ -21,7 +22,7 @@ use changes_tables::Shown;
 use feed_text::TextBuffer;
 use rows_cells::CellRef;
 use rows_values::put_decimal_text;
-use std::alloc::Global;
+use std::alloc::{AllocError, Global};
 
 /// The room for a decimal: 255 digits, a minus, a zero and a point.
 const DECIMAL_ROOM: usize = 258;
@@ -52,25 +53,22 @@ impl Scratch {
 
 /// Appends a signed integer; that of a TIMESTAMP is a date and a time.
 #[tactic(auto, unfolding(crate::specs::SqlLiterals::IsIntegerLiteral))]
-fn put_int(column: &SqlColumn, number: i64, out: &mut TextBuffer<Global>) -> Result<(), NoStatement>
+fn put_int(column: &SqlColumn, number: i64, out: &mut TextBuffer<Global>) -> Result<(), AllocError>
     ensures { OnOk result (AppendsSuch (IsIntegerLiteral column.now.shown number) (text_in out.old) (text_in out.new)) }
 {
     if let Shown::Timestamp = column.shown
         && let Ok(seconds) = u32::try_from(number)
     {
-        put_instant(seconds, 0, out)?;
-        return Ok(());
+        return put_instant(seconds, 0, out);
     }
-    put_integer(number, out)?;
-    Ok(())
+    put_integer(number, out)
 }
 
 /// Appends a TIMESTAMP2.
-fn put_timestamp(seconds: i32, micros: i32, out: &mut TextBuffer<Global>) -> Result<(), NoStatement>
+fn put_timestamp(seconds: i32, micros: i32, out: &mut TextBuffer<Global>) -> Result<(), AllocError>
     ensures { OnOk result (AppendsSuch (IsInstantText (cast_unsigned w32 seconds) (unsigned_abs micros)) (text_in out.old) (text_in out.new)) }
 {
-    put_instant(seconds.cast_unsigned(), micros.unsigned_abs(), out)?;
-    Ok(())
+    put_instant(seconds.cast_unsigned(), micros.unsigned_abs(), out)
 }
 
 /// Appends a decimal.
@@ -80,7 +78,8 @@ fn put_decimal(
     bytes: &[u8],
     out: &mut TextBuffer<Global>,
 ) -> Result<(), NoStatement>
-    ensures { OnOk result (AppendsSuch (λ x. packed_text precision scale bytes.now ≡ Some x) (text_in out.old) (text_in out.new)) }
+    ensures text { OnOk result (AppendsSuch (λ x. packed_text precision scale bytes.now ≡ Some x) (text_in out.old) (text_in out.new)) }
+    ensures err { IfErr result (IsMemoryOr (PacksNoDecimal precision scale bytes.now)) }
 {
     let mut short = [0; DECIMAL_ROOM];
     let (precision, scale) = (usize::from(precision), usize::from(scale));
@@ -99,7 +98,7 @@ fn put_decimal(
 /// - `Row`: it is a JSON document or a decimal that can't be read.
 /// - `Float`: it is a float that isn't finite.
 /// - `Memory`: out of memory.
-#[tactic(auto, unfolding(crate::specs::SqlLiterals::IsLiteral))]
+#[tactic(auto, unfolding(crate::specs::NoStatements::HasNoLiteral, crate::specs::SqlLiterals::IsLiteral))]
 pub fn put_literal(
     column: &SqlColumn,
     cell: CellRef<'_>,
@@ -107,11 +106,12 @@ pub fn put_literal(
     scratch: &mut Scratch,
     out: &mut TextBuffer<Global>,
 ) -> Result<(), NoStatement>
-    ensures { OnOk result (AppendsSuch (IsLiteral column.now.shown column.now.padded_len is_exact cell.entry) (text_in out.old) (text_in out.new)) }
+    ensures text { OnOk result (AppendsSuch (IsLiteral column.now.shown column.now.padded_len is_exact cell.entry) (text_in out.old) (text_in out.new)) }
+    ensures err { IfErr result (IsMemoryOr (HasNoLiteral cell.entry)) }
 {
     match cell {
         CellRef::Null => out.put_text(b"NULL")?,
-        CellRef::Int(number) => return put_int(column, number, out),
+        CellRef::Int(number) => put_int(column, number, out)?,
         CellRef::UInt(number) => out.put_number(number)?,
         CellRef::Float(bits) => return put_float(bits, out),
         CellRef::Double(bits) => return put_double(bits, out),
@@ -126,7 +126,7 @@ pub fn put_literal(
             let (day, clock) = old_datetime_parts(digits);
             put_datetime(day, clock, out)?;
         }
-        CellRef::Timestamp(seconds, micros) => return put_timestamp(seconds, micros, out),
+        CellRef::Timestamp(seconds, micros) => put_timestamp(seconds, micros, out)?,
         CellRef::Datetime(packed) => {
             let (day, clock) = datetime_parts(packed);
             put_datetime(day, clock, out)?;

@@ -1,10 +1,11 @@
 //! Numbers.
 
 ghost use Rattle.std.specs.Prelude.{◌≡◌, ◌≤◌, ◌*◌, ◌++◌, OnOk, IfErr, IsTrue, length};
-ghost use Rattle.std.specs.Float.{float_is_finite};
+ghost use Rattle.std.specs.Float.{binary32, binary64, float_is_finite};
 ghost use Rattle.std.specs.Fmt.{signed_decimal};
 ghost use Rattle.feed_text.specs.Buffers.{text_in};
 ghost use Rattle.changes_writers.specs.FloatTexts.{AppendsSuch};
+ghost use Rattle.changes_statements.specs.NoStatements.{IsMemoryOr, IsNotFinite};
 ghost use Rattle.changes_statements.specs.SqlNumbers.{IsNumberText, IsDoubleText, IsFloatText, bits_text, year_text};
 
 use crate::no_statement::NoStatement;
@@ -46,7 +47,8 @@ fn put_number(number: f64, out: &mut TextBuffer<Global>) -> Result<(), AllocErro
 /// - `Float`: it isn't finite.
 /// - `Memory`: out of memory.
 pub(crate) fn put_double(bits: u64, out: &mut TextBuffer<Global>) -> Result<(), NoStatement>
-    ensures { OnOk result (AppendsSuch (IsDoubleText bits) (text_in out.old) (text_in out.new)) }
+    ensures text { OnOk result (AppendsSuch (IsDoubleText bits) (text_in out.old) (text_in out.new)) }
+    ensures err { IfErr result (IsMemoryOr (IsNotFinite binary64 bits)) }
 {
     if bits == MINUS_ZERO {
         out.put_text(b"-0e0")?;
@@ -65,7 +67,8 @@ pub(crate) fn put_double(bits: u64, out: &mut TextBuffer<Global>) -> Result<(), 
 /// - `Float`: it isn't finite.
 /// - `Memory`: out of memory.
 pub(crate) fn put_float(bits: u32, out: &mut TextBuffer<Global>) -> Result<(), NoStatement>
-    ensures { OnOk result (AppendsSuch (IsFloatText bits) (text_in out.old) (text_in out.new)) }
+    ensures text { OnOk result (AppendsSuch (IsFloatText bits) (text_in out.old) (text_in out.new)) }
+    ensures err { IfErr result (IsMemoryOr (IsNotFinite binary32 bits)) }
 {
     if bits == SHORT_MINUS_ZERO {
         out.put_text(b"-0e0")?;

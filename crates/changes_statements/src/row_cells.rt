@@ -1,7 +1,8 @@
 //! The cells of a row by their columns.
 
-ghost use Rattle.std.specs.Prelude.{◌≡◌};
-ghost use Rattle.changes_statements.specs.RowsOfCells.{cell_in, cells_in};
+ghost use Rattle.std.specs.Prelude.{◌≡◌, ℕ, is_some, true, false};
+ghost use Rattle.std.specs.List.{list_all};
+ghost use Rattle.changes_statements.specs.RowsOfCells.{IsFilled, IsMissing, cell_in, cell_or as either_cell, cells_in};
 
 use rows_cells::CellRef;
 use std::alloc::{AllocError, Global};
@@ -10,6 +11,16 @@ use std::alloc::{AllocError, Global};
 #[derive(Drop)]
 pub struct RowCells<'a> {
     cells: Vec<Option<CellRef<'a>>>,
+}
+
+/// A cell, or without one another cell.
+fn cell_or<'a>(cell: Option<CellRef<'a>>, other: Option<CellRef<'a>>) -> Option<CellRef<'a>>
+    ensures { result ≡ either_cell cell.entry other.entry }
+{
+    match cell {
+        Some(_) => cell,
+        None => other,
+    }
 }
 
 impl<'a> RowCells<'a> {
@@ -51,7 +62,9 @@ impl<'a> RowCells<'a> {
     }
 
     /// Whether the image has all of the columns.
-    pub fn is_full(&self) -> bool {
+    pub fn is_full(&self) -> bool
+        ensures { result ≡ list_all is_some (cells_in self.now) }
+    {
         for cell in &self.cells {
             if cell.is_none() {
                 return false;
@@ -61,9 +74,12 @@ impl<'a> RowCells<'a> {
     }
 
     /// Whether the image has each column that another has.
-    pub fn has_all_of(&self, other: &RowCells<'_>) -> bool {
-        for (index, cell) in other.cells.iter().enumerate() {
-            if cell.is_some() && self.get(index).is_none() {
+    pub fn has_all_of(&self, other: &RowCells<'_>) -> bool
+        ensures all { result ≡ true → (column : ℕ) → IsMissing (cells_in self.now) (cells_in other.now) column → ⊥ }
+        ensures missing { result ≡ false → (column : ℕ) × IsMissing (cells_in self.now) (cells_in other.now) column }
+    {
+        for column in 0..other.cells.len() {
+            if other.get(column).is_some() && self.get(column).is_none() {
                 return false;
             }
         }
@@ -71,11 +87,11 @@ impl<'a> RowCells<'a> {
     }
 
     /// Takes the cells that are missing from another image.
-    pub fn fill_from(&mut self, other: &RowCells<'a>) {
-        for (index, cell) in self.cells.iter_mut().enumerate() {
-            if cell.is_none() {
-                *cell = other.get(index);
-            }
+    pub fn fill_from(&mut self, other: &RowCells<'a>)
+        ensures { IsFilled (cells_in self.old) (cells_in other.now) (cells_in self.new) }
+    {
+        for column in 0..self.cells.len() {
+            self.cells[column] = cell_or(self.get(column), other.get(column));
         }
     }
 }

@@ -1,8 +1,10 @@
 //! The statement of a change.
 
-ghost use Rattle.std.specs.Prelude.{◌≡◌, ◌+◌, ◌++◌, List, ℕ, [], IfOk, OnOk, codes, not, if◌then◌else◌};
+ghost use Rattle.std.specs.Prelude.{◌≡◌, ◌+◌, ◌++◌, List, ℕ, [], IfErr, IfOk, OnOk, codes, not, if◌then◌else◌};
 ghost use Rattle.feed_text.specs.Buffers.{text_in};
+ghost use Rattle.changes_undo.specs.declared.row_change.RowChange.TheVariants.{Updated};
 ghost use Rattle.changes_writers.specs.FloatTexts.{AppendsSuch};
+ghost use Rattle.changes_statements.specs.NoStatements.{HasNoComparison, HasNoCondition, HasNoItems, HasNoKey, HasNoLiteral, HasNoneOfAll, HasNoStatement, HasNoValue, IsMemoryOr};
 ghost use Rattle.changes_statements.specs.RowsOfCells.{cells_in};
 ghost use Rattle.changes_statements.specs.SqlStatements.{cells_of, compared, HasComparisons, HasItems, IsComparison, IsComparisonOfAll, IsComparisonOfKey, IsCondition, IsDelete, IsInsert, IsItem, IsItemList, IsStatement, IsUpdate, may_be_text};
 
@@ -14,7 +16,7 @@ use changes_tables::Shown;
 use changes_undo::RowChange;
 use feed_text::TextBuffer;
 use rows_cells::CellRef;
-use std::alloc::Global;
+use std::alloc::{AllocError, Global};
 
 /// What a list has of each column.
 #[derive(Clone, Copy)]
@@ -30,14 +32,13 @@ fn put_between(
     is_first: bool,
     separator: &[u8],
     out: &mut TextBuffer<Global>,
-) -> Result<(), NoStatement>
+) -> Result<(), AllocError>
     ensures { OnOk result (text_in out.new ≡ text_in out.old ++ (if is_first then [] else separator.now)) }
 {
     if is_first {
         return Ok(());
     }
-    out.put_text(separator)?;
-    Ok(())
+    out.put_text(separator)
 }
 
 /// Appends what a list has of a column and its cell.
@@ -49,7 +50,8 @@ fn put_item(
     scratch: &mut Scratch,
     out: &mut TextBuffer<Global>,
 ) -> Result<(), NoStatement>
-    ensures { OnOk result (AppendsSuch (IsItem item column.now cell.entry) (text_in out.old) (text_in out.new)) }
+    ensures text { OnOk result (AppendsSuch (IsItem item column.now cell.entry) (text_in out.old) (text_in out.new)) }
+    ensures err { IfErr result (IsMemoryOr (HasNoLiteral cell.entry)) }
 {
     match item {
         Item::Name => {
@@ -76,8 +78,9 @@ fn put_next_item(
     scratch: &mut Scratch,
     out: &mut TextBuffer<Global>,
 ) -> Result<bool, NoStatement>
-    ensures { IfOk result (λ first. (start : List ℕ) → HasItems item table.now.columns.items (cells_in cells.now) index is_first start (text_in out.old)
+    ensures text { IfOk result (λ first. (start : List ℕ) → HasItems item table.now.columns.items (cells_in cells.now) index is_first start (text_in out.old)
         → HasItems item table.now.columns.items (cells_in cells.now) (index + 1) first start (text_in out.new)) }
+    ensures err { IfErr result (IsMemoryOr (HasNoValue table.now.columns.items (cells_in cells.now) index)) }
 {
     let Some(column) = table.columns.get(index) else {
         return Ok(is_first);
@@ -98,7 +101,8 @@ fn put_items(
     scratch: &mut Scratch,
     out: &mut TextBuffer<Global>,
 ) -> Result<(), NoStatement>
-    ensures { OnOk result (AppendsSuch (IsItemList item table.now.columns.items (cells_in cells.now)) (text_in out.old) (text_in out.new)) }
+    ensures text { OnOk result (AppendsSuch (IsItemList item table.now.columns.items (cells_in cells.now)) (text_in out.old) (text_in out.new)) }
+    ensures err { IfErr result (IsMemoryOr (HasNoItems table.now.columns.items (cells_in cells.now))) }
 {
     let mut is_first = true;
     for index in 0..table.columns.len() {
@@ -124,23 +128,20 @@ fn put_compared(
     column: &SqlColumn,
     is_key: bool,
     out: &mut TextBuffer<Global>,
-) -> Result<(), NoStatement>
+) -> Result<(), AllocError>
     ensures { OnOk result (text_in out.new ≡ text_in out.old ++ compared is_key column.now) }
 {
     if is_key {
         out.put_text(&column.quoted)?;
-        out.put(b'=')?;
-        return Ok(());
+        return out.put(b'=');
     }
     if may_be_text(column.shown) {
         out.put_text(b"CAST(")?;
         out.put_text(&column.quoted)?;
-        out.put_text(b" AS BINARY)<=>")?;
-        return Ok(());
+        return out.put_text(b" AS BINARY)<=>");
     }
     out.put_text(&column.quoted)?;
-    out.put_text(b"<=>")?;
-    Ok(())
+    out.put_text(b"<=>")
 }
 
 /// Appends the comparison of a column with its cell.
@@ -154,7 +155,8 @@ fn put_comparison(
     scratch: &mut Scratch,
     out: &mut TextBuffer<Global>,
 ) -> Result<(), NoStatement>
-    ensures { OnOk result (AppendsSuch (IsComparison is_key table.now.columns.items (cells_in cells.now) index) (text_in out.old) (text_in out.new)) }
+    ensures text { OnOk result (AppendsSuch (IsComparison is_key table.now.columns.items (cells_in cells.now) index) (text_in out.old) (text_in out.new)) }
+    ensures err { IfErr result (IsMemoryOr (HasNoComparison table.now.columns.items (cells_in cells.now) index)) }
 {
     let Some(column) = table.columns.get(index) else {
         return Err(NoStatement::Columns);
@@ -174,7 +176,8 @@ fn put_key(
     scratch: &mut Scratch,
     out: &mut TextBuffer<Global>,
 ) -> Result<(), NoStatement>
-    ensures { OnOk result (AppendsSuch (IsComparisonOfKey table.now (cells_in cells.now)) (text_in out.old) (text_in out.new)) }
+    ensures text { OnOk result (AppendsSuch (IsComparisonOfKey table.now (cells_in cells.now)) (text_in out.old) (text_in out.new)) }
+    ensures err { IfErr result (IsMemoryOr (HasNoKey table.now (cells_in cells.now))) }
 {
     for place in 0..table.key.len() {
         put_between(place == 0, b" AND ", out)?;
@@ -190,7 +193,8 @@ fn put_all_columns(
     scratch: &mut Scratch,
     out: &mut TextBuffer<Global>,
 ) -> Result<(), NoStatement>
-    ensures { OnOk result (AppendsSuch (IsComparisonOfAll table.now (cells_in cells.now)) (text_in out.old) (text_in out.new)) }
+    ensures text { OnOk result (AppendsSuch (IsComparisonOfAll table.now (cells_in cells.now)) (text_in out.old) (text_in out.new)) }
+    ensures err { IfErr result (IsMemoryOr (HasNoneOfAll table.now (cells_in cells.now))) }
 {
     for index in 0..table.columns.len() {
         put_between(index == 0, b" AND ", out)?;
@@ -206,7 +210,8 @@ fn put_condition(
     scratch: &mut Scratch,
     out: &mut TextBuffer<Global>,
 ) -> Result<(), NoStatement>
-    ensures { OnOk result (AppendsSuch (IsCondition table.now (cells_in cells.now)) (text_in out.old) (text_in out.new)) }
+    ensures text { OnOk result (AppendsSuch (IsCondition table.now (cells_in cells.now)) (text_in out.old) (text_in out.new)) }
+    ensures err { IfErr result (IsMemoryOr (HasNoCondition table.now (cells_in cells.now))) }
 {
     out.put_text(b" WHERE ")?;
     if !table.key.is_empty() {
@@ -225,7 +230,8 @@ fn put_insert(
     scratch: &mut Scratch,
     out: &mut TextBuffer<Global>,
 ) -> Result<(), NoStatement>
-    ensures { OnOk result (AppendsSuch (IsInsert table.now (cells_in cells.now)) (text_in out.old) (text_in out.new)) }
+    ensures text { OnOk result (AppendsSuch (IsInsert table.now (cells_in cells.now)) (text_in out.old) (text_in out.new)) }
+    ensures err { IfErr result (IsMemoryOr (HasNoItems table.now.columns.items (cells_in cells.now))) }
 {
     out.put_text(b"INSERT INTO ")?;
     out.put_text(&table.name)?;
@@ -244,7 +250,8 @@ fn put_delete(
     scratch: &mut Scratch,
     out: &mut TextBuffer<Global>,
 ) -> Result<(), NoStatement>
-    ensures { OnOk result (AppendsSuch (IsDelete table.now (cells_in cells.now)) (text_in out.old) (text_in out.new)) }
+    ensures text { OnOk result (AppendsSuch (IsDelete table.now (cells_in cells.now)) (text_in out.old) (text_in out.new)) }
+    ensures err { IfErr result (IsMemoryOr (HasNoCondition table.now (cells_in cells.now))) }
 {
     out.put_text(b"DELETE FROM ")?;
     out.put_text(&table.name)?;
@@ -261,7 +268,8 @@ fn put_update(
     scratch: &mut Scratch,
     out: &mut TextBuffer<Global>,
 ) -> Result<(), NoStatement>
-    ensures { OnOk result (AppendsSuch (IsUpdate table.now (cells_in before.now) (cells_in after.now)) (text_in out.old) (text_in out.new)) }
+    ensures text { OnOk result (AppendsSuch (IsUpdate table.now (cells_in before.now) (cells_in after.now)) (text_in out.old) (text_in out.new)) }
+    ensures err { IfErr result (IsMemoryOr (HasNoStatement table.now (Updated (cells_in before.now) (cells_in after.now)))) }
 {
     out.put_text(b"UPDATE ")?;
     out.put_text(&table.name)?;
@@ -283,7 +291,8 @@ pub fn put_statement(
     scratch: &mut Scratch,
     out: &mut TextBuffer<Global>,
 ) -> Result<(), NoStatement>
-    ensures { OnOk result (AppendsSuch (IsStatement table.now (cells_of change.entry)) (text_in out.old) (text_in out.new)) }
+    ensures text { OnOk result (AppendsSuch (IsStatement table.now (cells_of change.entry)) (text_in out.old) (text_in out.new)) }
+    ensures err { IfErr result (IsMemoryOr (HasNoStatement table.now (cells_of change.entry))) }
 {
     match change {
         RowChange::Inserted(cells) => put_insert(table, cells, scratch, out),

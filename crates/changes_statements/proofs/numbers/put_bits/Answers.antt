@@ -1,4 +1,4 @@
-use Rattle.std.proofs.Common.{◌≡◌, ◌++◌, ◌∷◌, [], ◌-◌, ℕ, List, map, ap, sym, ◌∙◌, append_assoc, arith, rules}
+use Rattle.std.proofs.Common.{◌++◌, ◌∷◌, [], ◌-◌, ℕ, List, map, ap, sym, ◌∙◌, append_assoc, arith}
 use Rattle.std.specs.List.{range_with_len}
 use Rattle.std.proofs.lemmas.List.FromFn.{map-range_with_len_more}
 use Rattle.feed_text.specs.Buffers.{text_in}

@@ -1,6 +1,5 @@
 use Rattle.std.proofs.Common.{◌≡◌, ◌++◌, ◌-◌, map}
 use Rattle.std.specs.List.{range_with_len}
-use Rattle.std.specs.Prelude.{codes}
 use Rattle.feed_text.specs.Buffers.{text_in}
 use Rattle.changes_statements.specs.SqlNumbers.{bit_digit}
 use Rattle.changes_statements.proofs.numbers.put_bits.Given as goal

@@ -10,9 +10,9 @@ loop-index-init c = no_comparisons _ _ _ _
 pub loop-index-preserved : goal.loop-index-preserved
 loop-index-preserved c =
     let index = c.loop-index.index in
-    one_comparison _ _ _ (range_with_len 0 index) _ index index _ _ _ _ (length-range_with_len 0 index) (range_push index) c.in_ok-put_between.ensures c.in_ok-put_comparison.ensures c.loop-index.invariant
+    one_comparison _ _ _ (range_with_len 0 index) _ index index _ _ _ _ (length-range_with_len 0 index) (range_push index) c.in_ok-put_between.ensures c.in_ok-put_comparison.ensures.text c.loop-index.invariant
 
-pub returns : goal.returns
-returns c =
+pub returns-clause-text : goal.returns-clause-text
+returns-clause-text c =
     let whole : c.loop-index.index ≡ length c.args.table.now.columns.items = search (arith, rules) in
     all_columns _ _ _ _ _ _ _ (ap (range_with_len 0) whole) c.loop-index.invariant

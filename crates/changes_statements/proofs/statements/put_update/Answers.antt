@@ -4,5 +4,5 @@ use Rattle.changes_statements.specs.RowsOfCells.{cells_in}
 use Rattle.changes_statements.proofs.StatementLemmas.{updated}
 use Rattle.changes_statements.proofs.statements.put_update.Goals as goal
 
-pub returns : goal.returns
-returns c = updated c.args.table.now (cells_in c.args.before.now) (cells_in c.args.after.now) _ _ _ _ _ _ _ c.in_ok-put_text.ensures.ok (c.in_ok-put_text-2.ensures.ok ∙ ap (λ (l : List ℕ). text_in c.put_text.new.self ++ l) c.deref.ensures.value) c.in_ok-put_text-3.ensures.ok c.in_ok-put_items.ensures c.in_ok-put_condition.ensures c.in_ok-put_text-4.ensures.ok
+pub returns-clause-text : goal.returns-clause-text
+returns-clause-text c = updated c.args.table.now (cells_in c.args.before.now) (cells_in c.args.after.now) _ _ _ _ _ _ _ c.in_ok-put_text.ensures.ok (c.in_ok-put_text-2.ensures.ok ∙ ap (λ (l : List ℕ). text_in c.put_text.new.self ++ l) c.deref.ensures.value) c.in_ok-put_text-3.ensures.ok c.in_ok-put_items.ensures.text c.in_ok-put_condition.ensures.text c.in_ok-put_text-4.ensures.ok
