@@ -166,11 +166,18 @@ class Capture:
         return place
 
     def rewound(self, server, place):
-        """The place to ask from. After follow stopped that is the beginning of the log, then that of the log before: an XA
-        transaction that is committed here may have been prepared there. Lines up to the end of what is kept are then skipped.
+        """The place to ask from. While an XA transaction is prepared the lines say it; otherwise it is the beginning of the log
+        after follow stopped, then that of the log before: an XA transaction that is committed here may have been prepared there.
+        Lines up to the end of what is kept are then skipped.
         """
         kept, self.skipped = self.sink.kept, None
-        if not self.stops or not kept.file or self.gtids is not None:
+        if not kept.file or self.gtids is not None:
+            return place
+        earlier = self.sink.earlier()
+        if earlier and not self.stops:
+            self.skipped = kept
+            return earlier
+        if not self.stops:
             return place
         logs = server.logs()
         at = logs.index(kept.file) + 1 - self.stops if kept.file in logs else -1

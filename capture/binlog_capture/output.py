@@ -99,6 +99,21 @@ class Output:
             return self.state.place()
         return self.kept
 
+    def earlier(self):
+        """Where reading has to begin again, if the last line says that this is before the end of its transaction; else None."""
+        line = self.last_line()
+        file, _, position = json.loads(line).get("resume", "").rpartition(":") if line else ("", "", "")
+        return Place(file, int(position), None) if file else None
+
+    def last_line(self):
+        """The last line that is kept; no bytes if there is none."""
+        start, line = self.length, b""
+        while start > 0 and b"\n" not in line[:-1]:
+            before = max(0, start - CHUNK)
+            line = os.pread(self.number, start - before, before) + line
+            start = before
+        return line[line.rfind(b"\n", 0, -1) + 1 :]
+
     def find_end(self):
         """What `binlog-kept` finds: the length to keep, the log and the position. It gets the end of the file first, from the
         beginning of a line on, and more of it if that has no whole transaction.
@@ -228,6 +243,9 @@ class Receiver:
             self.place = self.place_in(line) or self.place
         if self.on_end:
             self.on_end()
+
+    def earlier(self):
+        """What a command has doesn't say where reading would have to begin again."""
 
     def lines_after_state(self):
         return ()

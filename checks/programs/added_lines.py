@@ -68,7 +68,8 @@ class Written(logs.GENERATE.Log):
             self.event(*first)
         if milliseconds is not None:
             self.open["ts_ms"] = milliseconds
-        self.open["thread_id"] = thread
+        if thread:
+            self.open["thread_id"] = thread
         self.query(b"shop", begin)
 
     def said(self, text, length=None):
@@ -118,7 +119,7 @@ def written(algorithm, firsts):
     """A log of transactions with these events of their GTIDs."""
     log = Written(algorithm)
     for number, (first, milliseconds) in enumerate(firsts):
-        log.started(first, milliseconds, 7 + number)
+        log.started(first, milliseconds, number)
         log.rows("a", [1, 2, 3])
         log.said(f'INSERT INTO b VALUES ("ä\\", {number})')
         log.rows("b", [4])

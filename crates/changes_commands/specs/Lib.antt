@@ -1,6 +1,7 @@
 pub mod EventLines
 pub mod EventWalks
 pub mod GrowingTexts
+pub mod LogNames
 pub mod LogReaders
 pub mod MemberNames
 pub mod RefusedOptions

@@ -20,6 +20,7 @@ mod refused;
 mod rotation;
 mod schema_options;
 mod shown;
+mod split;
 mod sql_options;
 mod table_names;
 mod text;

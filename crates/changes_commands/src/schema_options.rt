@@ -1,12 +1,12 @@
 //! The files of the option `--schema`, and where each begins.
 
 ghost use Rattle.std.specs.Prelude.{◌≡◌, ◌<◌, ◌&&◌, IfErr, OnOk, map, option_map};
-ghost use Rattle.std.specs.Path.{rsplit_once};
 ghost use Rattle.changes_commands.specs.SchemaOptions.{beginning_view, file_view, is_placed, texts, time_in, AddsFiles, IsBeginning, IsFileOf, IsPlace, IsPosition, IsWhyUnusable};
 
 use crate::command_line::Task;
 use crate::known_commands::SCHEMA;
 use crate::refused::Unusable;
+use crate::split::split_last;
 use crate::time_zone::Zone;
 use clap::ArgMatches;
 
@@ -26,14 +26,6 @@ pub enum SchemaBeginning<'w> {
 pub struct SchemaFile<'w> {
     pub path: &'w str,
     pub beginning: SchemaBeginning<'w>,
-}
-
-/// Splits a text at the last of these characters.
-fn split_last(text: &str, at: char) -> Option<(&str, &str)>
-    requires { at < 128 }
-    ensures { option_map (λ parts. (parts.0.now, parts.1.now)) result ≡ rsplit_once at text.now }
-{
-    text.rsplit_once(at)
 }
 
 /// The position that a text is in decimal.

@@ -24,7 +24,7 @@ use Rattle.changes_tables.specs.ShownTables.{names_member}
 use Rattle.changes_lines.specs.ChangeLines.{change_word, rows_front, rows_back}
 use Rattle.changes_lines.specs.Origins.{header_members, origin_members}
 use Rattle.changes_lines.specs.RowJson.{AreRowsJson}
-use Rattle.changes_lines.specs.FactMembers.{OfNumber, OfText, TransactionFacts, TransactionXid, number_member, transaction_members, xid_member, query_member, row_member, row_member_if, numbered, numbered_if}
+use Rattle.changes_lines.specs.FactMembers.{LogPlace, OfNumber, OfText, TransactionFacts, TransactionXid, number_member, place_text, resume_member, transaction_members, xid_member, query_member, row_member, row_member_if, numbered, numbered_if}
 use Rattle.changes_origins.specs.declared.added_members.AddedMembers.{AddedMembers}
 use Rattle.changes_laws.specs.JsonNames.{AreDistinct}
 use Rattle.changes_laws.specs.JsonLines.{IsLoggedHeader, IsLoggedNumber, IsLoggedXid, AreLoggedFacts}
@@ -44,7 +44,7 @@ abbrev pub front_names : List (List ℕ)
 front_names = codes "database" ∷ codes "table" ∷ codes "ts" ∷ codes "server_id" ∷ []
 
 abbrev pub origin_names : List (List ℕ)
-origin_names = codes "gtid" ∷ codes "file" ∷ codes "position" ∷ codes "begin" ∷ codes "ts_ms" ∷ codes "xid" ∷ codes "thread_id" ∷ []
+origin_names = codes "gtid" ∷ codes "file" ∷ codes "position" ∷ codes "resume" ∷ codes "begin" ∷ codes "ts_ms" ∷ codes "xid" ∷ codes "thread_id" ∷ []
 
 abbrev pub row_names : List (List ℕ)
 row_names = codes "data" ∷ codes "old" ∷ codes "sql" ∷ codes "row" ∷ []
@@ -79,15 +79,22 @@ xid_named P true (Some (OfText text)) h = last_named P (codes "xid") (utf8_json 
 xid_named P true None h = none_named P (codes "xid" ∷ [])
 xid_named P false o h = none_named P (codes "xid" ∷ [])
 
-pub transaction_named : (P : Type 0) (a : AddedMembers) (f : TransactionFacts) → AreLoggedFacts a f → HasNamed P (codes "begin" ∷ codes "ts_ms" ∷ codes "xid" ∷ codes "thread_id" ∷ []) (transaction_members a f)
+resume_named : (P : Type 0) (o : Option LogPlace) → HasNamed P (codes "resume" ∷ []) (resume_member o)
+unfolding json_string
+resume_named P (Some p) = last_named P (codes "resume") (utf8_json (place_text p)) tt (utf8_or_object P (place_text p))
+resume_named P None = none_named P (codes "resume" ∷ [])
+
+pub transaction_named : (P : Type 0) (a : AddedMembers) (f : TransactionFacts) → AreLoggedFacts a f → HasNamed P (codes "resume" ∷ codes "begin" ∷ codes "ts_ms" ∷ codes "xid" ∷ codes "thread_id" ∷ []) (transaction_members a f)
 unfolding json_string
 transaction_named P a f l =
+    let resume = resume_named P f.resume in
     let begin = number_named P a.begin (codes "begin") (Some f.begin) tt l.0 in
     let ts_ms = number_named P a.ts_ms (codes "ts_ms") f.ts_ms tt l.1 in
     let xid = xid_named P a.xid f.xid l.2 in
     let thread_id = number_named P a.thread_id (codes "thread_id") f.thread_id tt l.3 in
-    both_named P (codes "begin" ∷ []) (codes "ts_ms" ∷ codes "xid" ∷ codes "thread_id" ∷ []) _ _ begin
-    (both_named P (codes "ts_ms" ∷ []) (codes "xid" ∷ codes "thread_id" ∷ []) _ _ ts_ms (both_named P (codes "xid" ∷ []) (codes "thread_id" ∷ []) _ _ xid thread_id))
+    both_named P (codes "resume" ∷ []) (codes "begin" ∷ codes "ts_ms" ∷ codes "xid" ∷ codes "thread_id" ∷ []) _ _ resume
+    (both_named P (codes "begin" ∷ []) (codes "ts_ms" ∷ codes "xid" ∷ codes "thread_id" ∷ []) _ _ begin
+    (both_named P (codes "ts_ms" ∷ []) (codes "xid" ∷ codes "thread_id" ∷ []) _ _ ts_ms (both_named P (codes "xid" ∷ []) (codes "thread_id" ∷ []) _ _ xid thread_id)))
 
 query_named : (P : Type 0) (asked : Bool) (o : Option (List ℕ)) → HasNamed P (codes "query" ∷ []) (query_member asked o)
 unfolding json_string

@@ -254,7 +254,7 @@ lines_law options added by_transaction file gtid t facts changes xs g l c n f e 
     origin = origin_members gtid file t.commit.log_pos ++ transaction_members added facts
 
     named : HasNamed (Unit {0}) origin_names origin
-    named = both_named (Unit {0}) (codes "gtid" ∷ codes "file" ∷ codes "position" ∷ []) (codes "begin" ∷ codes "ts_ms" ∷ codes "xid" ∷ codes "thread_id" ∷ []) (origin_members gtid file t.commit.log_pos) (transaction_members added facts)
+    named = both_named (Unit {0}) (codes "gtid" ∷ codes "file" ∷ codes "position" ∷ []) (codes "resume" ∷ codes "begin" ∷ codes "ts_ms" ∷ codes "xid" ∷ codes "thread_id" ∷ []) (origin_members gtid file t.commit.log_pos) (transaction_members added facts)
         (origin_named (Unit {0}) gtid file t.commit.log_pos g l.2) (transaction_named (Unit {0}) added facts f)
 
     all : (members : List ℕ) → HasNamed (Unit {0}) origin_names members → ∥ EachHolds (IsOpenLine (Unit {0})) (objects members xs) ∥₁

@@ -8,7 +8,7 @@ use Rattle.feed_transactions.specs.Changes.{Content, OfRows, OfStatement, EventC
 use Rattle.changes_origins.specs.TaggedGtids.{TaggedGtid}
 use Rattle.changes_lines.specs.RowJson.{CellJson}
 use Rattle.changes_lines.specs.ChangeLines.{rows_of_all}
-use Rattle.changes_lines.specs.FactMembers.{OfNumber, OfText, TransactionFacts, TransactionXid}
+use Rattle.changes_lines.specs.FactMembers.{LogPlace, OfNumber, OfText, TransactionFacts, TransactionXid, place_text}
 use Rattle.changes_origins.specs.declared.added_members.AddedMembers.{AddedMembers}
 use Rattle.changes_laws.specs.JsonGrammar.{Json, Members, object, IsValue, IsJsonText}
 use Rattle.changes_laws.specs.JsonNames.{HasDistinctNames}
@@ -60,6 +60,15 @@ IsLoggedXid false xid = ⊤
 -- those of a transaction: where it begins, when it was committed, its XID and its thread
 abbrev pub AreLoggedFacts : AddedMembers → TransactionFacts → Type 0
 AreLoggedFacts a f = IsLoggedNumber a.begin (Some f.begin) × IsLoggedNumber a.ts_ms f.ts_ms × IsLoggedXid a.xid f.xid × IsLoggedNumber a.thread_id f.thread_id
+
+-- a place where reading can begin again, if there is one: the bytes of a text
+abbrev pub IsLoggedPlace : Option LogPlace → Type 0
+IsLoggedPlace (Some p) = AreBytes (place_text p)
+IsLoggedPlace None = ⊤
+
+-- the same of a transaction, and such a place
+abbrev pub AreLoggedFactsFrom : AddedMembers → TransactionFacts → Type 0
+AreLoggedFactsFrom a f = AreLoggedFacts a f × IsLoggedPlace f.resume
 
 -- how many rows and statements there are among changes, if their numbers are asked for
 abbrev pub AreLoggedRows : AddedMembers → List EventChange → Type 0

@@ -1,5 +1,5 @@
 -- Which values of a column have the same JSON, and what a line shows of a change.
-use Rattle.std.specs.Prelude.{◌≡◌, ◌⊎◌, ◌<◌, ◌==◌, ◌||◌, ⊤, All, Bool, true, false, IsTrue, Option, Some, None, ℕ, List, [], ◌∷◌, length, map, from_bits}
+use Rattle.std.specs.Prelude.{◌≡◌, ◌⊎◌, ◌<◌, ◌==◌, ◌||◌, ⊤, All, Bool, true, false, IsTrue, Option, Some, None, ℕ, List, [], ◌∷◌, length, map, from_bits, option_map}
 use Rattle.std.specs.Float.{binary32, binary64}
 use Rattle.byteorder.specs.Endian.{big_number}
 use Rattle.wire_buf.specs.Encoding.{AreBytes}
@@ -14,7 +14,7 @@ use Rattle.rows_event_body.specs.declared.rows_event_type.RowImages.{RowImages}
 use Rattle.feed_transactions.specs.MappedRows.{change_by}
 use Rattle.changes_character_sets.specs.Texts.{IsTextOf}
 use Rattle.changes_character_sets.specs.declared.character_set.CharacterSet.{CharacterSet}
-use Rattle.changes_lines.specs.FactMembers.{TransactionFacts}
+use Rattle.changes_lines.specs.FactMembers.{TransactionFacts, place_text}
 use Rattle.changes_lines.specs.RowJson.{CellJson, column_at}
 use Rattle.changes_origins.specs.declared.added_members.AddedMembers.{AddedMembers}
 use Rattle.changes_tables.specs.ShownColumns.{ColumnView}
@@ -46,6 +46,7 @@ pub record ShowsFacts (a : AddedMembers) (f g : TransactionFacts) : Type 0 where
   pub ts_ms : a.ts_ms ≡ true → f.ts_ms ≡ g.ts_ms
   pub xid : a.xid ≡ true → f.xid ≡ g.xid
   pub thread_id : a.thread_id ≡ true → f.thread_id ≡ g.thread_id
+  pub resume : option_map place_text f.resume ≡ option_map place_text g.resume
 
 -- what the line of a transaction shows before its changes: the time and the server, the GTID, the file and the position
 pub record ShowsHead (h k : Header) (gtid other file name : List ℕ) (position place : ℕ) : Type 0 where

@@ -33,7 +33,7 @@ ghost use Rattle.changes_origins.specs.TaggedGtids.{IsTaggedGtid, TaggedGtid};
 ghost use Rattle.changes_lines.specs.RowJson.{AreCellsJson, CellJson, IsRowJson, IsUpdate, object_json};
 ghost use Rattle.changes_laws.specs.JsonGrammar.{IsAfterValue, IsChar, IsJsonText, IsNumber, IsString, IsValue, Json, array, boolean, element, member, no_elements, no_members, null, number, object};
 ghost use Rattle.changes_laws.specs.JsonNames.{HasDistinctNames};
-ghost use Rattle.changes_laws.specs.JsonLines.{AreLoggedFacts, AreLoggedRows, AreObjectLines, IsCellShown, IsJsonValue, IsLoggedChange, IsLoggedGtid, IsLoggedHeader, IsTagRead};
+ghost use Rattle.changes_laws.specs.JsonLines.{AreLoggedFacts, AreLoggedFactsFrom, AreLoggedRows, AreObjectLines, IsCellShown, IsJsonValue, IsLoggedChange, IsLoggedGtid, IsLoggedHeader, IsTagRead};
 ghost use Rattle.changes_laws.specs.SameDocuments.{HasFiniteDoubles, IsSameTree};
 ghost use Rattle.changes_laws.specs.SameCells.{AreAscending, AreMembers, AreQueryBytes, IsAmong, IsChanged, IsFormatOf, IsSameCell, IsSameValue, IsToldColumn, IsUnset, ShowsFacts, ShowsHead, ShowsOrigin, columns_of, image_columns};
 
@@ -92,11 +92,11 @@ pub fn statements_show_their_parts()
 /// changed the rows.
 pub fn lines_show_their_members()
     ensures rows { (added : AddedMembers) (a b : RowImages) (m : TableMap) (h k : Header) (gtid other file name : List ℕ) (position place : ℕ) (facts more : TransactionFacts) (query text : Option (List ℕ)) (s t : List ℕ) → IsLoggedHeader h → IsLoggedHeader k → IsJsonValue gtid → IsJsonValue other
-        → AreBytes file → AreBytes name → position < 2 ^ 64 → place < 2 ^ 64 → AreLoggedFacts added facts → AreLoggedFacts added more → AreQueryBytes query → AreQueryBytes text
+        → AreBytes file → AreBytes name → position < 2 ^ 64 → place < 2 ^ 64 → AreLoggedFactsFrom added facts → AreLoggedFactsFrom added more → AreQueryBytes query → AreQueryBytes text
         → rows_front a m h ++ ((origin_members gtid file position ++ transaction_members added facts) ++ (rows_back (key_of m) (query_member added.query query) ++ s)) ≡ rows_front b m k ++ ((origin_members other name place ++ transaction_members added more) ++ (rows_back (key_of m) (query_member added.query text) ++ t))
         → ShowsOrigin a b h k gtid other file name position place × ShowsFacts added facts more × (added.query ≡ true → query ≡ text) × (s ≡ t) }
     ensures statements { (added : AddedMembers) (schema other query text : List ℕ) (h k : Header) (gtid next file name : List ℕ) (position place : ℕ) (facts more : TransactionFacts) (s t : List ℕ) → IsLoggedHeader h → IsLoggedHeader k → IsJsonValue gtid → IsJsonValue next
-        → AreBytes schema → AreBytes other → AreBytes query → AreBytes text → AreBytes file → AreBytes name → position < 2 ^ 64 → place < 2 ^ 64 → AreLoggedFacts added facts → AreLoggedFacts added more
+        → AreBytes schema → AreBytes other → AreBytes query → AreBytes text → AreBytes file → AreBytes name → position < 2 ^ 64 → place < 2 ^ 64 → AreLoggedFactsFrom added facts → AreLoggedFactsFrom added more
         → (codes "{\"type\":\"statement\",\"database\":" ++ (utf8_json schema ++ header_members h)) ++ ((origin_members gtid file position ++ transaction_members added facts) ++ (codes ",\"sql\":" ++ (utf8_json query ++ s)))
         ≡ (codes "{\"type\":\"statement\",\"database\":" ++ (utf8_json other ++ header_members k)) ++ ((origin_members next name place ++ transaction_members added more) ++ (codes ",\"sql\":" ++ (utf8_json text ++ t)))
         → (schema ≡ other) × ShowsHead h k gtid next file name position place × ShowsFacts added facts more × (query ≡ text) × (s ≡ t) }
@@ -106,7 +106,7 @@ pub fn lines_show_their_members()
 /// on request; and then what follows `"changes":[`.
 pub fn transactions_show_their_origin()
     ensures { (added : AddedMembers) (h k : Header) (gtid other file name : List ℕ) (position place : ℕ) (facts more : TransactionFacts) (s t : List ℕ) → IsLoggedHeader h → IsLoggedHeader k → IsJsonValue gtid → IsJsonValue other → AreBytes file → AreBytes name → position < 2 ^ 64 → place < 2 ^ 64
-        → AreLoggedFacts added facts → AreLoggedFacts added more
+        → AreLoggedFactsFrom added facts → AreLoggedFactsFrom added more
         → 123 ∷ (drop 1 (header_members h ++ (origin_members gtid file position ++ transaction_members added facts)) ++ (codes ",\"changes\":[" ++ s)) ≡ 123 ∷ (drop 1 (header_members k ++ (origin_members other name place ++ transaction_members added more)) ++ (codes ",\"changes\":[" ++ t))
         → ShowsHead h k gtid other file name position place × ShowsFacts added facts more × (s ≡ t) }
 {}

@@ -3,7 +3,9 @@ use Rattle.std.proofs.Common.{◌≡◌, ◌+◌, ℕ, suc, List, [], ◌∷◌,
 use Rattle.std.proofs.lemmas.List.{append-nil, length-append}
 use Rattle.std.proofs.lemmas.Grind.{flat_map-append}
 use Rattle.feed_text.specs.Buffers.{text_in}
-use Rattle.changes_lines.specs.TextLists.{joined, ends_from, HasTexts}
+use Rattle.std.specs.Borrow.{Bor}
+use Rattle.changes_lines.specs.TextLists.{joined, ends_from, AreLeft, HasTexts}
+use Rattle.changes_lines.specs.declared.text_list.Texts.{Texts}
 use Rattle.changes_lines.specs.declared.text_list.TextList.{TextList}
 
 pub joined_one : (ts : List (List ℕ)) (t : List ℕ) → joined (ts ++ t ∷ []) ≡ joined ts ++ t
@@ -32,3 +34,17 @@ more_open old new texts last more appended same h = record {
   bytes = appended ∙ ap (λ (l : List ℕ). l ++ more) h.bytes ∙ append_assoc (joined texts) last more;
   ends = ap (λ v. v.items) same ∙ h.ends;
 }
+
+tail_of : (a b : ℕ) (x y : List ℕ) → a ∷ x ≡ b ∷ y → x ≡ y
+tail_of a b x y same = cc
+
+-- the first two of the texts that are left as one, if the first end is dropped
+pub two_left : (left : Texts) (end : ℕ) (ends : Bor (List ℕ)) (first second : List ℕ) (more : List (List ℕ)) → AreLeft left (first ∷ second ∷ more) → left.ends.now ≡ end ∷ ends.now → AreLeft (record left { ends = ends }) ((first ++ second) ∷ more)
+two_left left end ends first second more are split =
+    let from = left.start + length first + length second in
+    let long : left.start + length (first ++ second) ≡ from = (let both = length-append first second in omega (arith, both)) in
+    let same : end ∷ ends.now ≡ (left.start + length first) ∷ from ∷ ends_from from more = sym split ∙ are.ends in
+    record {
+      bytes = are.bytes ∙ sym (append_assoc first second (joined more));
+      ends = tail_of _ _ _ _ same ∙ ap (λ (n : ℕ). n ∷ ends_from n more) (sym long);
+    }

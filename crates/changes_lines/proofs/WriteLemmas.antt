@@ -1,20 +1,26 @@
 -- Lines that are written piece by piece.
-use Rattle.std.proofs.Common.{◌≡◌, ◌<◌, ◌≤◌, ◌+◌, ℕ, Bool, true, false, List, [], ◌∷◌, ◌++◌, length, map, Option, Result, Ok, Err, refl, sym, ap, subst, ◌∙◌, append_assoc, arith}
-use Rattle.std.specs.Prelude.{⊤, IfErr, OnOk, IsErr, IsErrAnd, if◌then◌else◌}
+use Rattle.std.proofs.Common.{◌≡◌, ◌<◌, ◌≤◌, ◌+◌, ℕ, Bool, true, false, List, [], ◌∷◌, ◌++◌, length, map, Option, Result, Ok, Err, ◌-◌, refl, sym, ap, ap₂, subst, ◌∙◌, append_assoc, arith}
+use Rattle.std.specs.Prelude.{codes, ⊤, IfErr, OnOk, IsErr, IsErrAnd, if◌then◌else◌}
 use Rattle.std.specs.List.{flat_map}
-use Rattle.std.proofs.KnownBytes.{Appends-trans}
+use Rattle.std.proofs.KnownBytes.{Appends-nil, Appends-trans}
+use Rattle.std.proofs.lemmas.Grind.{flat_map-append}
 use Rattle.std.proofs.lemmas.List.{append-nil}
 use Rattle.std.proofs.lemmas.Result.{err_from_is_err_and}
 use Rattle.feed_checks.specs.declared.verdict.Verdict.{Verdict}
 use Rattle.feed_transactions.specs.InterruptedWrites.{IsInterruptedWrite}
 use Rattle.feed_transactions.specs.Waiting.{WritesSome}
 use Rattle.feed_transactions.proofs.WaitingLemmas.{writes_none, interrupted_before, interrupted_after}
+use Rattle.changes_origins.proofs.AppendLemmas.{appended_both}
+use Rattle.std.proofs.lemmas.Bool.{false≢true}
 use Rattle.changes_lines.specs.ChangeLines.{ChangeJson, change_objects, objects, end_by, with_ends}
 use Rattle.changes_lines.specs.RecordedLines.{change_texts, HaveRows}
 use Rattle.changes_lines.specs.TextLists.{AreLeft, ended}
-use Rattle.changes_lines.specs.WrittenLines.{Puts, has_texts, head_text, end_of, end_before, ends_before, rows_text, change_text}
+use Rattle.feed_documents.specs.DocumentForms.{AppendsOne}
+use Rattle.changes_lines.specs.WrittenLines.{MayWriteLine, MayWriteRows, WritesFirst, Puts, has_texts, head_text, end_of, end_before, ends_before, rows_text, change_text}
 use Rattle.changes_lines.specs.declared.lines.Ends.{Ends}
 use Rattle.changes_lines.specs.declared.lines.Head.{Head}
+use Rattle.changes_lines.specs.declared.lines.Line.{Line}
+use Rattle.changes_lines.specs.declared.lines.RowsInRoom.{RowsInRoom}
 use Rattle.changes_lines.specs.declared.text_list.Texts.{Texts}
 
 -- ---- pieces
@@ -52,6 +58,66 @@ puts_then a b c w x z f t u (Err v) h k = fails_then a b c w x t u f v h k
 -- the second is empty
 pub puts_last : (a b : Option (List ℕ)) (w x : List ℕ) (f : Bool) (t u : List ℕ) (r : Result ⊤ Verdict) → u ≡ t → Puts a b w x f t r → Puts a b w x f u r
 puts_last a b w x f t u r is h = rw is h
+
+-- ---- a line at once
+
+-- the parts of a line, in sequence
+pub line_appended : (l : Line) (row end before one two three four five : List ℕ) → one ≡ before ++ l.head.front.now → two ≡ one ++ l.head.origin.now → three ≡ two ++ l.head.back.now → four ≡ three ++ row → five ≡ four ++ end
+    → ((json : List ℕ) → l.row.now ≡ ended json → row ++ end ≡ json ++ end_of l.end) → AppendsOne (λ text. MayWriteLine l text true) before five
+line_appended l row end before one two three four five a b c d e parts =
+    let h = l.head in
+    record {
+      text = head_text h ++ (row ++ end);
+      such = λ json is. ap (λ (t : List ℕ). head_text h ++ t) (parts json is);
+      appended = appended_both before three five (head_text h) (row ++ end)
+          (appended_both before one three h.front.now (h.origin.now ++ h.back.now) a (appended_both one two three h.origin.now h.back.now b c))
+          (appended_both three four five row end d e);
+    }
+
+-- nothing was written
+pub line_none : (l : Line) (old : List ℕ) → AppendsOne (λ text. MayWriteLine l text false) old old
+line_none l old = record { text = []; such = refl; appended = sym (append-nil old) }
+
+-- a text waits after the others
+waits_more : (a : Option (List ℕ)) (before text after : List ℕ) → after ≡ before ++ text → WritesSome a a before text after
+waits_more a before text after is = record { bytes = []; written = Appends-nil a; joined = sym is }
+
+-- the line was written: it waits
+pub line_puts : (l : Line) (a : Option (List ℕ)) (before after json : List ℕ) (failed done : Bool) → done ≡ true → AppendsOne (λ text. MayWriteLine l text done) before after → l.row.now ≡ ended json → Puts a a before after failed (head_text l.head ++ (json ++ end_of l.end)) (Ok tt)
+line_puts l a before after json failed true is h row = waits_more a before _ after (h.appended ∙ ap (λ (t : List ℕ). before ++ t) (h.such json row))
+line_puts l a before after json failed false is h row = absurd (false≢true is)
+
+-- it was not: nothing changed
+pub line_stays : (l : Line) (before after : List ℕ) (done : Bool) → done ≡ false → AppendsOne (λ text. MayWriteLine l text done) before after → after ≡ before
+line_stays l before after false is h = h.appended ∙ ap (λ (t : List ℕ). before ++ t) h.such ∙ append-nil before
+line_stays l before after true is h = absurd (false≢true (sym is))
+
+-- the change has one row
+pub one_row : (rows : List (List ℕ)) → 1 ≡ length rows → (json : List ℕ) × (rows ≡ json ∷ [])
+one_row [] is = absurd (omega (arith, is))
+one_row (row ∷ []) is = (row, refl)
+one_row (row ∷ other ∷ rows) is = absurd (omega (arith, is))
+
+-- the texts that are left then, after its front
+pub one_left : (texts : Texts) (back : List ℕ) (more rows : List (List ℕ)) (json : List ℕ) → rows ≡ json ∷ [] → AreLeft texts (back ∷ (map ended rows ++ more)) → AreLeft texts (back ∷ ended json ∷ more)
+one_left texts back more rows json single are = subst (λ (l : List (List ℕ)). AreLeft texts (back ∷ (map ended l ++ more))) single are
+
+-- a fact that holds whatever the result is
+pub on_ok_always : (P : Type 0) (r : Result ⊤ Verdict) → P → OnOk r P
+on_ok_always P (Ok x) h = h
+on_ok_always P (Err v) h = tt
+
+-- its text
+pub one_row_text : (origin : List ℕ) (e : Ends) (more : Bool) (x : ChangeJson) (json end : List ℕ) → x.rows ≡ json ∷ [] → end ≡ end_before (end_of e.each) e.last.now more [] → (x.front ++ (origin ++ [])) ++ ((x.back ++ json) ++ end) ≡ change_text origin e more x
+unfolding ends_before
+one_row_text origin e more x json end single is =
+    let object = x.front ++ (origin ++ (x.back ++ json)) in
+    append_assoc x.front (origin ++ []) ((x.back ++ json) ++ end)
+    ∙ ap (λ (t : List ℕ). x.front ++ (t ++ ((x.back ++ json) ++ end))) (append-nil origin)
+    ∙ ap (λ (t : List ℕ). x.front ++ t) (sym (append_assoc origin (x.back ++ json) end))
+    ∙ sym (append_assoc x.front (origin ++ (x.back ++ json)) end)
+    ∙ ap (λ (t : List ℕ). object ++ t) (is ∙ sym (append-nil (end_before (end_of e.each) e.last.now more [])))
+    ∙ ap (λ (rows : List (List ℕ)). ends_before (end_of e.each) e.last.now more (map (λ row. x.front ++ (origin ++ (x.back ++ row))) rows)) (sym single)
 
 -- ---- objects with their ends
 
@@ -181,6 +247,126 @@ all_rows h e json more old new before after texts counter rows w is over = of w.
     of : (left : List (List ℕ)) → length json ≡ counter + length left → AreLeft texts (map ended left ++ more) → rows_text h e (has_texts more) json ≡ w.text ++ rows_text h e (has_texts more) left → WritesSome old new before (rows_text h e (has_texts more) json) after × AreLeft texts more
     of [] count are rest = (rw (rest, append-nil w.text) w.written, are)
     of (x ∷ xs) count are rest = absurd (omega (arith, is, count, over))
+
+-- ---- many rows at once
+
+-- none of them yet
+pub none_first : (w : RowsInRoom) (old : List ℕ) → AppendsOne (λ text. MayWriteRows w text (w.rows, w.texts)) old old
+none_first w old = record {
+  text = [];
+  such = record { most = omega arith; rows = λ rows more is are. record { first = []; others = rows; split = refl; some = λ h. h; count = is; texts = are; text_is = refl } };
+  appended = sym (append-nil old);
+}
+
+-- the next of them
+next_first : (head row text : List ℕ) (rows more : List (List ℕ)) (n left : ℕ) (texts after : Texts) → (w : WritesFirst head rows more text (n, texts)) → 1 < n → left ≡ n - 1
+    → ((t : List ℕ) (ts : List (List ℕ)) → AreLeft texts (t ∷ ts) → (row ≡ t) × AreLeft after ts) → WritesFirst head rows more (text ++ (head ++ row)) (left, after)
+next_first head row text rows more n left texts after w many less takes = of w.others w.split w.count w.texts
+  where
+    of : (others : List (List ℕ)) → rows ≡ w.first ++ others → n ≡ length others → AreLeft texts (map ended others ++ more) → WritesFirst head rows more (text ++ (head ++ row)) (left, after)
+    of [] split count are = absurd (omega (arith, many, count))
+    of (x ∷ []) split count are = absurd (omega (arith, many, count))
+    of (x ∷ y ∷ xs) split count are =
+        let t = takes (ended x) (ended y ∷ (map ended xs ++ more)) are in
+        record {
+          first = w.first ++ x ∷ [];
+          others = y ∷ xs;
+          split = split ∙ sym (append_assoc w.first (x ∷ []) (y ∷ xs));
+          some = λ h. omega arith;
+          count = omega (arith, less, count);
+          texts = t.1;
+          text_is = ap₂ (λ (a b : List ℕ). a ++ (head ++ b)) w.text_is t.0
+              ∙ sym (flat_map-append (λ (r : List ℕ). head ++ ended r) w.first (x ∷ []) ∙ ap (λ (l : List ℕ). flat_map (λ (r : List ℕ). head ++ ended r) w.first ++ l) (append-nil (head ++ ended x)));
+        }
+
+pub one_first : (w : RowsInRoom) (row old one two three : List ℕ) (n left : ℕ) (texts after : Texts) → AppendsOne (λ text. MayWriteRows w text (n, texts)) old one → 1 < n → left ≡ n - 1
+    → ((t : List ℕ) (ts : List (List ℕ)) → AreLeft texts (t ∷ ts) → (row ≡ t) × AreLeft after ts) → two ≡ one ++ w.head.now → three ≡ two ++ row → AppendsOne (λ text. MayWriteRows w text (left, after)) old three
+one_first w row old one two three n left texts after h many less takes a b = record {
+  text = h.text ++ (w.head.now ++ row);
+  such = record { most = (let most = h.such.most in omega (arith, most, less)); rows = λ rows more is are. next_first w.head.now row h.text rows more n left texts after (h.such.rows rows more is are) many less takes };
+  appended = b ∙ ap (λ (l : List ℕ). l ++ row) a ∙ append_assoc one w.head.now row ∙ ap (λ (l : List ℕ). l ++ (w.head.now ++ row)) h.appended ∙ append_assoc old h.text (w.head.now ++ row);
+}
+
+-- the end of a row that others follow is that of a row
+end_kept : (e : Ends) (h : Head) (more : List (List ℕ)) (xs : List (List ℕ)) → end_before (end_of e.each) e.last.now (has_texts (map ended xs ++ more)) [] ≡ end_before (end_of e.each) e.last.now (has_texts more) (map (λ row. head_text h ++ row) xs)
+end_kept e h more [] = refl
+end_kept e h [] (x ∷ xs) = refl
+end_kept e h (t ∷ more) (x ∷ xs) = refl
+
+end_between : (e : Ends) (more : Bool) (first : List (List ℕ)) (x : List ℕ) (xs : List (List ℕ)) (f : List ℕ → List ℕ) → end_before (end_of e.each) e.last.now more (map f (first ++ x ∷ xs)) ≡ end_of e.each
+end_between e true first x xs f = refl
+end_between e false [] x xs f = refl
+end_between e false (y ∷ first) x xs f = refl
+
+-- the text of the first rows, of the next, and of the others
+pub rows_split : (h : Head) (e : Ends) (more first : List (List ℕ)) (x : List ℕ) (xs : List (List ℕ)) → head_text h ≡ h.front.now → end_of e.each ≡ codes "}\n"
+    → rows_text h e (has_texts more) (first ++ x ∷ xs) ≡ flat_map (λ row. h.front.now ++ ended row) first ++ (rows_text h e (has_texts (map ended xs ++ more)) (x ∷ []) ++ rows_text h e (has_texts more) xs)
+unfolding ends_before
+rows_split h e more [] x xs single kept =
+    let others = rows_text h e (has_texts more) xs in
+    let end = end_before (end_of e.each) e.last.now (has_texts (map ended xs ++ more)) [] in
+    ap (λ (l : List ℕ). (head_text h ++ x) ++ (l ++ others)) (sym (end_kept e h more xs))
+    ∙ sym (append_assoc (head_text h ++ x) end others)
+    ∙ ap (λ (l : List ℕ). ((head_text h ++ x) ++ l) ++ others) (sym (append-nil end))
+rows_split h e more (y ∷ first) x xs single kept =
+    let f = λ (row : List ℕ). head_text h ++ row in
+    let all = rows_text h e (has_texts more) (first ++ x ∷ xs) in
+    let rest = rows_text h e (has_texts (map ended xs ++ more)) (x ∷ []) ++ rows_text h e (has_texts more) xs in
+    let done = flat_map (λ (row : List ℕ). h.front.now ++ ended row) first in
+    ap (λ (l : List ℕ). (head_text h ++ y) ++ (l ++ all)) (end_between e (has_texts more) first x xs f ∙ kept)
+    ∙ sym (append_assoc (head_text h ++ y) (codes "}\n") all)
+    ∙ ap (λ (l : List ℕ). l ++ all) (append_assoc (head_text h) y (codes "}\n") ∙ ap (λ (l : List ℕ). l ++ ended y) single)
+    ∙ ap (λ (l : List ℕ). (h.front.now ++ ended y) ++ l) (rows_split h e more first x xs single kept)
+    ∙ sym (append_assoc (h.front.now ++ ended y) done rest)
+
+-- the first rows wait, and the next is about to be written
+pub record NextOf (h : Head) (e : Ends) (rows more : List (List ℕ)) (text : List ℕ) (texts : Texts) (left : ℕ) : Type 0 where
+  pub row : List ℕ
+  pub others : List (List ℕ)
+  pub count : left ≡ length others + 1
+  pub texts_are : AreLeft texts (map ended (row ∷ []) ++ (map ended others ++ more))
+  pub is : rows_text h e (has_texts more) rows ≡ text ++ (rows_text h e (has_texts (map ended others ++ more)) (row ∷ []) ++ rows_text h e (has_texts more) others)
+
+pub next_of : (h : Head) (e : Ends) (rows more : List (List ℕ)) (text : List ℕ) (texts : Texts) (left : ℕ) → WritesFirst h.front.now rows more text (left, texts) → 0 < length rows → head_text h ≡ h.front.now → end_of e.each ≡ codes "}\n" → NextOf h e rows more text texts left
+next_of h e rows more text texts left w some single kept = of w.others w.split (w.some some) w.count w.texts
+  where
+    of : (others : List (List ℕ)) → rows ≡ w.first ++ others → 0 < length others → left ≡ length others → AreLeft texts (map ended others ++ more) → NextOf h e rows more text texts left
+    of [] split less count are = absurd (omega (arith, less))
+    of (x ∷ xs) split less count are = record {
+      row = x;
+      others = xs;
+      count = omega (arith, count);
+      texts_are = are;
+      is = ap (rows_text h e (has_texts more)) split ∙ rows_split h e more w.first x xs single kept
+          ∙ ap (λ (l : List ℕ). l ++ (rows_text h e (has_texts (map ended xs ++ more)) (x ∷ []) ++ rows_text h e (has_texts more) xs)) (sym w.text_is);
+    }
+
+-- and it was written
+pub rows_written : (h : Head) (e : Ends) (json more : List (List ℕ)) (old mid new : Option (List ℕ)) (before one two three text : List ℕ) (texts next after : Texts) (n left counter now : ℕ)
+    → (w : WritesRows h e json more old mid before one texts counter) → two ≡ one ++ text → (k : NextOf h e w.left more text next n)
+    → WritesSome mid new two (rows_text h e (has_texts (map ended k.others ++ more)) (k.row ∷ [])) three → AreLeft after (map ended k.others ++ more) → now + left ≡ length json → left + 1 ≡ n → WritesRows h e json more old new before three after now
+rows_written h e json more old mid new before one two three text texts next after n left counter now w waits k written are counts less =
+    let piece = rows_text h e (has_texts (map ended k.others ++ more)) (k.row ∷ []) in
+    let others = rows_text h e (has_texts more) k.others in
+    record {
+      left = k.others;
+      count = (let c = k.count in omega (arith, counts, less, c));
+      texts_are = are;
+      text = w.text ++ (text ++ piece);
+      written = writes_both old mid new before one three w.text (text ++ piece) w.written (writes_both mid mid new one two three text piece (waits_more mid one text two waits) written);
+      rest = w.rest ∙ ap (λ (l : List ℕ). w.text ++ l) (k.is ∙ sym (append_assoc text piece others)) ∙ sym (append_assoc w.text (text ++ piece) others);
+    }
+
+-- or the writer failed at it
+pub rows_failed : (h : Head) (e : Ends) (json more : List (List ℕ)) (old mid new : Option (List ℕ)) (before one two text : List ℕ) (texts next : Texts) (n counter : ℕ) (f : Bool) (v : Verdict)
+    → (w : WritesRows h e json more old mid before one texts counter) → two ≡ one ++ text → (k : NextOf h e w.left more text next n)
+    → IsInterruptedWrite mid new (two ++ rows_text h e (has_texts (map ended k.others ++ more)) (k.row ∷ [])) f v → IsInterruptedWrite old new (before ++ rows_text h e (has_texts more) json) f v
+rows_failed h e json more old mid new before one two text texts next n counter f v w waits k why =
+    let piece = rows_text h e (has_texts (map ended k.others ++ more)) (k.row ∷ []) in
+    let others = rows_text h e (has_texts more) k.others in
+    rw (w.rest, k.is)
+    (fails_then old mid new before one w.text (text ++ (piece ++ others)) f v w.written
+    (fails_then mid mid new one two text (piece ++ others) f v (waits_more mid one text two waits) (fails_first mid new two piece others f v why)))
 
 -- ---- changes, one after the other
 

@@ -39,16 +39,23 @@ xid_text status = if nat_le 1 (length status) then (if slice_index status 0 == 2
 abbrev pub xid_of : List ℕ → Option TransactionXid
 xid_of e = if header_field 4 1 e == 16 then xid_number e else (if header_field 4 1 e == 2 then xid_text (status_of e) else None)
 
--- the id of the thread that wrote a QUERY_EVENT
+-- the id of the thread that wrote a QUERY_EVENT; 0 is none
 abbrev pub thread_of : List ℕ → Option ℕ
-thread_of e = if nat_lt (length e) 23 then None else Some (header_field 19 4 e)
+thread_of e = if nat_lt (length e) 23 then None else (if header_field 19 4 e == 0 then None else Some (header_field 19 4 e))
 
--- what the events of a transaction say of it: the position at which it begins, when it was committed in milliseconds since 1970, its XID, and the id of its thread
+-- a position in the log with a name
+pub record LogPlace : Type 0 where
+  pub file : List ℕ
+  pub position : ℕ
+
+-- what the events of a transaction say of it: the position at which it begins, when it was committed in milliseconds since 1970, its XID, and the id of its thread;
+-- and where reading can begin again, if that isn't its end
 pub record TransactionFacts : Type 0 where
   pub begin : ℕ
   pub ts_ms : Option ℕ
   pub xid : Option TransactionXid
   pub thread_id : Option ℕ
+  pub resume : Option LogPlace
 
 -- a member with a number after a comma; nothing without a number, or if it isn't asked for
 abbrev pub number_member : Bool → List ℕ → Option ℕ → List ℕ
@@ -56,21 +63,35 @@ number_member true key (Some n) = key ++ decimal n
 number_member true key None = []
 number_member false key n = []
 
--- that with the XID
+-- the value of the member with an XID
 abbrev pub xid_value : TransactionXid → List ℕ
 xid_value (OfNumber n) = decimal n
 xid_value (OfText text) = utf8_json text
 
+-- that member, after a comma
 abbrev pub xid_member : Bool → Option TransactionXid → List ℕ
 xid_member true (Some xid) = codes ",\"xid\":" ++ xid_value xid
 xid_member true None = []
 xid_member false xid = []
 
--- those of a transaction
-abbrev pub transaction_members : AddedMembers → TransactionFacts → List ℕ
-transaction_members a f =
+-- the place where reading can begin again: the name of the log, a colon and the position
+abbrev pub place_text : LogPlace → List ℕ
+place_text p = p.file ++ 58 ∷ decimal p.position
+
+-- as a member; nothing, if that is the end of the transaction
+abbrev pub resume_member : Option LogPlace → List ℕ
+resume_member (Some p) = codes ",\"resume\":" ++ utf8_json (place_text p)
+resume_member None = []
+
+-- those that are asked for
+abbrev pub asked_members : AddedMembers → TransactionFacts → List ℕ
+asked_members a f =
     number_member a.begin (codes ",\"begin\":") (Some f.begin)
     ++ (number_member a.ts_ms (codes ",\"ts_ms\":") f.ts_ms ++ (xid_member a.xid f.xid ++ number_member a.thread_id (codes ",\"thread_id\":") f.thread_id))
+
+-- those of a transaction
+abbrev pub transaction_members : AddedMembers → TransactionFacts → List ℕ
+transaction_members a f = resume_member f.resume ++ asked_members a f
 
 -- the statement that changed rows; nothing without one, or if it isn't asked for
 abbrev pub query_member : Bool → Option (List ℕ) → List ℕ
@@ -112,7 +133,7 @@ xid_in kept.None text = None
 
 -- what it keeps of the open transaction
 abbrev pub facts_of : EventFacts → TransactionFacts
-facts_of s = record { begin = s.begin; ts_ms = s.ts_ms; xid = xid_in s.xid s.xid_text.items; thread_id = s.thread_id }
+facts_of s = record { begin = s.begin; ts_ms = s.ts_ms; xid = xid_in s.xid s.xid_text.items; thread_id = s.thread_id; resume = None }
 
 -- the statement that changes the rows, if it observed one
 abbrev pub query_in : EventFacts → Option (List ℕ)
@@ -137,9 +158,13 @@ Observes old e body new = ObservesType (header_field 4 1 e) old e body new
 
 -- the same after a transaction began with this event: it begins with its GTID's, or else with this one
 abbrev pub begun_facts : EventFacts → Bool → List ℕ → TransactionFacts
-begun_facts s true e = record { begin = s.gtid_start; ts_ms = s.gtid_time; xid = None; thread_id = thread_of e }
-begun_facts s false e = record { begin = start_of e; ts_ms = None; xid = None; thread_id = thread_of e }
+begun_facts s true e = record { begin = s.gtid_start; ts_ms = s.gtid_time; xid = None; thread_id = thread_of e; resume = None }
+begun_facts s false e = record { begin = start_of e; ts_ms = None; xid = None; thread_id = thread_of e; resume = None }
 
 -- the same with this XID, or with none: that of the event which commits it
 abbrev pub with_xid : Option TransactionXid → TransactionFacts → TransactionFacts
-with_xid xid f = record { begin = f.begin; ts_ms = f.ts_ms; xid = xid; thread_id = f.thread_id }
+with_xid xid f = record { begin = f.begin; ts_ms = f.ts_ms; xid = xid; thread_id = f.thread_id; resume = f.resume }
+
+-- the same with this place where reading can begin again
+abbrev pub with_resume : Option LogPlace → TransactionFacts → TransactionFacts
+with_resume resume f = record { begin = f.begin; ts_ms = f.ts_ms; xid = f.xid; thread_id = f.thread_id; resume = resume }

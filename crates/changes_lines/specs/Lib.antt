@@ -7,6 +7,7 @@ pub mod ShortMembers
 pub mod Updates
 pub mod Origins
 pub mod FactMembers
+pub mod ResumePlaces
 pub mod ChangeLines
 pub mod RecordedParts
 pub mod RecordedLines

@@ -24,7 +24,7 @@ use Rattle.changes_lines.specs.ChangeLines.{ChangeJson, AreChangesJson, rows_bac
 use Rattle.changes_lines.specs.RecordedParts.{front_of}
 use Rattle.changes_lines.specs.RowJson.{AreRowsJson}
 use Rattle.changes_lines.specs.TextLists.{HasTexts, ended}
-use Rattle.changes_lines.specs.FactMembers.{TransactionFacts, facts_of, numbered_if, query_member, query_in, transaction_members}
+use Rattle.changes_lines.specs.FactMembers.{LogPlace, TransactionFacts, facts_of, numbered_if, query_member, query_in, transaction_members, with_resume}
 use Rattle.changes_origins.specs.declared.added_members.AddedMembers.{AddedMembers}
 use Rattle.changes_lines.specs.declared.recorder.JsonRecorder.{JsonRecorder}
 
@@ -44,6 +44,10 @@ facts_in s = facts_of s.facts
 
 abbrev pub members_of : JsonRecorder → List ℕ
 members_of s = transaction_members (added_of s) (facts_in s)
+
+-- the same, and the place where reading can begin again
+abbrev pub members_from : Option LogPlace → JsonRecorder → List ℕ
+members_from resume s = transaction_members (added_of s) (with_resume resume (facts_in s))
 
 -- the texts of a change: its front, its back, and its rows with the end of a line
 abbrev pub change_texts : ChangeJson → List (List ℕ)

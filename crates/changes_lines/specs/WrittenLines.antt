@@ -1,5 +1,5 @@
 -- How the lines of a transaction are written, piece by piece.
-use Rattle.std.specs.Prelude.{◌≡◌, ⊤, ℕ, Bool, true, false, List, [], ◌∷◌, ◌++◌, map, codes, Option, Some, None, Result, Ok, Err, if◌then◌else◌}
+use Rattle.std.specs.Prelude.{◌≡◌, ◌<◌, ◌≤◌, ⊤, ℕ, length, Bool, true, false, List, [], ◌∷◌, ◌++◌, map, codes, Option, Some, None, Result, Ok, Err, if◌then◌else◌}
 use Rattle.std.specs.Borrow.{Bor}
 use Rattle.feed_checks.specs.declared.verdict.Verdict.{Verdict}
 use Rattle.feed_transactions.specs.InterruptedWrites.{IsInterruptedWrite}
@@ -7,15 +7,33 @@ use Rattle.feed_transactions.specs.Waiting.{WritesSome}
 use Rattle.feed_text.specs.Buffers.{text_in}
 use Rattle.feed_transactions.specs.Changes.{Committed}
 use Rattle.changes_lines.specs.ChangeLines.{ChangeJson, change_objects}
+use Rattle.changes_lines.specs.FactMembers.{LogPlace}
 use Rattle.changes_lines.specs.Origins.{header_members, origin_members}
+use Rattle.changes_lines.specs.ResumePlaces.{earlier_in, log_in, place_in}
 use Rattle.changes_origins.specs.GtidJson.{IsGtidJson}
 use Rattle.changes_lines.specs.declared.lines.Lines.{Lines}
 use Rattle.changes_lines.specs.declared.lines.Ends.{Ends}
 use Rattle.changes_lines.specs.declared.lines.Head.{Head}
+use Rattle.changes_lines.specs.declared.lines.Line.{Line}
+use Rattle.changes_lines.specs.declared.lines.RowsInRoom.{RowsInRoom}
+use Rattle.changes_lines.specs.declared.text_list.Texts.{Texts}
+use Rattle.changes_lines.specs.TextLists.{AreLeft, ended}
+use Rattle.std.specs.List.{flat_map}
 
 -- whether a line is a transaction
 abbrev pub is_by_transaction : Lines → Bool
 is_by_transaction s = s.by_transaction
+
+-- where reading can begin again, if that isn't the end of the newest transaction; and the newest such place
+abbrev pub resume_in : Lines → Option LogPlace
+resume_in s = earlier_in s.resume
+
+abbrev pub newest_place : Lines → LogPlace
+newest_place s = place_in s.resume
+
+-- the name of the newest log
+abbrev pub newest_log : Lines → List ℕ
+newest_log s = log_in s.resume
 
 -- a text was put after the bytes that waited; or the writer failed after a prefix of both
 abbrev pub Puts : Option (List ℕ) → Option (List ℕ) → List ℕ → List ℕ → Bool → List ℕ → Result ⊤ Verdict → Type 0
@@ -46,6 +64,26 @@ end_before each last false (o ∷ os) = each
 unfoldable pub ends_before : List ℕ → List ℕ → Bool → List (List ℕ) → List ℕ
 ends_before each last more [] = []
 ends_before each last more (o ∷ os) = o ++ (end_before each last more os ++ ends_before each last more os)
+
+-- the line of a row was written, with its end; or nothing
+abbrev pub MayWriteLine : Line → List ℕ → Bool → Type 0
+MayWriteLine l text true = (json : List ℕ) → l.row.now ≡ ended json → text ≡ head_text l.head ++ (json ++ end_of l.end)
+MayWriteLine l text false = text ≡ []
+
+-- of these rows the first were written with their ends, each after what their lines begin with, and at least the last is left
+pub record WritesFirst (head : List ℕ) (rows more : List (List ℕ)) (text : List ℕ) (left : ℕ × Texts) : Type 0 where
+  pub first : List (List ℕ)
+  pub others : List (List ℕ)
+  pub split : rows ≡ first ++ others
+  pub some : 0 < length rows → 0 < length others
+  pub count : left.0 ≡ length others
+  pub texts : AreLeft left.1 (map ended others ++ more)
+  pub text_is : text ≡ flat_map (λ row. head ++ ended row) first
+
+-- the same of the rows whose texts these are
+pub record MayWriteRows (w : RowsInRoom) (text : List ℕ) (left : ℕ × Texts) : Type 0 where
+  pub most : left.0 ≤ w.rows
+  pub rows : (rows more : List (List ℕ)) → w.rows ≡ length rows → AreLeft w.texts (map ended rows ++ more) → WritesFirst w.head.now rows more text left
 
 -- the objects of rows, with their ends, before others or as the last
 abbrev pub rows_text : Head → Ends → Bool → List (List ℕ) → List ℕ

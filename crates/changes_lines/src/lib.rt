@@ -10,6 +10,7 @@ mod members;
 mod numbered_rows;
 mod origin;
 mod recorder;
+mod resume_place;
 mod rows;
 mod short_rows;
 mod text_list;

@@ -29,6 +29,7 @@ fn put_number<A: Allocator>(number: u64, text: &mut TextBuffer<A>) -> Result<(),
 }
 
 /// Appends the member with the number of a statement, after a comma, if there is one.
+#[inline(always)]
 pub(crate) fn put_number_of<A: Allocator>(
     number: Option<u64>,
     text: &mut TextBuffer<A>,

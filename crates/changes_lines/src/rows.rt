@@ -102,6 +102,7 @@ pub(crate) fn put_rows(
 }
 
 /// Ends the text of a row.
+#[inline(always)]
 pub(crate) fn end_row(texts: &mut TextList) -> Result<(), AllocError>
     ensures { OnOk result ((before : List (List ℕ)) (json : List ℕ) → HasTexts texts.old before json → HasTexts texts.new (before ++ ended json ∷ []) []) }
 {

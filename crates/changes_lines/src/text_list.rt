@@ -95,6 +95,18 @@ impl<'t> Texts<'t> {
         text
     }
 
+    /// Takes the first two texts; there are two, one after the other.
+    #[inline(always)]
+    pub(crate) fn take_two(&mut self) -> &'t [u8]
+        ensures { (first second : List ℕ) (more : List (List ℕ)) → AreLeft self.old (first ∷ second ∷ more) → (result.now ≡ first ++ second) × AreLeft self.new more }
+    {
+        let Some((_, ends)) = self.ends.split_first() else {
+            return &[];
+        };
+        *self = Texts { ends, ..*self };
+        self.take()
+    }
+
     /// Whether there are none.
     #[inline(always)]
     pub(crate) fn is_empty(self) -> bool

@@ -16,7 +16,7 @@ pub record Large : Type 0 where
   pub gtid : Option Gtid
   pub tables : List ℕ
 
--- the code's
+-- the same, as a `LargeTransaction` has it
 abbrev pub large_of : LargeTransaction → Large
 large_of t = record { rows = t.rows; bytes = t.bytes; file = t.file.items; begin = t.begin; end = t.end; seconds = t.seconds; gtid = kept_gtid t.gtid; tables = t.tables.items }
 

@@ -16,7 +16,7 @@ pub record NamedCounts : Type 0 where
   pub name : List ℕ
   pub counts : RowCounts
 
--- an entry of the code's
+-- the same, as an entry of the program's map has it
 abbrev pub named_counts : Vec ℕ × RowCounts → NamedCounts
 named_counts e = record { name = e.0.items; counts = e.1 }
 
@@ -51,7 +51,7 @@ abbrev pub sums_of : List RowCounts → Option Sums
 sums_of [] = None
 sums_of (c ∷ l) = Some (record { counts = sum_of_counts (c ∷ l); transactions = capped (length (c ∷ l)) })
 
--- the code's
+-- the same, as a `TableTotals` has it
 abbrev pub sums_in : TableTotals → Sums
 sums_in t = record { counts = t.counts; transactions = t.transactions }
 

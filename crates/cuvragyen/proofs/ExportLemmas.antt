@@ -6,7 +6,7 @@ use Rattle.feed_checks.specs.declared.verdict.Verdict.TheVariants.{Memory}
 use Rattle.feed_transactions.specs.Changes.{Committed}
 use Rattle.feed_pushed_log.specs.PushedLogs.{recorder_in}
 use Rattle.changes_lines.specs.RecordedLines.{IsDoneJson}
-use Rattle.library_log.specs.ReadLogs.{log_in, has_newest, fault_in, file_in, is_by_transaction_in, shown_in}
+use Rattle.library_log.specs.ReadLogs.{log_in, has_newest, fault_in, file_in, lines_in, shown_in}
 use Rattle.library_log.specs.ShownTransactions.{HasLines}
 use Rattle.library_log.specs.declared.part.Part.{Part}
 use Rattle.library_log.specs.declared.part.Part.TheVariants.{Log}
@@ -47,10 +47,10 @@ abbrev failed : Verdict → Result Bool Verdict
 failed v = Err v
 
 module _ (s new : ReadLog) (old_view view : View) (same : log_in new ≡ log_in s) where
-  pub shows_lines : true ≡ has_newest s → (has_newest s ≡ true → (t : Committed) → IsDoneJson (recorder_in (log_in s)) t → HasLines (is_by_transaction_in s) (file_in s) (recorder_in (log_in s)) t (shown_in new)) → view.len ≡ length (shown_in new) → Shows s new old_view view 1
+  pub shows_lines : true ≡ has_newest s → (has_newest s ≡ true → (t : Committed) → IsDoneJson (recorder_in (log_in s)) t → HasLines (lines_in s) (file_in s) (recorder_in (log_in s)) t (shown_in new)) → view.len ≡ length (shown_in new) → Shows s new old_view view 1
   shows_lines is lines len = record { returned = outcome true; number = refl; there = is; lines = lines; err = tt; len = λ _. len; none = λ e. absurd (subst is_shown e tt); kept = tt; log = same }
 
-  pub shows_none : false ≡ has_newest s → (has_newest s ≡ true → (t : Committed) → IsDoneJson (recorder_in (log_in s)) t → HasLines (is_by_transaction_in s) (file_in s) (recorder_in (log_in s)) t (shown_in new)) → view.len ≡ 0 → Shows s new old_view view 0
+  pub shows_none : false ≡ has_newest s → (has_newest s ≡ true → (t : Committed) → IsDoneJson (recorder_in (log_in s)) t → HasLines (lines_in s) (file_in s) (recorder_in (log_in s)) t (shown_in new)) → view.len ≡ 0 → Shows s new old_view view 0
   shows_none is lines len = record { returned = outcome false; number = refl; there = is; lines = lines; err = tt; len = λ e. absurd (subst is_shown (sym e) tt); none = λ _. len; kept = tt; log = same }
 
 pub shows_fault : (s new : ReadLog) (view : View) (v : Verdict) → log_in new ≡ log_in s → (failed v ≡ failed Memory) × (fault_in new ≡ Some Memory) → Shows s new view view (verdict_number v)

@@ -12,7 +12,7 @@ use Rattle.feed_change_log.specs.declared.stop.Stop.{Stop}
 use Rattle.feed_pushed_log.specs.PushedLogs.{left_in, recorder_in, source_of, verdict_in}
 use Rattle.changes_lines.specs.RecordedLines.{IsDoneJson, IsLikeJson, filter_of}
 use Rattle.library_sources.specs.LibrarySources.{Begins, unread_in}
-use Rattle.library_log.specs.ReadLogs.{log_in, fault_in, filter_in, has_newest, shown_in, is_by_transaction_in, file_in, finds, early_end, ended_by, HasTaken, Advances, Pushes, IsPushError, CountsTaken, CountsUnread}
+use Rattle.library_log.specs.ReadLogs.{log_in, fault_in, filter_in, has_newest, shown_in, lines_in, file_in, finds, early_end, ended_by, HasTaken, Advances, Pushes, IsPushError, CountsTaken, CountsUnread}
 use Rattle.library_log.specs.ShownTransactions.{HasLines}
 use Rattle.library_log.specs.declared.part.Part.{Part}
 use Rattle.library_log.specs.declared.part.Part.TheVariants as parts
@@ -91,7 +91,7 @@ pub record Shows (s new : ReadLog) (old_view view : View) (result : ℕ) : Type 
   pub returned : Result Bool Verdict
   pub number : result ≡ shown_number returned
   pub there : IfOk returned (λ is_there. is_there ≡ has_newest s)
-  pub lines : OnOk returned (has_newest s ≡ true → (t : Committed) → IsDoneJson (recorder_in (log_in s)) t → HasLines (is_by_transaction_in s) (file_in s) (recorder_in (log_in s)) t (shown_in new))
+  pub lines : OnOk returned (has_newest s ≡ true → (t : Committed) → IsDoneJson (recorder_in (log_in s)) t → HasLines (lines_in s) (file_in s) (recorder_in (log_in s)) t (shown_in new))
   pub err : OnErr returned ((returned ≡ Err Memory) × (fault_in new ≡ Some Memory))
   pub len : returned ≡ Ok true → view.len ≡ length (shown_in new)
   pub none : returned ≡ Ok false → view.len ≡ 0

@@ -1,9 +1,11 @@
 //! The statements of the rows of an event.
 
-ghost use Rattle.std.specs.Prelude.{◌≡◌, List, ℕ, [], OnOk};
+ghost use Rattle.std.specs.Prelude.{◌≡◌, ◌⊎◌, List, ℕ, [], IfErr, OnOk, false, true};
+ghost use Rattle.changes_statements.specs.NoStatements.{HasNoItems, IsMemoryOr};
 ghost use Rattle.changes_statements.specs.RowsOfCells.{cells_in};
+ghost use Rattle.changes_statements.specs.declared.no_statement.NoStatement.{NoStatement};
 ghost use Rattle.statement_texts.specs.StatementTexts.{HasOpen};
-ghost use Rattle.event_statements.specs.EventStatements.{change_of, directed, AddsStatement};
+ghost use Rattle.event_statements.specs.EventStatements.{change_of, directed, AddsStatement, HasNoRow, HasNoTaken, IsOneWay, IsSecond, LacksBack, TakesRow};
 
 use changes_statements::{
     NoStatement, RowCells, Scratch, SqlTable, put_literal, put_statement, put_utf8,
@@ -14,7 +16,7 @@ use feed_text::TextBuffer;
 use rows_cells::{CellRef, RowPart, RowsCursor};
 use rows_event_body::RowImages;
 use statement_texts::TextList;
-use std::alloc::Global;
+use std::alloc::{AllocError, Global};
 
 /// Whether statements make changes, or take them back.
 #[derive(Clone, Copy, PartialEq, Eq)]
@@ -48,7 +50,7 @@ fn is_value(
     literal: &[u8],
     value: &[u8],
     text: &mut TextBuffer<Global>,
-) -> Result<bool, NoStatement> {
+) -> Result<bool, AllocError> {
     if literal == value {
         return Ok(true);
     }
@@ -71,14 +73,17 @@ fn has_value(
     cells: &RowCells<'_>,
     condition: (&[u8], &[u8]),
     scratch: &mut Scratch,
-) -> Result<bool, NoStatement> {
-    for (index, column) in table.columns.iter().enumerate() {
+) -> Result<bool, NoStatement>
+    ensures { IfErr result (IsMemoryOr (HasNoItems table.now.columns.items (cells_in cells.now))) }
+{
+    for index in 0..table.columns.len() {
+        let column = &table.columns[index];
         if column.name.as_slice() == condition.0
             && let Some(cell) = cells.get(index)
         {
             let mut literal = TextBuffer::new(alloc);
             put_literal(column, cell, false, scratch, &mut literal)?;
-            return is_value(literal.as_slice(), condition.1, scratch.text());
+            return Ok(is_value(literal.as_slice(), condition.1, scratch.text())?);
         }
     }
     Ok(false)
@@ -91,7 +96,9 @@ fn meets_all(
     cells: &RowCells<'_>,
     conditions: &[(&[u8], &[u8])],
     scratch: &mut Scratch,
-) -> Result<bool, NoStatement> {
+) -> Result<bool, NoStatement>
+    ensures { IfErr result (IsMemoryOr (HasNoItems table.now.columns.items (cells_in cells.now))) }
+{
     for condition in conditions {
         if !has_value(alloc, table, cells, *condition, scratch)? {
             return Ok(false);
@@ -146,21 +153,39 @@ fn read_row<'a>(
     Err(NoStatement::Row)
 }
 
-/// Whether the change of a row can be taken back: an image with all columns that the change had.
-fn check_back(
-    images: RowImages,
-    first: &RowCells<'_>,
-    second: &RowCells<'_>,
-) -> Result<(), NoStatement> {
-    let has_all = match images {
+/// Whether an image has all columns that what takes a change back needs.
+fn has_all_back(images: RowImages, first: &RowCells<'_>, second: &RowCells<'_>) -> bool
+    ensures all { result ≡ true → LacksBack images (cells_in first.now) (cells_in second.now) → ⊥ }
+    ensures missing { result ≡ false → LacksBack images (cells_in first.now) (cells_in second.now) }
+{
+    match images {
         RowImages::After => true,
         RowImages::Before => first.is_full(),
         RowImages::BeforeAndAfter | RowImages::BeforeAndPartialAfter => first.has_all_of(second),
-    };
-    if has_all {
-        Ok(())
-    } else {
-        Err(NoStatement::Columns)
+    }
+}
+
+/// Completes the second image: what takes an update back has the columns that the update leaves as they were.
+///
+/// - `Columns`: the change can't be taken back, since its images lack columns.
+fn complete<'a>(
+    direction: Direction,
+    images: RowImages,
+    first: &RowCells<'a>,
+    second: &mut RowCells<'a>,
+) -> Result<(), NoStatement>
+    ensures ok { OnOk result (IsSecond direction images (cells_in first.now) (cells_in second.old) (cells_in second.new)) }
+    ensures err { IfErr result (IsOneWay direction images (cells_in first.now) (cells_in second.old)) }
+{
+    match direction {
+        Direction::Forward => Ok(()),
+        Direction::Back => {
+            if !has_all_back(images, first, second) {
+                return Err(NoStatement::Columns);
+            }
+            second.fill_from(first);
+            Ok(())
+        }
     }
 }
 
@@ -174,7 +199,7 @@ fn directed<T>(direction: Direction, change: RowChange<T>) -> RowChange<T>
     }
 }
 
-/// Adds the statement of a row, or what takes its change back: with the columns that an update leaves as they were.
+/// Adds the statement of a row, or what takes its change back.
 fn add_row<'a>(
     table: &SqlTable,
     images: RowImages,
@@ -184,12 +209,11 @@ fn add_row<'a>(
     scratch: &mut Scratch,
     texts: &mut TextList,
 ) -> Result<(), NoStatement>
-    ensures { OnOk result ((ts : List (List ℕ)) → HasOpen texts.old ts [] → AddsStatement table.now (directed direction (change_of images (cells_in first.now) (cells_in second.new))) ts texts.new) }
+    ensures text { OnOk result ((ts : List (List ℕ)) → HasOpen texts.old ts [] → AddsStatement table.now (directed direction (change_of images (cells_in first.now) (cells_in second.new))) ts texts.new) }
+    ensures second { OnOk result (IsSecond direction images (cells_in first.now) (cells_in second.old) (cells_in second.new)) }
+    ensures err { IfErr result (IsMemoryOr (HasNoRow table.now images direction (cells_in first.now) (cells_in second.old) (cells_in second.new))) }
 {
-    if let Direction::Back = direction {
-        check_back(images, first, second)?;
-        second.fill_from(first);
-    }
+    complete(direction, images, first, second)?;
     let change = directed(direction, change_of(images, first, second));
     put_statement(table, change, scratch, &mut texts.buffer)?;
     texts.close()?;
@@ -230,14 +254,13 @@ impl RowCounts {
 }
 
 /// Adds a comment in place of a statement.
-fn add_comment(why: NoStatement, texts: &mut TextList) -> Result<(), NoStatement> {
+fn add_comment(why: NoStatement, texts: &mut TextList) -> Result<(), AllocError> {
     texts.drop_open();
     let text = &mut texts.buffer;
     text.put_text(b"-- left out: ")?;
     text.put_text(word_of(why))?;
     text.put(b'\n')?;
-    texts.close()?;
-    Ok(())
+    texts.close()
 }
 
 /// A short reason.
@@ -261,11 +284,25 @@ fn is_taken(
     second: &RowCells<'_>,
     conditions: &[(&[u8], &[u8])],
     scratch: &mut Scratch,
-) -> Result<bool, NoStatement> {
+) -> Result<bool, NoStatement>
+    ensures { IfErr result (IsMemoryOr (HasNoTaken table.now (cells_in first.now) (cells_in second.now))) }
+{
     if meets_all(alloc, table, first, conditions, scratch)? {
         return Ok(true);
     }
     meets_all(alloc, table, second, conditions, scratch)
+}
+
+/// Adds a comment in place of a statement, or returns why there is none.
+fn leave_out(leaves_out: bool, why: NoStatement, texts: &mut TextList) -> Result<(), NoStatement>
+    ensures ok { OnOk result (leaves_out ≡ true) }
+    ensures err { IfErr result (IsMemoryOr (λ e. (leaves_out ≡ false) × (e ≡ why))) }
+{
+    if !leaves_out {
+        return Err(why);
+    }
+    add_comment(why, texts)?;
+    Ok(())
 }
 
 /// Adds the statement of a row that is taken, or a comment in its place, unless changes are only counted.
@@ -277,7 +314,11 @@ fn add_taken_row<'a>(
     second: &mut RowCells<'a>,
     scratch: &mut Scratch,
     texts: &mut TextList,
-) -> Result<(), NoStatement> {
+) -> Result<(), NoStatement>
+    ensures dry { taken.entry.is_dry ≡ true → OnOk result (texts.new ≡ texts.old) }
+    ensures ok { taken.entry.is_dry ≡ false → OnOk result (TakesRow table.now images taken.entry.direction taken.entry.leaves_out (cells_in first.now) (cells_in second.old) (cells_in second.new) texts.old texts.new) }
+    ensures err { IfErr result (IsMemoryOr (λ e. (taken.entry.leaves_out ≡ false) × HasNoRow table.now images taken.entry.direction (cells_in first.now) (cells_in second.old) (cells_in second.new) e)) }
+{
     if taken.is_dry {
         return Ok(());
     }
@@ -292,8 +333,7 @@ fn add_taken_row<'a>(
     ) {
         Ok(()) => Ok(()),
         Err(NoStatement::Memory) => Err(NoStatement::Memory),
-        Err(why) if taken.leaves_out => add_comment(why, texts),
-        Err(why) => Err(why),
+        Err(why) => leave_out(taken.leaves_out, why, texts),
     }
 }
 

@@ -1,5 +1,5 @@
 -- The state of a source that gives the events of XA transactions, and what it may give from there on.
-use Rattle.std.specs.Prelude.{◌≡◌, ◌≤◌, ◌<◌, ◌+◌, ◌-◌, ◌*◌, ◌^◌, ◌++◌, ℕ, Bool, true, false, List, [], length, drop, Option}
+use Rattle.std.specs.Prelude.{◌≡◌, ◌≤◌, ◌<◌, ◌+◌, ◌-◌, ◌*◌, ◌^◌, ◌++◌, ℕ, Bool, true, false, List, [], length, drop, Option, ◌==◌}
 use Rattle.events_frames.specs.Events.{has_event, IsWholeEvent}
 use Rattle.events_frames.specs.GivenEvents.{MayBe}
 use Rattle.events_frames.specs.declared.event_error.EventError.{EventError}
@@ -19,6 +19,10 @@ source_of s = s.source
 -- what is known of XA transactions
 abbrev pub xa_of : {S : Type 0} → XaEvents S → XaState
 xa_of s = state_of s.transactions.now
+
+-- whether no transaction is prepared
+abbrev pub clear_of : {S : Type 0} → XaEvents S → Bool
+clear_of s = length (xa_of s).prepared == 0
 
 -- what is left in place of the newest event
 abbrev pub content_left : {S : Type 0} → XaEvents S → List ℕ

@@ -33,5 +33,5 @@ pub use table_filter::TableFilter;
 pub use tables::Table;
 pub use text_recorder::TextRecorder;
 pub use transactions::Transactions;
-pub use waiting::{MAX_WAITING_LEN, WaitingBytes};
+pub use waiting::{MAX_COPIED_LEN, MAX_WAITING_LEN, WaitingBytes};
 pub use writing::{put_all, put_shown};

@@ -1,6 +1,7 @@
 //! Bytes that wait to be written, so that many are written at once.
 
 ghost use Rattle.std.specs.Prelude.{◌≡◌, ◌≤◌, ◌<◌, ◌+◌, ◌-◌, ◌++◌, [], length, OnOk, IfOk, IfErr, true, false};
+ghost use Rattle.feed_documents.specs.DocumentForms.{AppendsOne};
 ghost use Rattle.std.specs.Io.KnownBytes.{Appends};
 ghost use Rattle.wire_buf.specs.Watched.{inner_of, has_failed};
 ghost use Rattle.feed_transactions.specs.TextStates.{text_if_shown};
@@ -10,6 +11,7 @@ ghost use Rattle.feed_transactions.specs.declared.waiting.TheConstants.{MAX_WAIT
 
 use crate::writing::put_all;
 use feed_checks::Verdict;
+use feed_text::WritingInRoom;
 use feed_writers::put_bytes;
 use std::alloc::{AllocError, Global};
 use std::io::Write;
@@ -19,7 +21,7 @@ use wire_buf::Watched;
 pub const MAX_WAITING_LEN: usize = 0x2_0000;
 
 /// The maximum length of a text that waits, in bytes: 16 KiB. Longer ones are written without a copy.
-const SHORT_LEN: usize = 0x4000;
+pub const MAX_COPIED_LEN: usize = 0x4000;
 
 /// Bytes that wait to be written.
 #[derive(Drop)]
@@ -59,6 +61,17 @@ impl WaitingBytes {
         ensures len { length (bytes_of self.new) ≡ length (bytes_of self.old) + length bytes.now }
     {
         self.len = put_bytes(self.buffer.as_mut_slice(), self.len, bytes);
+    }
+
+    /// Appends as much of a text as there is room for, and returns what is left.
+    #[tactic(auto, unfolding(crate::specs::Waiting::bytes_of))]
+    #[inline(always)]
+    pub fn put_in_room<W: WritingInRoom>(&mut self, writing: W) -> W::Left
+        ensures { AppendsOne (λ x. W.Wrote writing x result) (bytes_of self.old) (bytes_of self.new) }
+    {
+        let (len, left) = writing.put(self.buffer.as_mut_slice(), self.len);
+        self.len = len;
+        left
     }
 
     /// Writes the waiting bytes. `Write`: the writer failed after a prefix of them. None wait then.
@@ -102,7 +115,7 @@ impl WaitingBytes {
         ensures ok { OnOk result (WritesSome (W.contents (inner_of writer.old)) (W.contents (inner_of writer.new)) (bytes_of self.old) text.now (bytes_of self.new)) }
         ensures fault { IfErr result (IsInterruptedWrite (W.contents (inner_of writer.old)) (W.contents (inner_of writer.new)) (bytes_of self.old ++ text.now) (has_failed writer.new)) }
     {
-        if text.len() > SHORT_LEN {
+        if text.len() > MAX_COPIED_LEN {
             return self.put_long(text, writer);
         }
         self.write_if(self.room() < text.len(), writer)?;

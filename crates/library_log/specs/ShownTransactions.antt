@@ -4,7 +4,9 @@ use Rattle.feed_transactions.specs.Changes.{Committed}
 use Rattle.feed_change_log.specs.Filters.{takes_transaction}
 use Rattle.feed_change_log.specs.declared.filter.Filter.{Filter}
 use Rattle.changes_lines.specs.ChangeLines.{ChangeJson, transaction_lines}
-use Rattle.changes_lines.specs.RecordedLines.{HasChanges, has_some, members_of}
+use Rattle.changes_lines.specs.RecordedLines.{HasChanges, has_some, members_from}
+use Rattle.changes_lines.specs.WrittenLines.{is_by_transaction, resume_in}
+use Rattle.changes_lines.specs.declared.lines.Lines.{Lines}
 use Rattle.changes_lines.specs.declared.recorder.JsonRecorder.{JsonRecorder}
 use Rattle.changes_origins.specs.GtidJson.{IsGtidJson}
 
@@ -12,8 +14,8 @@ use Rattle.changes_origins.specs.GtidJson.{IsGtidJson}
 abbrev pub IsShown : Filter → JsonRecorder → Committed → Bool → Type 0
 IsShown f s t b = (xs : List ChangeJson) → HasChanges s xs → b ≡ (has_some xs && takes_transaction f t)
 
--- the text is the lines of the transaction
-pub record HasLines (by_transaction : Bool) (file : List ℕ) (s : JsonRecorder) (t : Committed) (text : List ℕ) : Type 0 where
+-- the text is the lines of the transaction, in their form, and with the place that they know to begin again
+pub record HasLines (lines : Lines) (file : List ℕ) (s : JsonRecorder) (t : Committed) (text : List ℕ) : Type 0 where
   pub gtid : List ℕ
   pub is : IsGtidJson t.gtid gtid
-  pub lines : (xs : List ChangeJson) → HasChanges s xs → text ≡ transaction_lines by_transaction file t gtid (members_of s) xs
+  pub text_is : (xs : List ChangeJson) → HasChanges s xs → text ≡ transaction_lines (is_by_transaction lines) file t gtid (members_from (resume_in lines) s) xs

@@ -28,7 +28,7 @@ pub(crate) fn lines_of(
     waiting: &mut WaitingBytes,
     text: Vec<u8>,
 ) -> Result<Vec<u8>, AllocError>
-    ensures lines { IfOk result (λ made. (t : Committed) → text.items ≡ [] → bytes_of waiting.old ≡ [] → IsDoneJson newest.now t → HasLines (is_by_transaction lines.old) file.now newest.now t made.items) }
+    ensures lines { IfOk result (λ made. (t : Committed) → text.items ≡ [] → bytes_of waiting.old ≡ [] → IsDoneJson newest.now t → HasLines lines.old file.now newest.now t made.items) }
     ensures kept { is_by_transaction lines.new ≡ is_by_transaction lines.old }
     ensures none { bytes_of waiting.old ≡ [] → bytes_of waiting.new ≡ [] }
 {

@@ -1,2 +1,4 @@
 pub mod LineSinkLemmas
+pub mod LentSinkLemmas
 pub mod CountSinkLemmas
+pub mod FollowedLineLemmas

@@ -21,9 +21,11 @@ use Rattle.changes_lines.specs.ChangeLines.{ChangeJson, AreLines, with_ends, tra
 use Rattle.changes_origins.specs.GtidJson.{IsGtidJson, IsTaggedJson, tagged_json}
 use Rattle.changes_origins.specs.MariadbGtids.{mariadb_gtid, mariadb_json, MariadbGtid}
 use Rattle.changes_origins.proofs.TaggedDecisions.{tagged_known}
-use Rattle.changes_lines.specs.RecordedLines.{IsDoneJson, IsLikeJson, added_of, facts_in, filter_of, has_some, members_of, options_of}
+use Rattle.changes_lines.specs.FactMembers.{LogPlace, with_resume}
+use Rattle.changes_lines.specs.RecordedLines.{IsDoneJson, IsLikeJson, added_of, facts_in, filter_of, has_some, members_from, members_of, options_of}
 use Rattle.changes_lines.specs.WrittenLines.{is_by_transaction}
 use Rattle.changes_origins.specs.declared.added_members.AddedMembers.{AddedMembers}
+use Rattle.changes_lines.specs.declared.lines.Lines.{Lines}
 use Rattle.changes_lines.specs.declared.recorder.JsonRecorder.{JsonRecorder}
 use Rattle.changes_lines.proofs.WriteLemmas.{writes_both, fails_then}
 use Rattle.changes_tables.specs.declared.columns.TableOptions.{TableOptions}
@@ -35,11 +37,11 @@ use Rattle.program_changes.specs.LineSinks.{AreSelectedLines, AreAllLines, IsRec
 use Rattle.program_changes.specs.declared.changes.LineSink.{LineSink}
 
 -- the lines of the newest transaction, of which a recorder has the selected changes
-pub newest_lines : (s : JsonRecorder) (f : Filter) (by : Bool) (file : List ℕ) (t : Committed) (gtid : List ℕ) (d : IsDoneJson s t) → IsGtidJson t.gtid gtid → filter_of s ≡ table_filter_of f → (options : TableOptions) → options_of s ≡ options → (added : AddedMembers) → added_of s ≡ added
-    → AreLines options added by file t (filter (takes_change f) t.changes) (transaction_lines by file t gtid (members_of s) d.opened.changes)
-newest_lines s f by file t gtid d is same options shown added asked =
-    subst (λ (x : TableFilter). AreLines options added by file t (filter (is_of_taken x) t.changes) (transaction_lines by file t gtid (members_of s) d.opened.changes)) same
-    (rw (← shown, ← asked) (d.opened.changes, d.opened.are, (gtid, is, (facts_in s, refl))))
+pub newest_lines : (s : JsonRecorder) (r : Option LogPlace) (f : Filter) (by : Bool) (file : List ℕ) (t : Committed) (gtid : List ℕ) (d : IsDoneJson s t) → IsGtidJson t.gtid gtid → filter_of s ≡ table_filter_of f → (options : TableOptions) → options_of s ≡ options → (added : AddedMembers) → added_of s ≡ added
+    → AreLines options added by file t (filter (takes_change f) t.changes) (transaction_lines by file t gtid (members_from r s) d.opened.changes)
+newest_lines s r f by file t gtid d is same options shown added asked =
+    subst (λ (x : TableFilter). AreLines options added by file t (filter (is_of_taken x) t.changes) (transaction_lines by file t gtid (members_from r s) d.opened.changes)) same
+    (rw (← shown, ← asked) (d.opened.changes, d.opened.are, (gtid, is, (with_resume r (facts_in s), refl))))
 
 zip_one : (R : Selected → List ℕ → Type 0) (m : List Selected) (texts : List (List ℕ)) (s : Selected) (x : List ℕ) → AllZip R m texts → R s x → AllZip R (m ++ s ∷ []) (texts ++ x ∷ [])
 zip_one R [] [] s x h k = (k, tt)
@@ -69,32 +71,36 @@ module _ {W : Type 0} (contents : W → Option (List ℕ)) (first old new : Line
   lines_none h has = subst (HasLines contents first old) (sym (ap (λ (l : List Selected). m ++ l) (none_selected h) ∙ append-nil m)) has
 
   -- one that is
-  pub lines_more : (s : JsonRecorder) (gtid : List ℕ) (d : IsDoneJson s t) → IsGtidJson t.gtid gtid → IsRecorderFor first f s → takes_transaction f t ≡ true → HasLines contents first old m → is_by_transaction new.lines.now ≡ is_by_transaction old.lines.now → new.file.now ≡ old.file.now → new.options ≡ old.options → new.added ≡ old.added
-      → WritesSome (contents (inner_of old.writer.now)) (contents (inner_of new.writer.now)) (bytes_of old.waiting.now) (transaction_lines (is_by_transaction old.lines.now) old.file.now t gtid (members_of s) d.opened.changes) (bytes_of new.waiting.now) → HasLines contents first new (m ++ selected f (t ∷ []))
-  lines_more s gtid d is alike taken has form name options added written =
-      let x = transaction_lines (is_by_transaction first.lines.now) first.file.now t gtid (members_of s) d.opened.changes in
-      let lines = newest_lines s f (is_by_transaction first.lines.now) first.file.now t gtid d is alike.filter first.options alike.options first.added alike.added in
+  pub lines_more : (s : JsonRecorder) (r : Option LogPlace) (gtid : List ℕ) (d : IsDoneJson s t) → IsGtidJson t.gtid gtid → IsRecorderFor first f s → takes_transaction f t ≡ true → HasLines contents first old m → is_by_transaction new.lines ≡ is_by_transaction old.lines → new.file.items ≡ old.file.items → new.options ≡ old.options → new.added ≡ old.added
+      → WritesSome (contents (inner_of old.writer)) (contents (inner_of new.writer)) (bytes_of old.waiting) (transaction_lines (is_by_transaction old.lines) old.file.items t gtid (members_from r s) d.opened.changes) (bytes_of new.waiting) → HasLines contents first new (m ++ selected f (t ∷ []))
+  lines_more s r gtid d is alike taken has form name options added written =
+      let x = transaction_lines (is_by_transaction first.lines) first.file.items t gtid (members_from r s) d.opened.changes in
+      let lines = newest_lines s r f (is_by_transaction first.lines) first.file.items t gtid d is alike.filter first.options alike.options first.added alike.added in
       record {
         text = has.text ++ x;
         form = form ∙ has.form;
         name = name ∙ has.name;
         options = options ∙ has.options;
         added = added ∙ has.added;
-        are = rw (one_selected taken) (all_lines_one first.options first.added (is_by_transaction first.lines.now) first.file.now m (selected_of f t) has.text x has.are lines);
+        are = rw (one_selected taken) (all_lines_one first.options first.added (is_by_transaction first.lines) first.file.items m (selected_of f t) has.text x has.are lines);
         written = writes_both _ _ _ _ _ _ has.text x has.written (rw (has.form, has.name) at written);
       }
 
   -- the writer failed within its lines
-  pub lines_cut : (s : JsonRecorder) (gtid : List ℕ) (d : IsDoneJson s t) → IsGtidJson t.gtid gtid → IsRecorderFor first f s → takes_transaction f t ≡ true → HasLines contents first old m → (v : Verdict)
-      → IsInterruptedWrite (contents (inner_of old.writer.now)) (contents (inner_of new.writer.now)) (bytes_of old.waiting.now ++ transaction_lines (is_by_transaction old.lines.now) old.file.now t gtid (members_of s) d.opened.changes) (has_failed new.writer.now) v → HasPrefix contents first new (m ++ selected f (t ∷ []))
-  lines_cut s gtid d is alike taken has v why =
-      let x = transaction_lines (is_by_transaction first.lines.now) first.file.now t gtid (members_of s) d.opened.changes in
-      let lines = newest_lines s f (is_by_transaction first.lines.now) first.file.now t gtid d is alike.filter first.options alike.options first.added alike.added in
-      let cut = fails_then _ _ _ _ _ has.text x (has_failed new.writer.now) v has.written (rw (has.form, has.name) at why) in
-      record { text = has.text ++ x; are = rw (one_selected taken) (all_lines_one first.options first.added (is_by_transaction first.lines.now) first.file.now m (selected_of f t) has.text x has.are lines); written = cut.1; failed = cut.2 }
+  pub lines_cut : (s : JsonRecorder) (r : Option LogPlace) (gtid : List ℕ) (d : IsDoneJson s t) → IsGtidJson t.gtid gtid → IsRecorderFor first f s → takes_transaction f t ≡ true → HasLines contents first old m → (v : Verdict)
+      → IsInterruptedWrite (contents (inner_of old.writer)) (contents (inner_of new.writer)) (bytes_of old.waiting ++ transaction_lines (is_by_transaction old.lines) old.file.items t gtid (members_from r s) d.opened.changes) (has_failed new.writer) v → HasPrefix contents first new (m ++ selected f (t ∷ []))
+  lines_cut s r gtid d is alike taken has v why =
+      let x = transaction_lines (is_by_transaction first.lines) first.file.items t gtid (members_from r s) d.opened.changes in
+      let lines = newest_lines s r f (is_by_transaction first.lines) first.file.items t gtid d is alike.filter first.options alike.options first.added alike.added in
+      let cut = fails_then _ _ _ _ _ has.text x (has_failed new.writer) v has.written (rw (has.form, has.name) at why) in
+      record { text = has.text ++ x; are = rw (one_selected taken) (all_lines_one first.options first.added (is_by_transaction first.lines) first.file.items m (selected_of f t) has.text x has.are lines); written = cut.1; failed = cut.2 }
+
+  -- lines that are written in the same form
+  pub lines_kept : (lines : Lines) → is_by_transaction lines ≡ is_by_transaction old.lines → HasLines contents first old m → HasLines contents first (record old { lines = lines }) m
+  lines_kept lines form has = record { text = has.text; form = form ∙ has.form; name = has.name; options = has.options; added = has.added; are = has.are; written = has.written }
 
   -- out of memory before it
-  pub lines_memory : HasLines contents first old m → FailsLines contents first old (m ++ selected f (t ∷ [])) failed.Memory
+  pub lines_memory : HasLines contents first new m → FailsLines contents first new (m ++ selected f (t ∷ [])) failed.Memory
   lines_memory has = (m, selected f (t ∷ []), refl, has)
 
 -- ---- a transaction without lines
@@ -127,8 +133,8 @@ lines_untaken contents first old f m t s d alike none has = of (takes_transactio
     of true e =
         let gtid = some_gtid t.gtid in
         let no = no_changes d.opened.changes (takes_transaction f t) e none in
-        lines_more contents first old old f m t s gtid.0 d gtid.1 alike e has refl refl refl refl
-        (rw (no, no_lines (is_by_transaction old.lines.now) old.file.now t gtid.0 (members_of s)) (writes_none (contents (inner_of old.writer.now)) (bytes_of old.waiting.now)))
+        lines_more contents first old old f m t s None gtid.0 d gtid.1 alike e has refl refl refl refl
+        (rw (no, no_lines (is_by_transaction old.lines) old.file.items t gtid.0 (members_of s)) (writes_none (contents (inner_of old.writer)) (bytes_of old.waiting)))
 
 taken_is : (b c : Bool) → (b && c) ≡ true → c ≡ true
 taken_is true c h = h
@@ -136,29 +142,17 @@ taken_is false c h = absurd (true≢false (sym h))
 
 -- the lines of a transaction that is selected were written; `form` is that of the lines when they were begun
 pub lines_taken : {W : Type 0} (contents : W → Option (List ℕ)) (first old new : LineSink W) (f : Filter) (m : List Selected) (t : Committed) (s : JsonRecorder) (d : IsDoneJson s t) → IsRecorderFor first f s → (has_some d.opened.changes && takes_transaction f t) ≡ true → HasLines contents first old m
-    → (gtid : List ℕ) → IsGtidJson t.gtid gtid → is_by_transaction new.lines.now ≡ is_by_transaction old.lines.now → {form : Bool} → form ≡ is_by_transaction old.lines.now → new.file.now ≡ old.file.now → new.options ≡ old.options → new.added ≡ old.added
-    → WritesSome (contents (inner_of old.writer.now)) (contents (inner_of new.writer.now)) (bytes_of old.waiting.now) (transaction_lines form old.file.now t gtid (members_of s) d.opened.changes) (bytes_of new.waiting.now) → HasLines contents first new (m ++ selected f (t ∷ []))
-lines_taken contents first old new f m t s d alike taken has gtid is kept begun name options added written =
-    lines_more contents first old new f m t s gtid d is alike (taken_is _ _ taken) has kept name options added (rw begun at written)
+    → (r : Option LogPlace) (gtid : List ℕ) → IsGtidJson t.gtid gtid → is_by_transaction new.lines ≡ is_by_transaction old.lines → {form : Bool} → form ≡ is_by_transaction old.lines → new.file.items ≡ old.file.items → new.options ≡ old.options → new.added ≡ old.added
+    → WritesSome (contents (inner_of old.writer)) (contents (inner_of new.writer)) (bytes_of old.waiting) (transaction_lines form old.file.items t gtid (members_from r s) d.opened.changes) (bytes_of new.waiting) → HasLines contents first new (m ++ selected f (t ∷ []))
+lines_taken contents first old new f m t s d alike taken has r gtid is kept begun name options added written =
+    lines_more contents first old new f m t s r gtid d is alike (taken_is _ _ taken) has kept name options added (rw begun at written)
 
 -- the writer failed within them
 pub lines_broken : {W : Type 0} (contents : W → Option (List ℕ)) (first old new : LineSink W) (f : Filter) (m : List Selected) (t : Committed) (s : JsonRecorder) (d : IsDoneJson s t) → IsRecorderFor first f s → (has_some d.opened.changes && takes_transaction f t) ≡ true → HasLines contents first old m
-    → (gtid : List ℕ) → IsGtidJson t.gtid gtid → {form : Bool} → form ≡ is_by_transaction old.lines.now → (v : Verdict)
-    → IsInterruptedWrite (contents (inner_of old.writer.now)) (contents (inner_of new.writer.now)) (bytes_of old.waiting.now ++ transaction_lines form old.file.now t gtid (members_of s) d.opened.changes) (has_failed new.writer.now) v → HasPrefix contents first new (m ++ selected f (t ∷ []))
-lines_broken contents first old new f m t s d alike taken has gtid is begun v why =
-    lines_cut contents first old new f m t s gtid d is alike (taken_is _ _ taken) has v (rw begun at why)
-
--- no line yet
-pub lines_at_first : {W : Type 0} (contents : W → Option (List ℕ)) (s : LineSink W) → HasLines contents s s []
-lines_at_first contents s = record {
-  text = [];
-  form = refl;
-  name = refl;
-  options = refl;
-  added = refl;
-  are = record { texts = []; are = tt; joined = refl };
-  written = writes_none (contents (inner_of s.writer.now)) (bytes_of s.waiting.now);
-}
+    → (r : Option LogPlace) (gtid : List ℕ) → IsGtidJson t.gtid gtid → {form : Bool} → form ≡ is_by_transaction old.lines → (v : Verdict)
+    → IsInterruptedWrite (contents (inner_of old.writer)) (contents (inner_of new.writer)) (bytes_of old.waiting ++ transaction_lines form old.file.items t gtid (members_from r s) d.opened.changes) (has_failed new.writer) v → HasPrefix contents first new (m ++ selected f (t ∷ []))
+lines_broken contents first old new f m t s d alike taken has r gtid is begun v why =
+    lines_cut contents first old new f m t s r gtid d is alike (taken_is _ _ taken) has v (rw begun at why)
 
 -- a recorder is like itself
 pub like_itself : {r : JsonRecorder} → IsLikeJson r r

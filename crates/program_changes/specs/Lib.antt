@@ -1,2 +1,5 @@
+pub mod FollowedLineLaws
+pub mod FollowedLines
+pub mod PrintedAnswers
 pub mod LineSinks
 pub mod CountSinks

@@ -1,5 +1,6 @@
 -- What `json` has written: the lines of the selected transactions.
-use Rattle.std.specs.Prelude.{◌≡◌, ◌⊎◌, ⊤, ℕ, Bool, true, List, [], ◌++◌, Option, Some, None, Result, Ok, Err}
+use Rattle.std.specs.Global.{Vec}
+use Rattle.std.specs.Prelude.{◌≡◌, ◌⊎◌, ⊤, ℕ, Bool, true, false, List, [], ◌++◌, Option, Some, None, Result, Ok, Err}
 use Rattle.std.specs.Io.KnownBytes.{Appends}
 use Rattle.std.specs.List.{AllZip, flat_map}
 use Rattle.wire_buf.specs.Watched.{inner_of, has_failed}
@@ -17,7 +18,9 @@ use Rattle.changes_origins.specs.declared.added_members.AddedMembers.{AddedMembe
 use Rattle.feed_change_log.specs.Filters.{table_filter_of}
 use Rattle.feed_change_log.specs.declared.filter.Filter.{Filter}
 use Rattle.changes_lines.specs.WrittenLines.{is_by_transaction}
+use Rattle.changes_lines.specs.declared.lines.Lines.{Lines}
 use Rattle.changes_tables.specs.declared.columns.TableOptions.{TableOptions}
+use Rattle.changes_tables.specs.declared.tables.Lacks.{Lacks}
 use Rattle.changes_tables.specs.declared.columns.Shown.TheVariants as shown
 use Rattle.changes_walks.specs.LogWalks.{EndsLog}
 use Rattle.changes_walks.specs.SourceStates.{Known}
@@ -45,19 +48,19 @@ pub record IsRecorderFor {W : Type 0} (s : LineSink W) (f : Filter) (newest : Js
 -- since the first state the lines of these transactions were put after what waited then
 pub record HasLines {W : Type 0} (contents : W → Option (List ℕ)) (first s : LineSink W) (m : List Selected) : Type 0 where
   pub text : List ℕ
-  pub form : is_by_transaction s.lines.now ≡ is_by_transaction first.lines.now
-  pub name : s.file.now ≡ first.file.now
+  pub form : is_by_transaction s.lines ≡ is_by_transaction first.lines
+  pub name : s.file.items ≡ first.file.items
   pub options : s.options ≡ first.options
   pub added : s.added ≡ first.added
-  pub are : AreAllLines first.options first.added (is_by_transaction first.lines.now) first.file.now m text
-  pub written : WritesSome (contents (inner_of first.writer.now)) (contents (inner_of s.writer.now)) (bytes_of first.waiting.now) text (bytes_of s.waiting.now)
+  pub are : AreAllLines first.options first.added (is_by_transaction first.lines) first.file.items m text
+  pub written : WritesSome (contents (inner_of first.writer)) (contents (inner_of s.writer)) (bytes_of first.waiting) text (bytes_of s.waiting)
 
 -- since then the writer failed after a prefix of these lines
 pub record HasPrefix {W : Type 0} (contents : W → Option (List ℕ)) (first s : LineSink W) (m : List Selected) : Type 0 where
   pub text : List ℕ
-  pub are : AreAllLines first.options first.added (is_by_transaction first.lines.now) first.file.now m text
-  pub written : WritesPrefix (contents (inner_of first.writer.now)) (contents (inner_of s.writer.now)) (bytes_of first.waiting.now ++ text)
-  pub failed : has_failed s.writer.now ≡ true
+  pub are : AreAllLines first.options first.added (is_by_transaction first.lines) first.file.items m text
+  pub written : WritesPrefix (contents (inner_of first.writer)) (contents (inner_of s.writer)) (bytes_of first.waiting ++ text)
+  pub failed : has_failed s.writer ≡ true
 
 -- it failed at the last of these: out of memory before a byte of its lines, or the writer failed within them
 abbrev pub FailsLines : {W : Type 0} → (W → Option (List ℕ)) → LineSink W → LineSink W → List Selected → Failure → Type 0
@@ -65,7 +68,7 @@ FailsLines contents first s m failed.Memory = (l : List Selected) × (last : Lis
 FailsLines contents first s m failed.Unwritten = HasPrefix contents first s m
 FailsLines contents first s m failed.Closed = ⊥
 
--- ---- a log
+-- ---- a sink
 
 -- how tables are shown, by the options
 abbrev pub table_options : Options → TableOptions
@@ -73,6 +76,56 @@ table_options o = record {
   unnamed = elim o.character_set [ None ↦ shown.Unknown | Some set ↦ shown.Text set ];
   quotes_numbers = o.quotes_numbers;
 }
+
+-- the same but for its name, and for what its lines know of places to begin again
+pub record Renames {W : Type 0} (old new : LineSink W) : Type 0 where
+  pub file : Vec ℕ
+  pub lines : Lines
+  pub form : is_by_transaction lines ≡ is_by_transaction old.lines
+  pub is : new ≡ record old { file = file; lines = lines }
+
+-- the same but for what its lines know of places to begin again
+pub record BeginsAt {W : Type 0} (old new : LineSink W) : Type 0 where
+  pub lines : Lines
+  pub form : is_by_transaction lines ≡ is_by_transaction old.lines
+  pub is : new ≡ record old { lines = lines }
+
+-- a sink for the lines of a log without a name, as options say; nothing waits, and the writer hasn't failed
+pub record IsNewSink {W : Type 0} (s : LineSink W) (o : Options) (lines : Lines) (lacks : Lacks) (writer : W) : Type 0 where
+  pub file_is : s.file.items ≡ []
+  pub lines_is : s.lines ≡ lines
+  pub lacks_is : s.lacks ≡ lacks
+  pub waiting_is : bytes_of s.waiting ≡ []
+  pub writer_is : inner_of s.writer ≡ writer
+  pub unfailed : has_failed s.writer ≡ false
+  pub options_is : s.options ≡ table_options o
+  pub added_is : s.added ≡ o.added
+
+-- all that waited was written, and then a line
+pub record HasWrittenLast {W : Type 0} (contents : W → Option (List ℕ)) (old new : LineSink W) (line : List ℕ) : Type 0 where
+  pub written : Appends (contents (inner_of old.writer)) (contents (inner_of new.writer)) (bytes_of old.waiting ++ line)
+  pub none : bytes_of new.waiting ≡ []
+  pub file_is : new.file ≡ old.file
+  pub lines_are : new.lines ≡ old.lines
+  pub options_are : new.options ≡ old.options
+  pub added_is : new.added ≡ old.added
+
+-- the writer failed after a prefix of both
+pub record IsCutAtLast {W : Type 0} (contents : W → Option (List ℕ)) (old new : LineSink W) (line : List ℕ) : Type 0 where
+  pub written : WritesPrefix (contents (inner_of old.writer)) (contents (inner_of new.writer)) (bytes_of old.waiting ++ line)
+  pub failed : has_failed new.writer ≡ true
+
+abbrev pub WritesLast : {W : Type 0} → (W → Option (List ℕ)) → LineSink W → LineSink W → List ℕ → Result ⊤ Verdict → Type 0
+WritesLast contents old new line (Ok u) = HasWrittenLast contents old new line
+WritesLast contents old new line (Err v) = IsCutAtLast contents old new line
+
+-- since memory ran out the lines that waited were written, and why it fails then
+abbrev pub FailsForMemory : {W : Type 0} → (W → Option (List ℕ)) → LineSink W → LineSink W → Failure → Type 0
+FailsForMemory contents old new failed.Memory = HasWrittenLast contents old new []
+FailsForMemory contents old new failed.Unwritten = IsCutAtLast contents old new []
+FailsForMemory contents old new failed.Closed = ⊥
+
+-- ---- a log
 
 -- why a walk ended, if the lines that waited then weren't written
 abbrev pub unwritten : LogEnd → LogEnd
@@ -87,8 +140,8 @@ IsEnd end (Err v) result = result ≡ unwritten end
 -- the lines that waited were written; or the writer failed after a prefix of them
 abbrev pub Finishes : {W : Type 0} → (W → Option (List ℕ)) → LineSink W → LineSink W → LogEnd → LogEnd → Type 0
 Finishes contents s new end result =
-    ((result ≡ end) × Appends (contents (inner_of s.writer.now)) (contents (inner_of new.writer.now)) (bytes_of s.waiting.now))
-    ⊎ ((result ≡ unwritten end) × WritesPrefix (contents (inner_of s.writer.now)) (contents (inner_of new.writer.now)) (bytes_of s.waiting.now) × (has_failed new.writer.now ≡ true))
+    ((result ≡ end) × Appends (contents (inner_of s.writer)) (contents (inner_of new.writer)) (bytes_of s.waiting))
+    ⊎ ((result ≡ unwritten end) × WritesPrefix (contents (inner_of s.writer)) (contents (inner_of new.writer)) (bytes_of s.waiting) × (has_failed new.writer ≡ true))
 
 -- the lines of a log were written: `sink` is the state before those that waited at its end were
 pub record WritesLog {W : Type 0} (contents : W → Option (List ℕ)) (judge : Judge) (f : Filter) (start stop : Option ℕ) (known : Known) (b : List ℕ) (first new : LineSink W) (result : LogEnd) : Type 0 where

@@ -1,5 +1,8 @@
 //! What is said about an answer that can't be followed.
 
+ghost use Rattle.std.specs.Prelude.{◌≡◌, ◌⊎◌, max};
+ghost use Rattle.changes_walks.specs.Findings.{status_of_verdict};
+
 use crate::outcomes::say;
 use changes_commands::Text;
 use changes_walks::{Checked, DAMAGED, FAILED, SourceFault, put_checked, status_of_verdict};
@@ -12,7 +15,9 @@ use std::str;
 const INPUT: &str = "standard input";
 
 /// Prints what is wrong with an answer, and returns the status.
-pub(crate) fn say_wrong(rt: &impl Eprint, meaning: &str, status: u8) -> u8 {
+pub(crate) fn say_wrong(rt: &impl Eprint, meaning: &str, status: u8) -> u8
+    ensures { result ≡ status }
+{
     let _ = eprintln!(rt; "binlog-changes: {INPUT}: {meaning}");
     status
 }
@@ -55,7 +60,9 @@ fn meaning_of(verdict: Verdict) -> &'static str {
 }
 
 /// Prints what a packet is that isn't one of an event. Returns the status.
-pub(crate) fn say_packet(rt: &impl Eprint, verdict: Verdict, payload: &[u8]) -> u8 {
+pub(crate) fn say_packet(rt: &impl Eprint, verdict: Verdict, payload: &[u8]) -> u8
+    ensures { result ≡ status_of_verdict verdict }
+{
     let status = status_of_verdict(verdict);
     if let Verdict::ServerError = verdict {
         say_server_error(rt, payload);
@@ -72,14 +79,16 @@ fn position_of(event: &[u8]) -> u64 {
     u64::from(log_pos(event)).saturating_sub(event.len() as u64)
 }
 
-/// Prints at which event of a server's log following ended, and why. Returns the status.
+/// Prints at which event of a server's log following ended, and why. Returns the status: 3, if memory runs out for what is printed.
 pub(crate) fn say_fault(
     rt: &HostRuntime,
     name: &[u8],
     event: &[u8],
     stop: Stop,
     fault: Option<SourceFault>,
-) -> u8 {
+) -> u8
+    ensures { (result ≡ max (status_of_verdict stop.verdict) 1) ⊎ (result ≡ 3) }
+{
     let stop = Stop {
         offset: position_of(event),
         ..stop

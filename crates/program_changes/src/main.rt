@@ -10,6 +10,7 @@ mod follow;
 mod follow_messages;
 mod outcomes;
 mod parts;
+mod printer;
 mod reached;
 mod run;
 mod schema;

@@ -1,29 +1,74 @@
 //! How far the logs of an answer were read, for lines that say so.
 
+ghost use Rattle.changes_commands.specs.GrowingTexts.{IsLonger};
+ghost use Rattle.program_changes.specs.FollowedLines.{progress_line};
+
 use changes_commands::Text;
 use events_frames::{BinlogEventHeader, has_type, log_pos};
 use rows_constants::EventType;
 use std::time::Instant;
 
+/// Tells whether a time has passed since it was set.
+pub(crate) trait Timer {
+    /// Whether at least so many seconds have passed; false where the time isn't known.
+    fn has_passed(&self, seconds: u32) -> bool;
+
+    /// Sets it to now.
+    fn set(&mut self);
+}
+
+/// A timer by the clock of the system.
+#[derive(Drop)]
+pub(crate) struct Stopwatch<'r> {
+    rt: &'r HostRuntime,
+    since: Option<Instant>,
+}
+
+impl<'r> Stopwatch<'r> {
+    /// One that is set now.
+    pub(crate) fn new(rt: &'r HostRuntime) -> Stopwatch<'r> {
+        Stopwatch {
+            rt,
+            since: Instant::now(rt).ok(),
+        }
+    }
+}
+
+impl Timer for Stopwatch<'_> {
+    fn has_passed(&self, seconds: u32) -> bool {
+        let Some(since) = self.since else {
+            return false;
+        };
+        match since.elapsed(self.rt) {
+            Ok(elapsed) => elapsed.as_secs() >= u64::from(seconds),
+            Err(_) => false,
+        }
+    }
+
+    fn set(&mut self) {
+        self.since = Instant::now(self.rt).ok();
+    }
+}
+
 /// How far the logs were read, and when a line said it.
 #[derive(Drop)]
-pub(crate) struct Reached {
+pub(crate) struct Reached<T: Timer> {
     /// After how many seconds a line says it again; None: no lines.
     seconds: Option<u32>,
-    /// When the newest line was printed, or when reading began.
-    said: Option<Instant>,
+    /// Set when the newest line was printed, or when reading began.
+    timer: T,
     /// The position in the newest log.
     position: u32,
     /// Whether no line has it yet.
     is_new: bool,
 }
 
-impl Reached {
+impl<T: Timer> Reached<T> {
     /// Nothing was read. A line is to say it at most every so many seconds.
-    pub(crate) fn new(rt: &HostRuntime, seconds: Option<u32>) -> Reached {
+    pub(crate) fn new(timer: T, seconds: Option<u32>) -> Reached<T> {
         Reached {
             seconds,
-            said: Instant::now(rt).ok(),
+            timer,
             position: 0,
             is_new: false,
         }
@@ -35,10 +80,11 @@ impl Reached {
         self.position = position;
     }
 
-    /// An event was read. A heartbeat has the position after the newest event of a log, a ROTATE_EVENT that of the next log's first.
-    pub(crate) fn after(&mut self, event: &[u8]) {
+    /// An event was read. A heartbeat has the position after the newest event of a log, a ROTATE_EVENT that of the next log's first,
+    /// which is returned.
+    pub(crate) fn after(&mut self, event: &[u8]) -> Option<u32> {
         if event.len() < BinlogEventHeader::LEN {
-            return;
+            return None;
         }
         if has_type(event, EventType::HEARTBEAT_EVENT) && log_pos(event) > 0 {
             self.at(log_pos(event));
@@ -48,22 +94,23 @@ impl Reached {
         {
             self.position = u32::from_le_bytes([*a, *b, *c, *d]);
             self.is_new = true;
+            return Some(self.position);
         }
+        None
     }
 
     /// Whether a line is to say it.
-    pub(crate) fn is_due(&self, rt: &HostRuntime) -> bool {
-        match (self.seconds, self.said) {
-            (Some(seconds), Some(said)) if self.is_new => match said.elapsed(rt) {
-                Ok(elapsed) => elapsed.as_secs() >= u64::from(seconds),
-                Err(_) => false,
-            },
+    pub(crate) fn is_due(&self) -> bool {
+        match self.seconds {
+            Some(seconds) if self.is_new => self.timer.has_passed(seconds),
             _ => false,
         }
     }
 
     /// Appends the line, for the log of this name.
-    pub(crate) fn put(&self, file: &[u8], out: &mut Text) {
+    pub(crate) fn put(&self, file: &[u8], out: &mut Text)
+        ensures { IsLonger out.old out.new (progress_line file.now self.now.position) }
+    {
         out.words("{\"type\":\"progress\",\"file\":");
         out.text(file);
         out.words(",\"position\":");
@@ -72,8 +119,8 @@ impl Reached {
     }
 
     /// A line said it now.
-    pub(crate) fn was_said(&mut self, rt: &HostRuntime) {
-        self.said = Instant::now(rt).ok();
+    pub(crate) fn was_said(&mut self) {
+        self.timer.set();
         self.is_new = false;
     }
 }

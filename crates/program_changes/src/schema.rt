@@ -145,8 +145,8 @@ pub(crate) fn begin_schemas(options: &Options<'_>, log: Log<'_>, sources: &mut S
     }
 }
 
-/// Says how a table of the schema differs from the log's.
-fn say_misfit(rt: &impl Eprint, misfit: &Misfit) {
+/// Says how a table of the schema in this file differs from the log's.
+fn say_misfit(rt: &impl Eprint, path: &str, misfit: &Misfit) {
     let (Ok(database), Ok(table)) = (
         std::str::from_utf8(&misfit.database),
         std::str::from_utf8(&misfit.table),
@@ -157,13 +157,13 @@ fn say_misfit(rt: &impl Eprint, misfit: &Misfit) {
         Difference::OtherCount(count) => {
             let columns = misfit.columns;
             let _ = eprintln!(rt;
-                "binlog-changes: the schema isn't used for {database}.{table}: number of columns there: {columns}, in the log: {count}"
+                "binlog-changes: {path}: the schema isn't used for {database}.{table}: number of columns there: {columns}, in the log: {count}"
             );
         }
         Difference::OtherType(column) => {
             let column = column.saturating_add(1);
             let _ = eprintln!(rt;
-                "binlog-changes: the schema isn't used for {database}.{table}: column {column} has another type in the log"
+                "binlog-changes: {path}: the schema isn't used for {database}.{table}: column {column} has another type in the log"
             );
         }
     }
@@ -173,8 +173,10 @@ fn say_misfit(rt: &impl Eprint, misfit: &Misfit) {
 pub(crate) fn say_misfits(rt: &HostRuntime, options: &Options<'_>, schemas: &Schemas) {
     let names = FilteredNames(filter_of(options));
     for misfit in schemas.misfits() {
-        if names.takes_table(&misfit.database, &misfit.table) {
-            say_misfit(rt, misfit);
+        if names.takes_table(&misfit.database, &misfit.table)
+            && let Some(file) = options.schemas.iter().rev().nth(misfit.schema)
+        {
+            say_misfit(rt, file.path, misfit);
         }
     }
 }

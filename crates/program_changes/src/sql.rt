@@ -323,7 +323,12 @@ impl<W: Write> TransactionSink<ChangeRecorder> for SqlSink<'_, W> {
         CommittedTransaction::of(newest).log_pos()
     }
 
-    fn take(&mut self, filter: Filter<'_>, newest: &ChangeRecorder) -> Result<(), Failure> {
+    fn take(
+        &mut self,
+        filter: Filter<'_>,
+        newest: &ChangeRecorder,
+        _is_clear: bool,
+    ) -> Result<(), Failure> {
         let transaction = CommittedTransaction::of(newest);
         if !filter.takes_transaction(transaction) {
             return Ok(());

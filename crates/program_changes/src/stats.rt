@@ -39,7 +39,12 @@ impl<'f> TransactionSink<StatsRecorder<'f>> for StatsSink<'_> {
         newest.commit_header().log_pos()
     }
 
-    fn take(&mut self, filter: Filter<'_>, newest: &StatsRecorder<'f>) -> Result<(), Failure>
+    fn take(
+        &mut self,
+        filter: Filter<'_>,
+        newest: &StatsRecorder<'f>,
+        _is_clear: bool,
+    ) -> Result<(), Failure>
         ensures ok { OnOk result ((first : StatsSink) (m : List Selected) (t : Committed) → filter_of newest.now ≡ table_filter_of filter.entry → IsDoneCounts newest.now t → CountsAll first self.old m → CountsAll first self.new (m ++ selected filter.entry (t ∷ []))) }
         ensures err { IfErr result (λ e. (first : StatsSink) (m : List Selected) (t : Committed) → filter_of newest.now ≡ table_filter_of filter.entry → IsDoneCounts newest.now t → CountsAll first self.old m → e ≡ Memory) }
     {

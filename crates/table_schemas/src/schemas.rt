@@ -45,6 +45,8 @@ const MAX_LEN: usize = 0xffff_ffff;
 pub struct Misfit {
     pub database: Vec<u8>,
     pub table: Vec<u8>,
+    /// The index of the schema that has the table, as [`Schemas::begin`] takes it.
+    pub schema: usize,
     /// What differs first.
     pub difference: Difference,
     /// The number of columns in the schema.
@@ -107,6 +109,18 @@ fn table_at<'s>(schemas: &'s [SchemaFrom], event: &[u8], names: &[u8]) -> Option
         }
     }
     None
+}
+
+/// The index of the schema that an event's table is in.
+fn index_at(schemas: &[SchemaFrom], event: &[u8], names: &[u8]) -> usize
+    requires { 19 ≤ length event.now }
+{
+    for (index, from) in schemas.iter().enumerate() {
+        if from.table_at(event, names).is_some() {
+            return index;
+        }
+    }
+    0
 }
 
 /// The bytes of an event before its checksum; None if that is wrong.
@@ -267,6 +281,7 @@ impl Schemas {
                     self.alloc,
                     names,
                     map,
+                    index_at(self.schemas.as_slice(), event, names),
                     difference,
                     columns,
                     &mut self.misfits,
@@ -281,6 +296,7 @@ fn note(
     alloc: Global,
     names: &[u8],
     map: &TableMapEvent<'_>,
+    schema: usize,
     difference: Difference,
     columns: u64,
     misfits: &mut BTreeMap<Vec<u8>, Misfit>,
@@ -291,6 +307,7 @@ fn note(
     let misfit = Misfit {
         database: Vec::from_slice(alloc, map.database_name_raw())?,
         table: Vec::from_slice(alloc, map.table_name_raw())?,
+        schema,
         difference,
         columns,
     };

@@ -1,0 +1,5 @@
+pub mod EndLemmas
+pub mod EventLemmas
+pub mod FollowLemmas
+pub mod PushLemmas
+pub mod WriteOutLemmas

@@ -1,0 +1,2 @@
+pub mod FollowedAnswers
+pub mod FollowedEnds
