@@ -10,7 +10,7 @@ struct part {
     uint8_t *at;
 };
 
-uint32_t cuvragyen_state_open(struct part *state, const uint8_t *options, size_t len);
+uint32_t cuvragyen_state_open(struct part *state, const uint8_t *options, size_t len, const uint8_t *schema, size_t schema_len, uint64_t *line);
 uint32_t cuvragyen_log_open(struct part *log, struct part *state);
 void cuvragyen_part_close(struct part *part);
 
@@ -19,6 +19,12 @@ const char *cuvragyen_version(void) {
 }
 
 uint32_t cuvragyen_open(cuvragyen *log, const char *options, size_t len) {
+    static const uint8_t none[1];
+    uint64_t line = 0;
+    return cuvragyen_open_with_schema(log, options, len, none, 0, &line);
+}
+
+uint32_t cuvragyen_open_with_schema(cuvragyen *log, const char *options, size_t len, const uint8_t *schema, size_t schema_len, uint64_t *line) {
     if (log->log) {
         return CUVRAGYEN_OPEN_HANDLE;
     }
@@ -28,7 +34,7 @@ uint32_t cuvragyen_open(cuvragyen *log, const char *options, size_t len) {
     }
     memcpy(text, options, len);
     struct part made = {0}, state = {0};
-    uint32_t result = cuvragyen_state_open(&state, text, len);
+    uint32_t result = cuvragyen_state_open(&state, text, len, schema, schema_len, line);
     struct part kept = state;
     if (result == CUVRAGYEN_OK) {
         result = cuvragyen_log_open(&made, &state);

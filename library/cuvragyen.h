@@ -12,6 +12,8 @@
        cuvragyen_stop(&log, &stop);
        cuvragyen_close(&log);
 
+   With the option records=1 cuvragyen_show gives binary records in place of lines: cuvragyen_record.h reads them.
+
    docs/guarantees/PROVED.md says what is proved of these calls, and what is trusted.
 
    Rules for all calls:
@@ -64,6 +66,7 @@ enum {
     CUVRAGYEN_BAD_OPTION = 3,     /* an option's name is unknown */
     CUVRAGYEN_BAD_VALUE = 4,      /* an option's value is wrong */
     CUVRAGYEN_OPEN_HANDLE = 5,    /* the handle is open */
+    CUVRAGYEN_BAD_SCHEMA = 6,     /* the schema can't be read */
     CUVRAGYEN_END = 100,          /* the log ended after or within an event */
     CUVRAGYEN_MARK = 102,         /* it doesn't begin with the magic number fe 62 69 6e */
     CUVRAGYEN_FRAME = 107,        /* an event is too short */
@@ -90,6 +93,7 @@ const char *cuvragyen_version(void);
    options are len bytes: a line for each option, NAME=VALUE, as the program binlog-changes has them. The last line needs no line feed.
        file=NAME                 the name of the log, for the member "file" of JSON lines
        transactions=1            a JSON line for each transaction, and not for each row
+       records=1                 a binary record for each transaction, and no lines: cuvragyen_record.h reads it
        with=NAME                 a member more: begin, ts_ms, xid, thread_id, query, row, all; several lines
        numbers-as-strings=1      the numbers of BIGINT columns as strings
        character-set=NAME        the character set of text whose character set isn't in the log
@@ -106,6 +110,14 @@ const char *cuvragyen_version(void);
    CUVRAGYEN_OK; or CUVRAGYEN_OPEN_HANDLE, _BAD_OPTION, _BAD_VALUE or _MEMORY, and the handle is unchanged. */
 uint32_t cuvragyen_open(cuvragyen *log, const char *options, size_t len);
 
+/* The same, with a schema that completes table maps: the names, signs, character sets, keys and members that a log without
+   binlog_row_metadata=FULL hasn't. schema are schema_len bytes, the text of a file as binlog-changes --schema takes it; no bytes: no schema.
+   Its tables are those from the first event of the log on. The bytes may be freed after the call.
+
+   As cuvragyen_open; or CUVRAGYEN_BAD_SCHEMA, the handle is unchanged, and *line is the number of the line, from 1 on, that can't be
+   read. Without this error *line is unchanged. */
+uint32_t cuvragyen_open_with_schema(cuvragyen *log, const char *options, size_t len, const uint8_t *schema, size_t schema_len, uint64_t *line);
+
 /* Keeps the next len bytes of the log, a piece of any length. They are copied: the memory is the caller's again after the call. Take the
    transactions that are complete by cuvragyen_next before the next piece, or the pieces that wait take memory.
 
@@ -118,7 +130,7 @@ uint32_t cuvragyen_push(cuvragyen *log, const uint8_t *bytes, size_t len);
    the log's first fault, now and at each later call. */
 uint32_t cuvragyen_next(cuvragyen *log);
 
-/* Makes the JSON lines of the newest transaction, and says where they are: bytes that are valid until the next call that gets the
+/* Makes the JSON lines of the newest transaction, or its binary record, and says where they are: bytes that are valid until the next call that gets the
    handle, but for cuvragyen_commit.
 
    CUVRAGYEN_TRANSACTION; CUVRAGYEN_OK if there is no transaction: of no bytes; CUVRAGYEN_CLOSED_HANDLE, and the view is unchanged; or

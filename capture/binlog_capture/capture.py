@@ -10,6 +10,7 @@ import sys
 import threading
 import time
 
+from .acknowledging import Acknowledging
 from .faults import Dropped, Final, Stuck
 from .gtids import gtids_of
 from .output import write_all
@@ -118,29 +119,42 @@ class Capture:
         if self.stopping.is_set():
             return
         place = self.rewound(server, self.prepare(server, place))
-        packets = Packets()
+        is_semi_sync = self.is_waited_for(server)
+        packets = Packets(is_semi_sync=is_semi_sync)
         if self.gtids is not None and self.reports_progress:
             self.passed.clear()
             packets.on_gtid = lambda *passed: self.passed.append(passed)
-        self.request(server, place)
+        self.request(server, place, is_semi_sync)
         self.status.connected(server.name, packets)
-        process = self.start_follow(place)
+        acknowledging = Acknowledging() if is_semi_sync else None
+        process = self.start_follow(place, acknowledging)
         self.pump_fault = None
-        pump = threading.Thread(target=self.pump, args=(server, packets, process.stdin))
+        pump = threading.Thread(target=self.pump, args=(server, packets, process.stdin, acknowledging))
         pump.start()
         try:
-            self.copy(process.stdout.fileno())
+            self.copy(process.stdout.fileno(), acknowledging)
         finally:
             fault = self.pump_fault  # none, if follow ended before the connection did
             server.hang_up()
             process.stdout.close()  # so that neither follow nor the pump waits for us
             pump.join()
             status = process.wait()
+            if acknowledging:
+                acknowledging.close()
         self.judge(status, fault)
 
-    def request(self, server, place):
+    def is_waited_for(self, server):
+        """Whether a COMMIT waits for the output, as far as that is wanted."""
+        if not self.options.semi_sync:
+            return False
+        waits = server.waits_for_replicas()
+        if not waits:
+            say(f"{server.name}: semi-synchronous replication is off: no COMMIT waits for the output")
+        return waits
+
+    def request(self, server, place, is_semi_sync):
         by_gtids = self.gtids is not None and place.gtids is not None
-        server.request(place, by_gtids, self.options.heartbeat)
+        server.request(place, by_gtids, self.options.heartbeat, is_semi_sync)
         said = f"after {place.gtids or 'no GTID'}" if by_gtids else f"from {place.file} {place.position}"
         say(f"connected to {server.name}, {said}")
 
@@ -200,21 +214,29 @@ class Capture:
     def end_of_transaction(self):
         return b"\n" if self.options.by_transaction else COMMIT
 
-    def start_follow(self, place):
+    def start_follow(self, place, acknowledging):
         words = [self.programs.changes, "follow", *self.options.follow]
         words += ["--log-name", place.file] if place.file else []
         words += ["--progress", "1"] if self.reports_progress else []
-        process = subprocess.Popen(words, stdin=subprocess.PIPE, stdout=subprocess.PIPE, bufsize=0, start_new_session=True)
+        kept = []
+        if acknowledging:
+            words += ["--semi-sync", acknowledging.path()]
+            kept = [acknowledging.into]
+        process = subprocess.Popen(
+            words, stdin=subprocess.PIPE, stdout=subprocess.PIPE, bufsize=0, start_new_session=True, pass_fds=kept
+        )
+        if acknowledging:
+            acknowledging.begun()
         with contextlib.suppress(ImportError, AttributeError, OSError):
             import fcntl
 
             fcntl.fcntl(process.stdin.fileno(), fcntl.F_SETPIPE_SZ, PIPE_SIZE)
         return process
 
-    def pump(self, server, packets, pipe):
+    def pump(self, server, packets, pipe, acknowledging):
         """Passes the packets of the answer to follow, until either ends: a thread of its own."""
         try:
-            for piece in server.answer(packets):
+            for piece in server.answer(packets, acknowledging):
                 self.status.arrived()
                 write_all(pipe.fileno(), piece)
             self.pump_fault = Dropped(f"{server.name}: the server ended its answer")
@@ -226,20 +248,34 @@ class Capture:
             with contextlib.suppress(OSError):
                 pipe.close()
 
-    def copy(self, number):
+    def copy(self, number, acknowledging):
         """Writes the lines of follow, whole transactions at once, until it ends."""
         lines = Lines(self.options.by_transaction)
+        waited = [number, acknowledging.asked] if acknowledging else [number]
         while True:
-            if select.select([number], [], [], TICK)[0]:
+            ready, packet = select.select(waited, [], [], TICK)[0], b""
+            if acknowledging and acknowledging.asked in ready:
+                packet = acknowledging.read()
+                if packet is None:
+                    waited = [number]
+                ready = select.select([number], [], [], 0)[0]  # follow wrote the lines before
+            while ready:
                 data = os.read(number, READ_SIZE)
                 if not data:
-                    break
-                if whole := lines.push(data):
-                    self.write(whole)
-                if not self.skipped and (part := lines.part()):
-                    self.sink.write(part, False)
+                    return self.save()
+                self.take(lines, data)
+                ready = select.select([number], [], [], 0)[0] if packet else []
+            if packet:
+                self.sink.sync()
+                acknowledging.send(packet)
             self.tick()
-        self.save()
+
+    def take(self, lines, data):
+        """Takes what follow wrote, and writes what is whole of it."""
+        if whole := lines.push(data):
+            self.write(whole)
+        if not self.skipped and (part := lines.part()):
+            self.sink.write(part, False)
 
     def write(self, lines):
         """Writes whole transactions, without the lines that say how far follow read."""

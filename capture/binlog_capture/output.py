@@ -186,6 +186,13 @@ class Output:
         self.length += len(lines)
         self.whole = self.length if is_whole else self.whole
 
+    def sync(self):
+        """Makes the output durable."""
+        try:
+            os.fsync(self.number)
+        except OSError as error:
+            raise Stuck(f"{self.path}: {error.strerror}") from error
+
     def save(self, place, _written, **members):
         """Makes the output durable, and then saves how far it goes."""
         try:

@@ -1,5 +1,6 @@
 """A server: the login, which is PyMySQL's, where its log begins and ends, and dump requests."""
 import os
+import select
 import ssl
 import struct
 import sys
@@ -27,6 +28,7 @@ REFUSALS = (1044, 1045, 1049, 1130, 1227, 1251, 1698, 2049, 2059)
 FATAL_READ_ERROR = 1236
 CONNECT_SECONDS = 10
 READ_SIZE = 1 << 17
+SEMI_SYNC = ("rpl_semi_sync_master_enabled", "rpl_semi_sync_source_enabled")
 
 # A position of a log, and the GTIDs up to it as a text; None where it isn't known.
 Place = namedtuple("Place", "file position gtids")
@@ -172,13 +174,19 @@ class Server:
         except (pymysql.Error, OSError) as error:
             raise self.fault(error) from error
 
-    def request(self, place, by_gtids, period):
+    def waits_for_replicas(self):
+        """Whether a COMMIT waits until a semi-synchronous replica has acknowledged its transaction."""
+        return any((self.row(f"SELECT @@GLOBAL.{name}", [UNKNOWN_VARIABLE]) or [0])[0] for name in SEMI_SYNC)
+
+    def request(self, place, by_gtids, period, is_semi_sync=False):
         """Asks for the events after a place, without an end, with a heartbeat after so many seconds without an event."""
         self.row(CHECKSUMS, [UNKNOWN_VARIABLE])
         nanoseconds = int(period * 10**9)
         self.row(f"SET @master_heartbeat_period = {nanoseconds}, @source_heartbeat_period = {nanoseconds}")
         if self.is_mariadb:
             self.row("SET @mariadb_slave_capability = 4")
+        if is_semi_sync:
+            self.row("SET @rpl_semi_sync_slave = 1, @rpl_semi_sync_replica = 1")
         if by_gtids and self.is_mariadb:
             self.row(f"SET @slave_connect_state = {self.connection.escape(place.gtids)}")
             self.row("SET @slave_gtid_strict_mode = 1, @slave_gtid_ignore_duplicates = 0")
@@ -208,12 +216,16 @@ class Server:
         self.connection._sock.settimeout(None)
         self.command(request[4], request[5:])
 
-    def answer(self, packets: Packets):
-        """The whole packets of the answer, piece by piece, as they arrive."""
-        reader = self.connection._rfile
+    def answer(self, packets: Packets, acknowledging=None):
+        """The whole packets of the answer, piece by piece, as they arrive. Meanwhile it sends acknowledgements that are due."""
+        sock, reader = self.connection._sock, self.connection._rfile
         while not packets.is_over:
             try:
-                data = reader.read1(READ_SIZE)
+                if acknowledging:
+                    self.acknowledge(sock, acknowledging)
+                    data = sock.recv(READ_SIZE)
+                else:
+                    data = reader.read1(READ_SIZE)
             except (OSError, ValueError) as error:
                 raise Dropped(f"{self.name}: the connection dropped: {error}") from error
             if not data:
@@ -222,6 +234,15 @@ class Server:
         if packets.error:
             number, text = packets.error.number, f"{self.name}: error {packets.error.number}: {packets.error}"
             raise Final(text, number=number) if number in (FATAL_READ_ERROR, *REFUSALS) else Dropped(text)
+
+    def acknowledge(self, sock, acknowledging):
+        """Sends acknowledgements until there is something to read. Only this thread uses the connection, as TLS wants it."""
+        while not (isinstance(sock, ssl.SSLSocket) and sock.pending()):
+            ready = select.select([sock, acknowledging.due], [], [], sock.gettimeout())[0]
+            if acknowledging.due in ready:
+                sock.sendall(acknowledging.take())
+            if sock in ready or not ready:
+                break
 
     def hang_up(self):
         """Ends the connection, also while another thread reads from it."""

@@ -1,11 +1,12 @@
 /* Tries libcuvragyen from C, for checks/programs/library.
 
-   library lines FILE SEED OPTIONS: prints JSON lines of a log that is pushed in pieces of random lengths, or of one byte if SEED is 1;
+   library lines FILE SEED OPTIONS SCHEMA: prints JSON lines or records of a log that is pushed in pieces of random lengths, or of one byte if SEED is 1;
    on standard error how the log ended, and before it for each transaction what the commit's header has.
    library misuse FILE: makes calls that a careful program doesn't.
    library beside FILE OTHER: reads two logs by turns, and each finds what it finds alone.
    library threads FILE: 8 threads read the log, and one handle goes from thread to thread; prints nothing if all find the same.
-   library refused FILE OPTIONS: each allocation fails in turn; prints how many runs there were. A log then shows
+   library schema FILE OPTIONS SCHEMA: opens a log, and prints the number that this returns, and the line of the schema.
+   library refused FILE OPTIONS SCHEMA: each allocation fails in turn; prints how many runs there were. A log then shows
    no other transactions, and ends by Memory, or at an event that others should have replaced, or all is the same in another way. */
 #define _GNU_SOURCE
 #include <cuvragyen.h>
@@ -116,11 +117,15 @@ static void print_end(cuvragyen_end end) {
     fprintf(stderr, end.has_last_commit ? "%u}\n" : "null}\n", end.last_commit);
 }
 
+/* The schema of logs that are read. */
+static const char *schema = "";
+
 /* Reads a log in pieces. Each piece is freed before the next call, so that a checker sees a use of it. */
 static struct result read_log(struct bytes all, unsigned seed, const char *options, FILE *out) {
     struct result found = {0, 0, 0};
     cuvragyen log = CUVRAGYEN_CLOSED;
-    uint32_t opened = cuvragyen_open(&log, options, strlen(options));
+    uint64_t line = 0;
+    uint32_t opened = cuvragyen_open_with_schema(&log, options, strlen(options), (const uint8_t *)schema, strlen(schema), &line);
     if (opened != CUVRAGYEN_OK) {
         found.verdict = opened;
         return found;
@@ -188,6 +193,9 @@ static const struct {
     {"transactions=yes", CUVRAGYEN_BAD_VALUE},
     {"transactions=1 ", CUVRAGYEN_BAD_VALUE},
     {"numbers-as-strings=2", CUVRAGYEN_BAD_VALUE},
+    {"records=1\nrecords=0\nrecords=1", CUVRAGYEN_OK},
+    {"records=2", CUVRAGYEN_BAD_VALUE},
+    {"records", CUVRAGYEN_BAD_VALUE},
     {"with=", CUVRAGYEN_BAD_VALUE},
     {"with=begin,xid", CUVRAGYEN_BAD_VALUE},
     {"character-set=latin99", CUVRAGYEN_BAD_VALUE},
@@ -220,6 +228,44 @@ static void with_options(void) {
     }
 }
 
+#define SCHEMA_HEADER "database\ttable\tposition\tcolumn\ttype\tcollation\tkey_position\tkey_prefix\n"
+
+/* What a schema's text gives, and the line of its fault. */
+static const struct {
+    const char *text;
+    uint32_t result;
+    uint64_t line;
+} SCHEMAS[] = {
+    {"", CUVRAGYEN_OK, 7},
+    {SCHEMA_HEADER "d\tt\t1\tid\tint\tNULL\t1\tNULL\n", CUVRAGYEN_OK, 7},
+    {"text", CUVRAGYEN_BAD_SCHEMA, 1},
+    {"\n", CUVRAGYEN_BAD_SCHEMA, 1},
+    {SCHEMA_HEADER, CUVRAGYEN_BAD_SCHEMA, 2},
+    {SCHEMA_HEADER "d\tt\t1\tid\tint\tNULL\t1\tNULL\nd\tt\t2\tb\n", CUVRAGYEN_BAD_SCHEMA, 3},
+    {SCHEMA_HEADER "d\tt\t2\tid\tint\tNULL\t1\tNULL\n", CUVRAGYEN_BAD_SCHEMA, 2},
+    {SCHEMA_HEADER "d\tt\t1\tid\tenum('a'\tNULL\t1\tNULL\n", CUVRAGYEN_BAD_SCHEMA, 2},
+};
+
+/* Opens a log by each text of a schema. One that can't be read leaves the handle closed, and names its line. */
+static void with_schemas(void) {
+    for (size_t at = 0; at < sizeof SCHEMAS / sizeof *SCHEMAS; at++) {
+        cuvragyen log = CUVRAGYEN_CLOSED;
+        uint64_t line = 7;
+        const uint8_t *text = (const uint8_t *)SCHEMAS[at].text;
+        uint32_t opened = cuvragyen_open_with_schema(&log, "", 0, text, strlen(SCHEMAS[at].text), &line);
+        if (opened != SCHEMAS[at].result || line != SCHEMAS[at].line) {
+            fprintf(stderr, "library: the schema %zu: %u in line %llu\n", at, opened, (unsigned long long)line);
+            exit(1);
+        }
+        expect((log.log != NULL) == (opened == CUVRAGYEN_OK), "a handle that isn't open after a wrong schema");
+        if (opened == CUVRAGYEN_OK) {
+            expect(cuvragyen_open_with_schema(&log, "", 0, text, 0, &line) == CUVRAGYEN_OPEN_HANDLE && line == 7, "an open handle is opened");
+        }
+        cuvragyen_close(&log);
+        expect(cuvragyen_open_with_schema(&log, "colour=red", 10, (const uint8_t *)"text", 4, &line) == CUVRAGYEN_BAD_OPTION, "an option first");
+    }
+}
+
 /* Each number has a name exactly if a verdict has it. */
 static void with_names(void) {
     for (uint32_t number = 0; number < 300; number++) {
@@ -236,6 +282,7 @@ static void misuse(struct bytes all) {
     cuvragyen_end end;
     while_closed(&log);
     with_options();
+    with_schemas();
     with_names();
     expect(cuvragyen_open(&log, "", 0) == CUVRAGYEN_OK, "no options");
     expect(cuvragyen_open(&log, "", 0) == CUVRAGYEN_OPEN_HANDLE, "an open handle is opened");
@@ -260,7 +307,7 @@ static void misuse(struct bytes all) {
 
 /* Two logs that are read by turns, with other options. */
 static void beside(struct bytes first, struct bytes second) {
-    static const char *const options[2] = {"", "transactions=1\nwith=all"};
+    static const char *const options[2] = {"records=1", "transactions=1\nwith=all"};
     struct bytes all[2] = {first, second};
     struct result wanted[2], found[2] = {{0, 0, 0}, {0, 0, 0}};
     cuvragyen logs[2] = {CUVRAGYEN_CLOSED, CUVRAGYEN_CLOSED};
@@ -353,9 +400,10 @@ static void refused(struct bytes all, const char *options) {
 }
 
 int main(int argc, char **argv) {
-    expect(argc > 2, "library lines | misuse | beside | threads | refused FILE ..");
+    expect(argc > 2, "library lines | misuse | beside | threads | schema | refused FILE ..");
     struct bytes all = read_all(argv[2]);
     if (!strcmp(argv[1], "lines")) {
+        schema = argc > 5 ? argv[5] : "";
         read_log(all, strtoul(argv[3], NULL, 10), argv[4], stdout);
     } else if (!strcmp(argv[1], "misuse")) {
         misuse(all);
@@ -363,9 +411,16 @@ int main(int argc, char **argv) {
         struct bytes other = read_all(argv[3]);
         beside(all, other);
         __real_free(other.at);
+    } else if (!strcmp(argv[1], "schema")) {
+        cuvragyen log = CUVRAGYEN_CLOSED;
+        uint64_t line = 0;
+        uint32_t opened = cuvragyen_open_with_schema(&log, argv[3], strlen(argv[3]), (const uint8_t *)argv[4], strlen(argv[4]), &line);
+        printf("%u %llu\n", opened, (unsigned long long)line);
+        cuvragyen_close(&log);
     } else if (!strcmp(argv[1], "threads")) {
         threads(all);
     } else {
+        schema = argc > 4 ? argv[4] : "";
         refused(all, argc > 3 ? argv[3] : "");
     }
     __real_free(all.at);

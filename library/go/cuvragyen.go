@@ -10,6 +10,8 @@
 //		return err
 //	}, "file=binlog.000001", "table=shop.orders")
 //
+// With the option records=1 a transaction is a Record instead, with changes, rows and cells: Log.Record.
+//
 // libcuvragyen is linked by cgo: CGO_CFLAGS and CGO_LDFLAGS say where it is, if it isn't where the compiler looks.
 package cuvragyen
 
@@ -20,6 +22,7 @@ import "C"
 import (
 	"errors"
 	"io"
+	"strconv"
 	"strings"
 	"unsafe"
 )
@@ -38,6 +41,8 @@ func (fault Fault) Error() string {
 		return "an option's name is unknown"
 	case C.CUVRAGYEN_BAD_VALUE:
 		return "a value is wrong"
+	case C.CUVRAGYEN_BAD_SCHEMA:
+		return "the schema can't be read"
 	}
 	var name C.cuvragyen_view
 	C.cuvragyen_verdict_name(C.uint32_t(fault), &name)
@@ -87,8 +92,23 @@ func first(bytes []byte) *C.uint8_t {
 	return (*C.uint8_t)(&bytes[0])
 }
 
+// SchemaFault says which line of a schema can't be read, from 1 on.
+type SchemaFault struct {
+	Line uint64
+}
+
+// Error returns what is wrong, with the line.
+func (fault SchemaFault) Error() string {
+	return "the schema can't be read: line " + strconv.FormatUint(fault.Line, 10)
+}
+
 // Open opens a log of which nothing has arrived; Close it. Each option is a text NAME=VALUE, as cuvragyen.h lists them.
 func Open(options ...string) (*Log, error) {
+	return OpenWithSchema(nil, options...)
+}
+
+// OpenWithSchema is Open with a schema that completes table maps: the text of a file as binlog-changes --schema takes it.
+func OpenWithSchema(schema []byte, options ...string) (*Log, error) {
 	for _, option := range options {
 		if strings.Contains(option, "\n") {
 			return nil, Fault(C.CUVRAGYEN_BAD_VALUE)
@@ -96,7 +116,12 @@ func Open(options ...string) (*Log, error) {
 	}
 	text := []byte(strings.Join(options, "\n"))
 	log := new(Log)
-	opened := C.cuvragyen_open(&log.handle, (*C.char)(unsafe.Pointer(first(text))), C.size_t(len(text)))
+	var line C.uint64_t
+	opened := C.cuvragyen_open_with_schema(&log.handle, (*C.char)(unsafe.Pointer(first(text))), C.size_t(len(text)), first(schema),
+		C.size_t(len(schema)), &line)
+	if opened == C.CUVRAGYEN_BAD_SCHEMA {
+		return nil, SchemaFault{uint64(line)}
+	}
 	if opened != C.CUVRAGYEN_OK {
 		return nil, Fault(opened)
 	}

@@ -14,10 +14,17 @@ public final class Cuvragyen implements AutoCloseable {
     /** Why a log can't be opened or read further: a number of cuvragyen.h, and its name, such as Checksum. */
     public static final class Fault extends RuntimeException {
         public final int number;
+        /** The line of a schema that can't be read, from 1 on; else 0. */
+        public final long line;
 
         Fault(int number) {
-            super(name(number));
+            this(number, 0);
+        }
+
+        Fault(int number, long line) {
+            super(line == 0 ? name(number) : name(number) + ", line " + line);
             this.number = number;
+            this.line = line;
         }
     }
 
@@ -31,8 +38,8 @@ public final class Cuvragyen implements AutoCloseable {
 
     private static final int OK = 0, TRANSACTION = 1;
 
-    /** A log, or the number of the fault, with a minus sign. */
-    private static native long open(byte[] options);
+    /** A log, or the number of the fault with a minus sign, less 256 for each line of a schema up to that which can't be read. */
+    private static native long open(byte[] options, byte[] schema);
 
     private static native int push(long log, byte[] piece, int length);
 
@@ -50,9 +57,14 @@ public final class Cuvragyen implements AutoCloseable {
 
     /** Opens a log. The options are lines NAME=VALUE, as cuvragyen.h lists them. Fault: an option that can't be taken. */
     public Cuvragyen(String options) {
-        long made = open(options.getBytes(StandardCharsets.UTF_8));
+        this(options, new byte[0]);
+    }
+
+    /** The same, with a schema that completes table maps: the text of a file as binlog-changes --schema takes it. */
+    public Cuvragyen(String options, byte[] schema) {
+        long made = open(options.getBytes(StandardCharsets.UTF_8), schema);
         if (made < 0) {
-            throw new Fault((int) -made);
+            throw new Fault((int) (-made & 255), -made >> 8);
         }
         log = made;
     }
@@ -75,7 +87,7 @@ public final class Cuvragyen implements AutoCloseable {
         }
     }
 
-    /** The lines of the next transaction, without a copy: valid until the next call. Null: more bytes are wanted. Fault: the log ends. */
+    /** The lines of the next transaction, or its record for {@link CuvragyenRecord}, without a copy: valid until the next call. Null: more bytes are wanted. Fault: the log ends. */
     public ByteBuffer next() {
         int found = advance(log());
         if (found == OK) {

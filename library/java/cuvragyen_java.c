@@ -4,20 +4,26 @@
 #include <stdlib.h>
 #include <string.h>
 
-JNIEXPORT jlong JNICALL Java_Cuvragyen_open(JNIEnv *env, jclass type, jbyteArray options) {
+JNIEXPORT jlong JNICALL Java_Cuvragyen_open(JNIEnv *env, jclass type, jbyteArray options, jbyteArray schema) {
     (void)type;
     cuvragyen *log = calloc(1, sizeof *log);
     jbyte *text = (*env)->GetByteArrayElements(env, options, NULL);
+    jbyte *tables = (*env)->GetByteArrayElements(env, schema, NULL);
     uint32_t opened = CUVRAGYEN_MEMORY;
-    if (log && text) {
-        opened = cuvragyen_open(log, (const char *)text, (*env)->GetArrayLength(env, options));
+    uint64_t line = 0;
+    if (log && text && tables) {
+        opened = cuvragyen_open_with_schema(log, (const char *)text, (*env)->GetArrayLength(env, options), (const uint8_t *)tables,
+                                            (*env)->GetArrayLength(env, schema), &line);
+    }
+    if (tables) {
+        (*env)->ReleaseByteArrayElements(env, schema, tables, JNI_ABORT);
     }
     if (text) {
         (*env)->ReleaseByteArrayElements(env, options, text, JNI_ABORT);
     }
     if (opened != CUVRAGYEN_OK) {
         free(log);
-        return -(jlong)opened;
+        return -(jlong)(opened + (line << 8));
     }
     return (jlong)log;
 }
@@ -63,8 +69,8 @@ JNIEXPORT void JNICALL Java_Cuvragyen_close(JNIEnv *env, jclass type, jlong log)
 
 JNIEXPORT jstring JNICALL Java_Cuvragyen_name(JNIEnv *env, jclass type, jint number) {
     (void)type;
-    if (number == CUVRAGYEN_BAD_OPTION || number == CUVRAGYEN_BAD_VALUE) {
-        return (*env)->NewStringUTF(env, number == CUVRAGYEN_BAD_OPTION ? "Option" : "Value");
+    if (number == CUVRAGYEN_BAD_OPTION || number == CUVRAGYEN_BAD_VALUE || number == CUVRAGYEN_BAD_SCHEMA) {
+        return (*env)->NewStringUTF(env, number == CUVRAGYEN_BAD_OPTION ? "Option" : number == CUVRAGYEN_BAD_VALUE ? "Value" : "Schema");
     }
     cuvragyen_view name;
     char text[32] = "";

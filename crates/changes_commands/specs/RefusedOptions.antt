@@ -7,5 +7,6 @@ use Rattle.changes_commands.specs.declared.refused.Unusable.TheVariants as unusa
 -- the same reason
 abbrev pub refused_of : Unusable → Refused
 refused_of (unusable.Value option) = refused.Value option
+refused_of (unusable.OwnLines option) = refused.OwnLines option
 refused_of unusable.NoCommand = refused.NoCommand
 refused_of unusable.Memory = refused.Memory

@@ -112,4 +112,5 @@ pub record HasPlace (zone : Zone) (words : List (List ℕ)) : Type 0 where
 abbrev pub IsWhyUnusable : Zone → Bool → List (List ℕ) → Unusable → Type 0
 IsWhyUnusable zone is_answer words (unusable.Value option) = (is_answer ≡ true) × HasPlace zone words
 IsWhyUnusable zone is_answer words unusable.Memory = ⊤
+IsWhyUnusable zone is_answer words (unusable.OwnLines option) = ⊥
 IsWhyUnusable zone is_answer words unusable.NoCommand = ⊥

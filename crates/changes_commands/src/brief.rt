@@ -16,8 +16,7 @@ use events_frames::{
     BinlogEventHeader, EventError, EventParts, EventStreamReader, QueryTexts, RotateEvent,
     read_body,
 };
-use events_mariadb::MariadbType;
-use events_xa::{read_prepared, xid_text};
+use events_replaced::{MariadbType, read_prepared, xid_text};
 use feed_checks::{EventKind, Verdict};
 use rows_constants::EventType;
 use rows_event_body::RowsEvent;

@@ -7,7 +7,7 @@ use crate::brief::{put_statement, put_table};
 use crate::text::Text;
 use byteorder::{ByteOrder, LittleEndian};
 use events_frames::{EventParts, EventStreamReader};
-use events_mariadb::MariadbType;
+use events_replaced::MariadbType;
 
 /// The offset of the domain in the body of a GTID_EVENT, after the sequence number.
 const DOMAIN_OFFSET: usize = 8;

@@ -1,6 +1,7 @@
 //! The words of the command line.
 
 use crate::follow_options::FollowOptions;
+use crate::format_options::{Format, format_of};
 use crate::known_commands::{
     CHARACTER_SET, DATABASE, EXCLUDED, MAX_TRANSACTION, NUMBERS_AS_STRINGS, PAYLOAD,
     SKIP_UNREADABLE, TABLE, TIME_ZONE, TRANSACTION, WITH, command,
@@ -57,6 +58,8 @@ pub struct Options<'w> {
     pub task: Task,
     /// Whether changes are printed by transaction.
     pub by_transaction: bool,
+    /// The format of lines; None for the program's own.
+    pub format: Option<Format>,
     pub is_json: bool,
     /// The character set of columns whose character set isn't in the log.
     pub character_set: Option<CharacterSet>,
@@ -180,6 +183,7 @@ impl<'w> Options<'w> {
         Options {
             task,
             by_transaction: prints_changes(task) && matches.get_flag("transactions"),
+            format: None,
             is_json: matches!(task, Task::Check | Task::Stats) && matches.get_flag("json"),
             character_set: None,
             quotes_numbers: prints_changes(task) && matches.get_flag(NUMBERS_AS_STRINGS.name),
@@ -189,7 +193,7 @@ impl<'w> Options<'w> {
             lists_payloads: matches!(task, Task::Events) && matches.get_flag(PAYLOAD.name),
             skips_unreadable: matches!(task, Task::Json | Task::Check)
                 && matches.get_flag(SKIP_UNREADABLE.name),
-            follow: FollowOptions::NONE,
+            follow: FollowOptions::of(task, matches),
             sql: SqlOptions::none(alloc),
             stats: StatsOptions::NONE,
             range,
@@ -246,6 +250,7 @@ impl<'w> Options<'w> {
         if prints_changes(self.task) {
             self.character_set = character_set_of(matches)?;
             self.added = added_of(matches)?;
+            self.format = format_of(self.task, matches)?;
         }
         if let Some(max) = matches.get_one(MAX_TRANSACTION.name) {
             self.max_transaction = max;
@@ -267,9 +272,8 @@ impl<'w> Options<'w> {
             &mut self.excluded,
             &mut self.excluded_patterns,
         )?;
-        match self.task {
-            Task::Follow => self.follow = FollowOptions::of(matches),
-            _ => add_files(matches, &mut self.files)?,
+        if !matches!(self.task, Task::Follow) {
+            add_files(matches, &mut self.files)?;
         }
         Ok(())
     }

@@ -1,5 +1,6 @@
 //! The options of the command `follow`.
 
+use crate::command_line::Task;
 use crate::known_commands::{Known, Takes};
 use clap::ArgMatches;
 
@@ -36,19 +37,19 @@ pub(crate) const PROGRESS: Known = Known {
 };
 
 impl<'w> FollowOptions<'w> {
-    /// Those of another command.
-    pub(crate) const NONE: FollowOptions<'static> = FollowOptions {
-        log_name: None,
-        semi_sync: None,
-        progress: None,
-    };
-
-    /// Those that the command line has.
-    pub(crate) fn of(matches: &ArgMatches<'w>) -> FollowOptions<'w> {
-        FollowOptions {
-            log_name: matches.get_str(LOG_NAME.name),
-            semi_sync: matches.get_str(SEMI_SYNC.name),
-            progress: matches.get_one(PROGRESS.name),
+    /// Those that the command line of a command has: none of another command.
+    pub(crate) fn of(task: Task, matches: &ArgMatches<'w>) -> FollowOptions<'w> {
+        match task {
+            Task::Follow => FollowOptions {
+                log_name: matches.get_str(LOG_NAME.name),
+                semi_sync: matches.get_str(SEMI_SYNC.name),
+                progress: matches.get_one(PROGRESS.name),
+            },
+            _ => FollowOptions {
+                log_name: None,
+                semi_sync: None,
+                progress: None,
+            },
         }
     }
 }

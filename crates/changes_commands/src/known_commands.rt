@@ -1,6 +1,7 @@
 //! The commands of the program, and their options.
 
 use crate::follow_options::{LOG_NAME, PROGRESS, SEMI_SYNC};
+use crate::format_options::FORMAT;
 use crate::sql_options::{BY, DRY_RUN, LARGEST, LEAVE_OUT, STATEMENTS, SVG, WHERE};
 use clap::{Arg, ArgAction, Command};
 use std::alloc::{AllocError, Global};
@@ -30,7 +31,7 @@ pub(crate) struct Known {
     pub(crate) help: &'static str,
 }
 
-const TRANSACTIONS: Known = Known {
+pub(crate) const TRANSACTIONS: Known = Known {
     takes: Takes::Nothing,
     name: "transactions",
     value: "",
@@ -191,6 +192,7 @@ const JSON: KnownCommand = KnownCommand {
     about: "Prints a JSON object a line for each changed row",
     options: &[
         TRANSACTIONS,
+        FORMAT,
         CHARACTER_SET,
         NUMBERS_AS_STRINGS,
         WITH,
@@ -254,6 +256,7 @@ const FOLLOW: KnownCommand = KnownCommand {
     about: "Prints the same of a server's answer on standard input, each transaction once its commit arrives",
     options: &[
         TRANSACTIONS,
+        FORMAT,
         CHARACTER_SET,
         NUMBERS_AS_STRINGS,
         WITH,
@@ -393,9 +396,12 @@ struct KnownProgram {
     about: &'static str,
 }
 
+/// The version of the program.
+pub const PROGRAM_VERSION: &str = "0.1.0";
+
 const PROGRAM: KnownProgram = KnownProgram {
     name: "binlog-changes",
-    version: "0.1.0",
+    version: PROGRAM_VERSION,
     about: "Prints the committed changes of MySQL binary logs",
 };
 

@@ -7,6 +7,7 @@ mod command_line;
 mod event_walk;
 mod events;
 mod follow_options;
+mod format_options;
 mod known_commands;
 mod log_reader;
 mod logs;
@@ -30,6 +31,8 @@ pub use command_line::{Options, Range, Task, parse};
 pub use event_walk::Listed;
 pub use events::{Names, list};
 pub use follow_options::FollowOptions;
+pub use format_options::Format;
+pub use known_commands::PROGRAM_VERSION;
 pub use log_reader::LogReader;
 pub use logs::{Log, LogOrder, are_in_order, are_of_one_server, order_of};
 pub use messages::{

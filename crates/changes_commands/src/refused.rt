@@ -13,6 +13,8 @@ pub enum Refused {
     Words(Error),
     /// The value of this option can't be used.
     Value(&'static str),
+    /// This option has no meaning for lines in the format of another program.
+    OwnLines(&'static str),
     /// There is no command.
     NoCommand,
     /// Out of memory.
@@ -47,6 +49,8 @@ impl From<Error> for Refused {
 pub(crate) enum Unusable {
     /// The value of this option can't be used.
     Value(&'static str),
+    /// This option has no meaning for lines in the format of another program.
+    OwnLines(&'static str),
     /// There is no command.
     NoCommand,
     /// Out of memory.
@@ -71,6 +75,7 @@ impl From<Unusable> for Refused {
     fn from(unusable: Unusable) -> Refused {
         match unusable {
             Unusable::Value(option) => Refused::Value(option),
+            Unusable::OwnLines(option) => Refused::OwnLines(option),
             Unusable::NoCommand => Refused::NoCommand,
             Unusable::Memory => Refused::Memory,
         }
@@ -85,6 +90,7 @@ impl Refused {
             "schema" => "'schema.tsv@2026-11-24 10:00:00'",
             "table" | "exclude-table" => "shop.orders",
             "character-set" => "utf8mb4",
+            "format" => "maxwell, debezium or canal",
             "where" => "id=42",
             "by" => "second, minute or hour",
             "time-zone" => "UTC, +02:00 or Europe/Berlin",

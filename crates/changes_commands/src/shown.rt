@@ -3,7 +3,7 @@
 ghost use Rattle.changes_commands.specs.GrowingTexts.{Grows};
 
 use crate::text::Text;
-use events_mariadb::MariadbType;
+use events_replaced::MariadbType;
 use rows_constants::EventType;
 
 /// Appends the name of an event type, or its number if it has none: `WRITE_ROWS_EVENT`, `type 200`.

@@ -13,6 +13,7 @@ use Rattle.rows_event_body.specs.declared.rows_event_type.RowImages.{RowImages}
 use Rattle.changes_tables.specs.ShownColumns.{column_view}
 use Rattle.changes_tables.specs.TablesSoFar.{newest_table}
 use Rattle.changes_tables.specs.declared.columns.TableOptions.{TableOptions}
+use Rattle.changes_tables.specs.declared.tables.Lacks.{Lacks}
 use Rattle.changes_tables.specs.declared.tables.ShownTable.{ShownTable}
 use Rattle.feed_checks.specs.Kinds.{Gtid}
 use Rattle.feed_transactions.specs.TableFilters.{takes_change}
@@ -34,6 +35,10 @@ filter_of s = s.filter
 
 abbrev pub options_of : JsonRecorder → TableOptions
 options_of s = s.tables.options
+
+-- what the maps of its tables so far lack
+abbrev pub lacks_in : JsonRecorder → Lacks
+lacks_in s = s.tables.lacks
 
 -- the members that its lines have on request, and their values for its transaction
 abbrev pub added_of : JsonRecorder → AddedMembers

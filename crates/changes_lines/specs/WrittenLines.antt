@@ -9,7 +9,7 @@ use Rattle.feed_transactions.specs.Changes.{Committed}
 use Rattle.changes_lines.specs.ChangeLines.{ChangeJson, change_objects}
 use Rattle.changes_lines.specs.FactMembers.{LogPlace}
 use Rattle.changes_lines.specs.Origins.{header_members, origin_members}
-use Rattle.changes_lines.specs.ResumePlaces.{earlier_in, log_in, place_in}
+use Rattle.changes_lines.specs.ResumePlaces.{begun_place, earlier_in, ends_earlier, has_log, has_read, log_in, moved_place, place_in}
 use Rattle.changes_origins.specs.GtidJson.{IsGtidJson}
 use Rattle.changes_lines.specs.declared.lines.Lines.{Lines}
 use Rattle.changes_lines.specs.declared.lines.Ends.{Ends}
@@ -34,6 +34,23 @@ newest_place s = place_in s.resume
 -- the name of the newest log
 abbrev pub newest_log : Lines → List ℕ
 newest_log s = log_in s.resume
+
+-- whether a log with a name has begun; whether a place was reached, or a second log has begun; whether the newest transaction ends after the place
+abbrev pub has_begun : Lines → Bool
+has_begun s = has_log s.resume
+
+abbrev pub has_moved : Lines → Bool
+has_moved s = has_read s.resume
+
+abbrev pub is_behind : Lines → Bool
+is_behind s = ends_earlier s.resume
+
+-- the place when a log with this name begins, and when reading begins at this position
+abbrev pub place_at_log : Lines → List ℕ → LogPlace
+place_at_log s file = begun_place s.resume file
+
+abbrev pub place_at : Lines → ℕ → LogPlace
+place_at s position = moved_place s.resume position
 
 -- a text was put after the bytes that waited; or the writer failed after a prefix of both
 abbrev pub Puts : Option (List ℕ) → Option (List ℕ) → List ℕ → List ℕ → Bool → List ℕ → Result ⊤ Verdict → Type 0

@@ -1,6 +1,6 @@
 //! The lines of a transaction.
 
-ghost use Rattle.std.specs.Prelude.{if◌then◌else◌, ◌≡◌, ◌≤◌, ◌+◌, ◌++◌, ℕ, List, [], codes, length, map, take, None, Some, IsTrue, OnOk, IfSome};
+ghost use Rattle.std.specs.Prelude.{if◌then◌else◌, ◌≡◌, ◌≤◌, ◌+◌, ◌++◌, ◌||◌, ℕ, false, List, [], codes, length, map, take, None, Some, IsTrue, OnErr, OnOk, IfSome};
 ghost use Rattle.wire_buf.specs.Watched.{inner_of, has_failed};
 ghost use Rattle.feed_text.specs.Buffers.{text_in};
 ghost use Rattle.feed_transactions.specs.Changes.{Committed};
@@ -386,11 +386,15 @@ pub struct Lines {
 }
 
 impl Lines {
-    ghost use Rattle.changes_lines.specs.WrittenLines.{Begins, IsBegun, newest_log, newest_place, resume_in};
+    ghost use Rattle.changes_lines.specs.WrittenLines.{Begins, IsBegun, has_begun, has_moved, is_behind, newest_log, newest_place, place_at, place_at_log, resume_in};
 
     /// Lines of changes, or of transactions.
     pub fn new(alloc: Global, by_transaction: bool) -> Lines
-        ensures { result.by_transaction ≡ by_transaction }
+        ensures form { result.by_transaction ≡ by_transaction }
+        ensures place { newest_place result ≡ record { file = []; position = 4 } }
+        ensures resume { resume_in result ≡ None }
+        ensures begun { has_begun result ≡ false }
+        ensures moved { has_moved result ≡ false }
     {
         Lines {
             by_transaction,
@@ -402,18 +406,26 @@ impl Lines {
 
     /// A log with this name begins.
     ///
-    /// - `AllocError`: out of memory.
+    /// - `AllocError`: out of memory. Its name isn't known then.
     pub fn begin_log(&mut self, file: &[u8]) -> Result<(), AllocError>
         ensures log { OnOk result (newest_log self.new ≡ file.now) }
+        ensures place { OnOk result (newest_place self.new ≡ place_at_log self.old file.now) }
+        ensures stays { OnErr result (newest_place self.new ≡ newest_place self.old) }
+        ensures moved { has_moved self.new ≡ (has_moved self.old || has_begun self.old) }
+        ensures behind { is_behind self.new ≡ is_behind self.old }
         ensures kept { self.new.by_transaction ≡ self.old.by_transaction }
     {
         self.resume.begin_log(file)
     }
 
-    /// Reading begins at this position of the first log, and not at its first event. It has no effect once a transaction or another log
-    /// was read.
+    /// Reading begins at this position of the first log, and not at its first event. It has no effect once there is a place in the logs at
+    /// which reading can begin again, or another log has begun.
     pub fn begin_at(&mut self, position: u32)
+        ensures place { newest_place self.new ≡ place_at self.old position }
         ensures log { newest_log self.new ≡ newest_log self.old }
+        ensures begun { has_begun self.new ≡ has_begun self.old }
+        ensures moved { has_moved self.new ≡ has_moved self.old }
+        ensures behind { is_behind self.new ≡ is_behind self.old }
         ensures kept { self.new.by_transaction ≡ self.old.by_transaction }
     {
         self.resume.begin_at(position);
@@ -425,6 +437,7 @@ impl Lines {
         ensures resume { resume_in self.new ≡ (if is_clear then None else Some (newest_place self.old)) }
         ensures place { newest_place self.new ≡ (if is_clear then record { file = newest_log self.old; position = position } else newest_place self.old) }
         ensures log { newest_log self.new ≡ newest_log self.old }
+        ensures moved { has_moved self.new ≡ (is_clear || has_moved self.old) }
         ensures kept { self.new.by_transaction ≡ self.old.by_transaction }
     {
         self.resume.reach(position, is_clear);

@@ -1,6 +1,6 @@
 //! The place in the logs at which reading can begin again.
 
-ghost use Rattle.std.specs.Prelude.{◌≡◌, ◌++◌, Some, None, OnOk, if◌then◌else◌};
+ghost use Rattle.std.specs.Prelude.{◌≡◌, ◌++◌, ◌||◌, [], false, Some, None, OnErr, OnOk, if◌then◌else◌};
 ghost use Rattle.feed_text.specs.Buffers.{text_in};
 ghost use Rattle.changes_lines.specs.FactMembers.{resume_member};
 
@@ -28,11 +28,14 @@ pub(crate) struct ResumePlace {
 }
 
 impl ResumePlace {
-    ghost use Rattle.changes_lines.specs.ResumePlaces.{earlier_in, log_in, place_in};
+    ghost use Rattle.changes_lines.specs.ResumePlaces.{begun_place, earlier_in, ends_earlier, has_log, has_read, log_in, moved_place, place_in};
 
     /// No log has begun.
     pub(crate) fn new(alloc: Global) -> ResumePlace
-        ensures { earlier_in result ≡ None }
+        ensures place { place_in result ≡ record { file = []; position = 4 } }
+        ensures earlier { earlier_in result ≡ None }
+        ensures log { has_log result ≡ false }
+        ensures read { has_read result ≡ false }
     {
         ResumePlace {
             file: Vec::new(alloc),
@@ -45,12 +48,15 @@ impl ResumePlace {
         }
     }
 
-    /// A log with this name begins. `AllocError`: out of memory.
+    /// A log with this name begins. `AllocError`: out of memory; then its name isn't known.
     pub(crate) fn begin_log(&mut self, file: &[u8]) -> Result<(), AllocError>
-        ensures { OnOk result (log_in self.new ≡ file.now) }
+        ensures log { OnOk result (log_in self.new ≡ file.now) }
+        ensures place { OnOk result (place_in self.new ≡ begun_place self.old file.now) }
+        ensures stays { OnErr result (place_in self.new ≡ place_in self.old) }
+        ensures read { has_read self.new ≡ (has_read self.old || has_log self.old) }
+        ensures earlier { ends_earlier self.new ≡ ends_earlier self.old }
     {
-        if self.file.is_empty() {
-            self.has_next = false;
+        if self.file.is_empty() && !self.has_next {
             return self.file.extend_from_slice(file);
         }
         self.has_next = true;
@@ -60,7 +66,11 @@ impl ResumePlace {
 
     /// Reading begins at this position, if nothing was read so far.
     pub(crate) fn begin_at(&mut self, position: u32)
+        ensures place { place_in self.new ≡ moved_place self.old position }
         ensures log { log_in self.new ≡ log_in self.old }
+        ensures begun { has_log self.new ≡ has_log self.old }
+        ensures read { has_read self.new ≡ has_read self.old }
+        ensures earlier { ends_earlier self.new ≡ ends_earlier self.old }
     {
         if !self.is_end && !self.has_next {
             self.position = position;
@@ -72,6 +82,7 @@ impl ResumePlace {
         ensures earlier { earlier_in self.new ≡ (if is_clear then None else Some (place_in self.old)) }
         ensures place { place_in self.new ≡ (if is_clear then record { file = log_in self.old; position = position } else place_in self.old) }
         ensures log { log_in self.new ≡ log_in self.old }
+        ensures read { has_read self.new ≡ (is_clear || has_read self.old) }
     {
         self.is_earlier = !is_clear;
         if !is_clear {

@@ -25,4 +25,6 @@ pub use row_cells::RowCells;
 pub use sql_table::{SqlColumn, SqlTable};
 pub use statements::put_statement;
 pub use texts::put_utf8;
-pub use times::put_instant;
+pub use times::{
+    datetime_parts, day_of, old_datetime_parts, old_time_parts, put_instant, time_parts,
+};

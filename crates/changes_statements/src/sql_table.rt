@@ -1,5 +1,9 @@
 //! A table, by its table map.
 
+ghost use Rattle.std.specs.Prelude.{◌≡◌, IfErr};
+ghost use Rattle.changes_statements.specs.NoStatements.{IsMemoryOr};
+ghost use Rattle.changes_statements.specs.declared.no_statement.NoStatement.TheVariants.{Names};
+
 use crate::no_statement::NoStatement;
 use crate::quoting::put_name;
 use changes_tables::{Shown, ShownTable, TableOptions};
@@ -158,13 +162,15 @@ fn column_of(
     })
 }
 
-/// The columns of a table, which have these names.
+/// The columns of a table, which have these names. `Names`: there are fewer names; `Memory`: out of memory.
 fn columns_of(
     alloc: Global,
     map: &TableMapEvent<'_>,
     names: ColumnNames<'_>,
     shown: &ShownTable,
-) -> Result<Vec<SqlColumn>, NoStatement> {
+) -> Result<Vec<SqlColumn>, NoStatement>
+    ensures { IfErr result (IsMemoryOr (λ e. e ≡ Names)) }
+{
     let mut metas = map.columns();
     let mut names = names.iter_names();
     let mut columns = Vec::new(alloc);
@@ -182,7 +188,9 @@ impl SqlTable {
     ///
     /// - `Names`: the table map doesn't name the columns.
     /// - `Memory`: out of memory.
-    pub fn of(alloc: Global, map: &TableMapEvent<'_>) -> Result<SqlTable, NoStatement> {
+    pub fn of(alloc: Global, map: &TableMapEvent<'_>) -> Result<SqlTable, NoStatement>
+        ensures { IfErr result (IsMemoryOr (λ e. e ≡ Names)) }
+    {
         let options = TableOptions {
             unnamed: Shown::Unknown,
             quotes_numbers: false,

@@ -103,7 +103,7 @@ fn put_utc(seconds: u32, micros: u32, out: &mut TextBuffer<Global>) -> Result<()
 }
 
 /// The date of a NEWDATE: the day in the lowest five bits, the month in the next four, the year above them.
-pub(crate) fn day_of(bits: u32) -> Day
+pub fn day_of(bits: u32) -> Day
     ensures { new_date bits ≡ date result.year result.month result.day 0 0 0 0 }
 {
     Day {
@@ -114,7 +114,7 @@ pub(crate) fn day_of(bits: u32) -> Day
 }
 
 /// The date and the time of a packed DATETIME2. Its sign is ignored.
-pub(crate) fn datetime_parts(packed: i64) -> (Day, Clock)
+pub fn datetime_parts(packed: i64) -> (Day, Clock)
     ensures { cell_date packed ≡ date result.0.year result.0.month result.0.day result.1.hour result.1.minute result.1.second result.1.micros }
 {
     let size = packed.unsigned_abs();
@@ -137,7 +137,7 @@ pub(crate) fn datetime_parts(packed: i64) -> (Day, Clock)
 }
 
 /// Whether a packed TIME2 is negative, and its size, with all hours.
-pub(crate) fn time_parts(packed: i64) -> (bool, Clock)
+pub fn time_parts(packed: i64) -> (bool, Clock)
     ensures { cell_time packed ≡ time result.0 (result.1.hour / 24) (result.1.hour % 24) result.1.minute result.1.second result.1.micros }
 {
     let size = packed.unsigned_abs();
@@ -152,7 +152,7 @@ pub(crate) fn time_parts(packed: i64) -> (bool, Clock)
 }
 
 /// Whether a TIME of three bytes is negative, and its size, by its digits `hhmmss`.
-pub(crate) fn old_time_parts(digits: i32) -> (bool, Clock)
+pub fn old_time_parts(digits: i32) -> (bool, Clock)
     ensures { old_time digits ≡ time result.0 (result.1.hour / 24) (result.1.hour % 24) result.1.minute result.1.second result.1.micros }
 {
     let size = digits.unsigned_abs();
@@ -166,7 +166,7 @@ pub(crate) fn old_time_parts(digits: i32) -> (bool, Clock)
 }
 
 /// The date and the time of a DATETIME of eight bytes, by its digits `YYYYMMDDhhmmss`.
-pub(crate) fn old_datetime_parts(digits: u64) -> (Day, Clock)
+pub fn old_datetime_parts(digits: u64) -> (Day, Clock)
     ensures { old_datetime digits ≡ date result.0.year result.0.month result.0.day result.1.hour result.1.minute result.1.second result.1.micros }
 {
     let day = Day {

@@ -5,3 +5,8 @@ pub mod WalkLemmas
 pub mod PushedWalkLemmas
 pub mod CountingLemmas
 pub mod GapLemmas
+pub mod EndLemmas
+pub mod EventLemmas
+pub mod FollowLemmas
+pub mod PushLemmas
+pub mod WriteOutLemmas

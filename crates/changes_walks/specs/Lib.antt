@@ -12,3 +12,5 @@ pub mod WalkedStops
 pub mod AscendingPositions
 pub mod Gaps
 pub mod IdleSources
+pub mod FollowedAnswers
+pub mod FollowedEnds

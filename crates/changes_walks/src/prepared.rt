@@ -15,7 +15,7 @@ pub trait PreparedSource {
 }
 
 impl PreparedSource for LogEvents<'_> {
-    ghost use Rattle.events_xa.specs.XaEventStates.{clear_of};
+    ghost use Rattle.events_replaced.specs.XaEventStates.{clear_of};
     ghost use Rattle.changes_walks.specs.LogSources.{with_xa_in};
 
     ghost clear_in = { λ s. clear_of (with_xa_in s) };

@@ -4,10 +4,10 @@ use Rattle.c_handles.specs.declared.view.View.{View}
 use Rattle.feed_checks.specs.declared.verdict.Verdict.{Verdict}
 use Rattle.feed_checks.specs.declared.verdict.Verdict.TheVariants.{Memory}
 use Rattle.feed_transactions.specs.Changes.{Committed}
-use Rattle.feed_pushed_log.specs.PushedLogs.{recorder_in}
-use Rattle.changes_lines.specs.RecordedLines.{IsDoneJson}
-use Rattle.library_log.specs.ReadLogs.{log_in, has_newest, fault_in, file_in, lines_in, shown_in}
-use Rattle.library_log.specs.ShownTransactions.{HasLines}
+use Rattle.feed_change_log.specs.PushedLogs.{recorder_in}
+use Rattle.library_log.specs.ShownRecorders.{IsDoneShown}
+use Rattle.library_log.specs.ReadLogs.{log_in, has_newest, fault_in, file_in, filter_in, lines_in, shown_in}
+use Rattle.library_log.specs.ShownTransactions.{HasShown}
 use Rattle.library_log.specs.declared.part.Part.{Part}
 use Rattle.library_log.specs.declared.part.Part.TheVariants.{Log}
 use Rattle.library_log.specs.declared.read_log.ReadLog.{ReadLog}
@@ -29,7 +29,7 @@ abbrev holds_of : Bool → Type 0
 holds_of true = Unit {0}
 holds_of false = ⊥
 
-pub header_there : (s : ReadLog) (old new : LogHeader) → true ≡ has_newest s → ((t : Committed) → IsDoneJson (recorder_in (log_in s)) t → (new.time ≡ t.commit.timestamp) × ((new.server_id ≡ t.commit.server_id) × (new.position ≡ t.commit.log_pos))) → HasHeader s old new 1
+pub header_there : (s : ReadLog) (old new : LogHeader) → true ≡ has_newest s → ((t : Committed) → IsDoneShown (recorder_in (log_in s)) t → (new.time ≡ t.commit.timestamp) × ((new.server_id ≡ t.commit.server_id) × (new.position ≡ t.commit.log_pos))) → HasHeader s old new 1
 header_there s old new is h = record { number = rw (sym is) refl; some = λ _ t taken. h t taken; none = λ no. absurd (subst holds_of (is ∙ no) tt) }
 
 abbrev is_shown : Result Bool Verdict → Type 0
@@ -47,10 +47,10 @@ abbrev failed : Verdict → Result Bool Verdict
 failed v = Err v
 
 module _ (s new : ReadLog) (old_view view : View) (same : log_in new ≡ log_in s) where
-  pub shows_lines : true ≡ has_newest s → (has_newest s ≡ true → (t : Committed) → IsDoneJson (recorder_in (log_in s)) t → HasLines (lines_in s) (file_in s) (recorder_in (log_in s)) t (shown_in new)) → view.len ≡ length (shown_in new) → Shows s new old_view view 1
+  pub shows_lines : true ≡ has_newest s → (has_newest s ≡ true → (t : Committed) → IsDoneShown (recorder_in (log_in s)) t → HasShown (filter_in s) (lines_in s) (file_in s) (recorder_in (log_in s)) t (shown_in new)) → view.len ≡ length (shown_in new) → Shows s new old_view view 1
   shows_lines is lines len = record { returned = outcome true; number = refl; there = is; lines = lines; err = tt; len = λ _. len; none = λ e. absurd (subst is_shown e tt); kept = tt; log = same }
 
-  pub shows_none : false ≡ has_newest s → (has_newest s ≡ true → (t : Committed) → IsDoneJson (recorder_in (log_in s)) t → HasLines (lines_in s) (file_in s) (recorder_in (log_in s)) t (shown_in new)) → view.len ≡ 0 → Shows s new old_view view 0
+  pub shows_none : false ≡ has_newest s → (has_newest s ≡ true → (t : Committed) → IsDoneShown (recorder_in (log_in s)) t → HasShown (filter_in s) (lines_in s) (file_in s) (recorder_in (log_in s)) t (shown_in new)) → view.len ≡ 0 → Shows s new old_view view 0
   shows_none is lines len = record { returned = outcome false; number = refl; there = is; lines = lines; err = tt; len = λ e. absurd (subst is_shown (sym e) tt); none = λ _. len; kept = tt; log = same }
 
 pub shows_fault : (s new : ReadLog) (view : View) (v : Verdict) → log_in new ≡ log_in s → (failed v ≡ failed Memory) × (fault_in new ≡ Some Memory) → Shows s new view view (verdict_number v)

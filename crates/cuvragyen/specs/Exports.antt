@@ -7,13 +7,13 @@ use Rattle.feed_checks.specs.declared.verdict.Verdict.{Verdict}
 use Rattle.feed_checks.specs.declared.verdict.Verdict.TheVariants.{End, Memory}
 use Rattle.feed_transactions.specs.Changes.{Committed}
 use Rattle.feed_transactions.specs.Recorders.{Stays}
-use Rattle.feed_change_log.specs.Filters.{table_filter_of}
 use Rattle.feed_change_log.specs.declared.stop.Stop.{Stop}
-use Rattle.feed_pushed_log.specs.PushedLogs.{left_in, recorder_in, source_of, verdict_in}
-use Rattle.changes_lines.specs.RecordedLines.{IsDoneJson, IsLikeJson, filter_of}
-use Rattle.library_sources.specs.LibrarySources.{Begins, unread_in}
-use Rattle.library_log.specs.ReadLogs.{log_in, fault_in, filter_in, has_newest, shown_in, lines_in, file_in, finds, early_end, ended_by, HasTaken, Advances, Pushes, IsPushError, CountsTaken, CountsUnread}
-use Rattle.library_log.specs.ShownTransactions.{HasLines}
+use Rattle.feed_change_log.specs.PushedLogs.{left_in, recorder_in, source_of, verdict_in}
+use Rattle.table_schemas.specs.CompletedMaps.{Tables}
+use Rattle.library_log.specs.LibrarySources.{Begins, tables_in, unread_in}
+use Rattle.library_log.specs.ReadLogs.{log_in, fault_in, filter_in, has_newest, shown_in, lines_in, file_in, finds, early_end, ended_by, HasTaken, Advances, Pushes, IsPushError, CountsTaken, CountsUnread, tables_for}
+use Rattle.library_log.specs.ShownRecorders.{IsDoneShown, IsFilteredBy, IsLikeShown}
+use Rattle.library_log.specs.ShownTransactions.{HasShown}
 use Rattle.library_log.specs.declared.part.Part.{Part}
 use Rattle.library_log.specs.declared.part.Part.TheVariants as parts
 use Rattle.library_log.specs.declared.read_log.Next.{Next}
@@ -53,12 +53,22 @@ HasState None = ⊥
 HasState (Some (parts.State s)) = ⊤
 HasState (Some (parts.Log s)) = ⊥
 
+-- a handle has what a log borrows, with a schema of these tables
+abbrev pub HasTables : Option Part → Tables → Type 0
+HasTables None tables = ⊥
+HasTables (Some (parts.State s)) tables = tables_for s ≡ tables
+HasTables (Some (parts.Log s)) tables = ⊥
+
+-- a handle has a log whose table maps are completed by the schema of what it borrows
+abbrev pub OpensBy : Option Part → Option Part → Type 0
+OpensBy old new = (tables : Tables) → HasTables old tables → IfSome (open_log new) (λ s. tables_in (source_of (log_in s)) ≡ tables)
+
 -- a log of which nothing was pushed
 pub record IsNew (s : ReadLog) : Type 0 where
   pub taken : HasTaken (log_in s) []
   pub nothing : left_in (log_in s) ≡ []
   pub source : Begins (source_of (log_in s))
-  pub recorder : filter_of (recorder_in (log_in s)) ≡ table_filter_of (filter_in s)
+  pub recorder : IsFilteredBy (filter_in s) (recorder_in (log_in s))
   pub goes_on : fault_in s ≡ None
 
 -- a handle has a log of which nothing was pushed
@@ -82,16 +92,16 @@ pub record GoesOn (s new : ReadLog) (result : ℕ) : Type 0 where
   pub number : result ≡ next_number returned
   pub advances : fault_in s ≡ None → (past : List Event) → HasTaken (log_in s) past → Advances (filter_in s) past (log_in s) (log_in new) returned
   pub fault : IfSome (fault_in s) (λ v. (returned ≡ Err v) × (new ≡ s))
-  pub like : OnOk returned (Stays IsLikeJson (recorder_in (log_in s)) (recorder_in (log_in new)))
+  pub like : OnOk returned (Stays IsLikeShown (recorder_in (log_in s)) (recorder_in (log_in new)))
   pub newest : fault_in s ≡ None → has_newest new ≡ finds returned
   pub filter : filter_in new ≡ filter_in s
 
--- the log made the lines of its newest transaction, if it has one; the view has as many bytes, and the call returns this
+-- the log made the lines or the record of its newest transaction, if it has one; the view has as many bytes, and the call returns this
 pub record Shows (s new : ReadLog) (old_view view : View) (result : ℕ) : Type 0 where
   pub returned : Result Bool Verdict
   pub number : result ≡ shown_number returned
   pub there : IfOk returned (λ is_there. is_there ≡ has_newest s)
-  pub lines : OnOk returned (has_newest s ≡ true → (t : Committed) → IsDoneJson (recorder_in (log_in s)) t → HasLines (lines_in s) (file_in s) (recorder_in (log_in s)) t (shown_in new))
+  pub lines : OnOk returned (has_newest s ≡ true → (t : Committed) → IsDoneShown (recorder_in (log_in s)) t → HasShown (filter_in s) (lines_in s) (file_in s) (recorder_in (log_in s)) t (shown_in new))
   pub err : OnErr returned ((returned ≡ Err Memory) × (fault_in new ≡ Some Memory))
   pub len : returned ≡ Ok true → view.len ≡ length (shown_in new)
   pub none : returned ≡ Ok false → view.len ≡ 0
@@ -110,7 +120,7 @@ pub record Ends (s new : ReadLog) (stop : Stop) : Type 0 where
 -- whether the call says by which event the newest transaction was committed, and what it says
 pub record HasHeader (s : ReadLog) (old new : LogHeader) (result : ℕ) : Type 0 where
   pub number : result ≡ (if has_newest s then 1 else 0)
-  pub some : has_newest s ≡ true → (t : Committed) → IsDoneJson (recorder_in (log_in s)) t → (new.time ≡ t.commit.timestamp) × ((new.server_id ≡ t.commit.server_id) × (new.position ≡ t.commit.log_pos))
+  pub some : has_newest s ≡ true → (t : Committed) → IsDoneShown (recorder_in (log_in s)) t → (new.time ≡ t.commit.timestamp) × ((new.server_id ≡ t.commit.server_id) × (new.position ≡ t.commit.log_pos))
   pub none : has_newest s ≡ false → new ≡ old
 
 -- a structure of C's has all fields of a stop: 0 for one that isn't there

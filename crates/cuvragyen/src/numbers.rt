@@ -21,6 +21,9 @@ pub(crate) const BAD_OPTION: u32 = 3;
 /// A value isn't one of its option's.
 pub(crate) const BAD_VALUE: u32 = 4;
 
+/// The schema can't be read.
+pub(crate) const BAD_SCHEMA: u32 = 6;
+
 /// Out of memory.
 pub(crate) const MEMORY: u32 = 118;
 

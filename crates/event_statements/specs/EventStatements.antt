@@ -12,8 +12,8 @@ use Rattle.changes_statements.specs.declared.no_statement.NoStatement.{NoStateme
 use Rattle.changes_statements.specs.declared.no_statement.NoStatement.TheVariants.{Columns}
 use Rattle.changes_statements.specs.SqlStatements.{IsStatement}
 use Rattle.changes_statements.specs.declared.sql_table.SqlTable.{SqlTable}
-use Rattle.statement_texts.specs.StatementTexts.{HasOpen}
-use Rattle.statement_texts.specs.declared.text_list.TextList.{TextList}
+use Rattle.event_statements.specs.StatementTexts.{HasOpen}
+use Rattle.event_statements.specs.declared.text_list.TextList.{TextList}
 use Rattle.event_statements.specs.declared.rows.Direction.{Direction}
 use Rattle.event_statements.specs.declared.rows.Direction.TheVariants as direction
 

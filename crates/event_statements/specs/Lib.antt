@@ -1,1 +1,5 @@
 pub mod EventStatements
+pub mod ReadRows
+pub mod StatementTexts
+pub mod NewestTexts
+pub mod TransactionTexts

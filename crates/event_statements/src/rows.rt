@@ -1,12 +1,16 @@
 //! The statements of the rows of an event.
 
-ghost use Rattle.std.specs.Prelude.{◌≡◌, ◌⊎◌, List, ℕ, [], IfErr, OnOk, false, true};
+ghost use Rattle.std.specs.Prelude.{◌≡◌, ◌⊎◌, List, ℕ, [], IfErr, IfOk, OnOk, false, true};
+ghost use Rattle.rows_cells.specs.RowViews.{IsBetweenRows};
 ghost use Rattle.changes_statements.specs.NoStatements.{HasNoItems, IsMemoryOr};
 ghost use Rattle.changes_statements.specs.RowsOfCells.{cells_in};
 ghost use Rattle.changes_statements.specs.declared.no_statement.NoStatement.{NoStatement};
-ghost use Rattle.statement_texts.specs.StatementTexts.{HasOpen};
+ghost use Rattle.changes_statements.specs.declared.no_statement.NoStatement.TheVariants.{Row};
+ghost use Rattle.event_statements.specs.StatementTexts.{HasOpen};
+ghost use Rattle.event_statements.specs.ReadRows.{ReadsNext};
 ghost use Rattle.event_statements.specs.EventStatements.{change_of, directed, AddsStatement, HasNoRow, HasNoTaken, IsOneWay, IsSecond, LacksBack, TakesRow};
 
+use crate::text_list::TextList;
 use changes_statements::{
     NoStatement, RowCells, Scratch, SqlTable, put_literal, put_statement, put_utf8,
 };
@@ -15,7 +19,6 @@ use feed_change_log::TableRows;
 use feed_text::TextBuffer;
 use rows_cells::{CellRef, RowPart, RowsCursor};
 use rows_event_body::RowImages;
-use statement_texts::TextList;
 use std::alloc::{AllocError, Global};
 
 /// Whether statements make changes, or take them back.
@@ -107,8 +110,8 @@ fn meets_all(
     Ok(true)
 }
 
-/// The change of a row with these images.
-fn change_of<'c, 'a>(
+/// Returns the change of a row with these images: `second` is used of an update alone.
+pub fn change_of<'c, 'a>(
     images: RowImages,
     first: &'c RowCells<'a>,
     second: &'c RowCells<'a>,
@@ -124,31 +127,53 @@ fn change_of<'c, 'a>(
     }
 }
 
-/// Reads a row; false after the last one.
-fn read_row<'a>(
+/// Keeps a part of a row in its image. Returns whether the parts after it are those of the second image.
+///
+/// - `Row`: an image has no room for the column.
+fn keep_part<'a>(
+    part: RowPart<'a>,
+    is_second: bool,
+    first: &mut RowCells<'a>,
+    second: &mut RowCells<'a>,
+) -> Result<bool, NoStatement>
+    ensures { IfErr result (λ e. e ≡ Row) }
+{
+    match part {
+        RowPart::NextImage | RowPart::EndOfRow => Ok(true),
+        RowPart::Cell(column, cell) => {
+            let cells = if is_second { second } else { first };
+            if !cells.set(column, cell) {
+                return Err(NoStatement::Row);
+            }
+            Ok(is_second)
+        }
+    }
+}
+
+/// Reads the next row: its first image, and its second if it has two. Returns whether there was one: false after the last row.
+///
+/// - `Row`: it can't be read, or an image has no room for one of its columns. The images may have a part of it.
+pub fn read_row<'a>(
     cursor: &mut RowsCursor<'_, 'a>,
     first: &mut RowCells<'a>,
     second: &mut RowCells<'a>,
-) -> Result<bool, NoStatement> {
+) -> Result<bool, NoStatement>
+    ensures row { (bytes : List ℕ) → IsBetweenRows cursor.old bytes → IfOk result (λ found. ReadsNext bytes cursor.old found cursor.new) }
+    ensures err { IfErr result (λ e. e ≡ Row) }
+{
     first.clear();
     second.clear();
     let mut is_second = false;
     for _ in 0..u64::MAX {
         let part = match cursor.next_part() {
-            Ok(part) => part,
+            Ok(Some(part)) => part,
+            Ok(None) => return Ok(false),
             Err(_) => return Err(NoStatement::Row),
         };
-        match part {
-            None => return Ok(false),
-            Some(RowPart::EndOfRow) => return Ok(true),
-            Some(RowPart::NextImage) => is_second = true,
-            Some(RowPart::Cell(column, cell)) => {
-                let cells = if is_second { &mut *second } else { &mut *first };
-                if !cells.set(column, cell) {
-                    return Err(NoStatement::Row);
-                }
-            }
+        if let RowPart::EndOfRow = part {
+            return Ok(true);
         }
+        is_second = keep_part(part, is_second, first, second)?;
     }
     Err(NoStatement::Row)
 }

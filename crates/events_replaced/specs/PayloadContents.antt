@@ -7,8 +7,8 @@ use Rattle.zstd_decoder.specs.Frames.{AppendsFrames}
 use Rattle.rows_constants.specs.EventTypes.{event_type_number}
 use Rattle.rows_constants.specs.declared.event_type.EventType.TheVariants.{TRANSACTION_PAYLOAD_EVENT}
 use Rattle.events_frames.specs.HeaderFields.{header_field}
-use Rattle.events_mariadb.specs.MariadbTypes.{is_mariadb_number}
-use Rattle.events_mariadb.specs.StandingEvents.{AreStanding, HasFault as HasMariadbFault}
+use Rattle.events_replaced.specs.MariadbTypes.{is_mariadb_number}
+use Rattle.events_replaced.specs.StandingEvents.{AreStanding, HasFault as HasMariadbFault}
 use Rattle.events_replaced.specs.PayloadFields.{IsPayload}
 use Rattle.events_replaced.specs.StampedEvents.{AreFirstEvents}
 use Rattle.events_replaced.specs.declared.replacements.ReplacementFault.{ReplacementFault}

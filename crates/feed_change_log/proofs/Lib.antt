@@ -5,3 +5,4 @@ pub mod LogLemmas
 pub mod StopLemmas
 pub mod FilterLemmas
 pub mod NextPlaceLemmas
+pub mod PushedLemmas

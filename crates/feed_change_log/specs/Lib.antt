@@ -7,3 +7,5 @@ pub mod Filters
 pub mod ChangeLogs
 pub mod RecordedLogs
 pub mod ChangeLaws
+pub mod PushedBytes
+pub mod PushedLogs

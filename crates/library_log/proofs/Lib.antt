@@ -1,3 +1,4 @@
 mod WholeTexts
 mod PieceLemmas
 mod AdvanceLemmas
+mod ShownLemmas

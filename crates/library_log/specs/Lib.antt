@@ -1,3 +1,5 @@
 pub mod MagicNumberPieces
+pub mod ShownRecorders
 pub mod ShownTransactions
 pub mod ReadLogs
+pub mod LibrarySources

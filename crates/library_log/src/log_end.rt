@@ -4,13 +4,13 @@ ghost use Rattle.std.specs.Prelude.{◌≡◌, option_map};
 ghost use Rattle.events_frames.specs.Headers.{event_header_of};
 ghost use Rattle.feed_checks.specs.declared.verdict.Verdict.TheVariants.{End};
 ghost use Rattle.feed_change_log.specs.Stops.{header_in};
-ghost use Rattle.library_sources.specs.LibrarySources.{unread_in};
+ghost use Rattle.library_log.specs.LibrarySources.{unread_in};
 ghost use Rattle.library_log.specs.ReadLogs.{CountsUnread};
 
+use crate::log_source::LogSource;
 use events_frames::{BinlogEventHeader, header_of};
 use feed_change_log::Stop;
 use feed_checks::Verdict;
-use library_sources::LogSource;
 
 /// The header that bytes begin with, if they are long enough.
 fn header_in(bytes: &[u8]) -> Option<BinlogEventHeader>

@@ -30,6 +30,8 @@ pub enum OptionsFault {
 pub struct LogOptions<'t> {
     /// The name of the log.
     pub file: &'t [u8],
+    /// Whether transactions are shown as binary records, and not as JSON lines.
+    pub as_records: bool,
     /// Whether a line is a transaction, and not a changed row or a statement.
     pub by_transaction: bool,
     /// The character set of columns whose character set isn't in the log.
@@ -99,6 +101,7 @@ impl<'t> LogOptions<'t> {
     fn usual(alloc: Global) -> LogOptions<'t> {
         LogOptions {
             file: &[],
+            as_records: false,
             by_transaction: false,
             character_set: None,
             quotes_numbers: false,
@@ -162,7 +165,8 @@ impl<'t> LogOptions<'t> {
     /// Sets a flag, whose value is `1` or `0`. Returns whether it is one.
     fn set_flag(&mut self, name: &[u8], value: &[u8]) -> Result<bool, OptionsFault> {
         let is_transactions = name == b"transactions".as_slice();
-        if !is_transactions && name != b"numbers-as-strings".as_slice() {
+        let is_records = name == b"records".as_slice();
+        if !is_transactions && !is_records && name != b"numbers-as-strings".as_slice() {
             return Ok(false);
         }
         let flag = value == b"1".as_slice();
@@ -171,6 +175,8 @@ impl<'t> LogOptions<'t> {
         }
         if is_transactions {
             self.by_transaction = flag;
+        } else if is_records {
+            self.as_records = flag;
         } else {
             self.quotes_numbers = flag;
         }

@@ -14,7 +14,7 @@ use Rattle.feed_transactions.proofs.WaitingLemmas.{interrupted_after, writes_non
 use Rattle.feed_change_log.specs.declared.filter.Filter.{Filter}
 use Rattle.changes_commands.specs.declared.output.Failure.{Failure}
 use Rattle.changes_commands.specs.declared.output.Failure.TheVariants as failed
-use Rattle.changes_followed.specs.FollowedAnswers.{LogTransaction}
+use Rattle.changes_walks.specs.FollowedAnswers.{LogTransaction}
 use Rattle.changes_lines.specs.WrittenLines.{is_by_transaction}
 use Rattle.changes_lines.specs.declared.recorder.JsonRecorder.{JsonRecorder}
 use Rattle.changes_lines.proofs.WriteLemmas.{fails_then, writes_both}

@@ -10,7 +10,7 @@ use Rattle.feed_checks.specs.declared.verdict.Verdict.TheVariants as verdicts
 use Rattle.feed_change_log.specs.declared.filter.Filter.{Filter}
 use Rattle.changes_commands.specs.declared.output.Failure.{Failure}
 use Rattle.changes_commands.specs.declared.output.Failure.TheVariants as failed
-use Rattle.changes_followed.specs.FollowedAnswers.{in_log, LogTransaction}
+use Rattle.changes_walks.specs.FollowedAnswers.{in_log, LogTransaction}
 use Rattle.changes_lines.specs.WrittenLines.{is_by_transaction}
 use Rattle.changes_lines.specs.declared.recorder.JsonRecorder.{JsonRecorder}
 use Rattle.changes_lines.proofs.WriteLemmas.{fails_then, writes_both}

@@ -8,7 +8,7 @@ use Rattle.feed_transactions.specs.InterruptedWrites.{WritesPrefix}
 use Rattle.feed_transactions.specs.Waiting.{bytes_of, WritesSome}
 use Rattle.changes_commands.specs.declared.output.Failure.{Failure}
 use Rattle.changes_commands.specs.declared.output.Failure.TheVariants as failed
-use Rattle.changes_followed.specs.FollowedAnswers.{in_log, LogTransaction}
+use Rattle.changes_walks.specs.FollowedAnswers.{in_log, LogTransaction}
 use Rattle.changes_lines.specs.WrittenLines.{is_by_transaction}
 use Rattle.changes_origins.specs.declared.added_members.AddedMembers.{AddedMembers}
 use Rattle.changes_tables.specs.MemberTexts.{utf8_json}

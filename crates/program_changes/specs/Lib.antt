@@ -3,3 +3,4 @@ pub mod FollowedLines
 pub mod PrintedAnswers
 pub mod LineSinks
 pub mod CountSinks
+pub mod SchemaPlaces

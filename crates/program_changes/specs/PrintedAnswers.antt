@@ -14,10 +14,10 @@ use Rattle.changes_lines.specs.WrittenLines.{is_by_transaction}
 use Rattle.changes_walks.specs.Findings.{status_of_verdict}
 use Rattle.changes_walks.specs.Selections.{IsFilterOf}
 use Rattle.changes_walks.specs.SourceStates.{Known}
-use Rattle.changes_followed.specs.FollowedAnswers.{Asked, HasAnswered, HasAnswerFailure}
-use Rattle.changes_followed.specs.FollowedEnds.{FollowsLogs}
-use Rattle.changes_followed.specs.declared.following.FollowEnd.{FollowEnd}
-use Rattle.changes_followed.specs.declared.following.FollowEnd.TheVariants as ends
+use Rattle.changes_walks.specs.FollowedAnswers.{Asked, HasAnswered, HasAnswerFailure}
+use Rattle.changes_walks.specs.FollowedEnds.{FollowsLogs}
+use Rattle.changes_walks.specs.declared.following.FollowEnd.{FollowEnd}
+use Rattle.changes_walks.specs.declared.following.FollowEnd.TheVariants as ends
 use Rattle.program_changes.specs.FollowedLines.{Acknowledges, FailsPrinting, HasPrinted}
 use Rattle.program_changes.specs.LineSinks.{table_options, IsRecorderFor}
 use Rattle.program_changes.specs.declared.printer.Printer.{Printer}

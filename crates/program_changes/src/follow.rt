@@ -7,17 +7,20 @@ ghost use Rattle.feed_transactions.specs.Checks.{fault_of};
 ghost use Rattle.feed_replication.specs.AnswerEvents.{checksum_of};
 ghost use Rattle.changes_walks.specs.SourceStates.{known_in};
 ghost use Rattle.program_changes.specs.PrintedAnswers.{asked_by, first_name, payload_format, IsEndStatus, IsNewPrinter, PrintsAnswer};
-ghost use Rattle.changes_followed.specs.FollowedAnswers.{BeginsAnswer};
+ghost use Rattle.changes_walks.specs.FollowedAnswers.{BeginsAnswer};
 
 use crate::changes::{LineSink, RunState, table_options};
+use crate::follow_formats::follow_format;
 use crate::follow_messages::{say_fault, say_packet, say_wrong};
 use crate::printer::Printer;
 use crate::reached::{Reached, Stopwatch, Timer};
 use changes_commands::{Failure, Options, Output};
-use changes_followed::{FollowEnd, Followed, follow_logs};
 use changes_lines::{JsonRecorder, Lines};
 use changes_tables::Lacks;
-use changes_walks::{DAMAGED, FAILED, SourceFault, SourceStates, USAGE, WHOLE, filter_of};
+use changes_walks::{
+    DAMAGED, FAILED, FollowEnd, Followed, SourceFault, SourceStates, USAGE, WHOLE, filter_of,
+    follow_logs,
+};
 use crc32::crc32;
 use feed_change_log::Stop;
 use feed_replication::{AnswerEvents, PayloadFormat, RequestError};
@@ -33,7 +36,10 @@ const PIECE_LEN: usize = 0x2_0000;
 const PAYLOAD_LIMIT: usize = 1_073_741_824;
 
 /// Opens the file that acknowledgements are written to, if an option names one. The error is the status after one that can't be opened.
-fn acks_of(rt: &HostRuntime, options: &Options<'_>) -> Result<Option<Watched<File>>, u8> {
+pub(crate) fn acks_of(
+    rt: &HostRuntime,
+    options: &Options<'_>,
+) -> Result<Option<Watched<File>>, u8> {
     let Some(path) = options.follow.semi_sync else {
         return Ok(None);
     };
@@ -47,7 +53,7 @@ fn acks_of(rt: &HostRuntime, options: &Options<'_>) -> Result<Option<Watched<Fil
 }
 
 /// The name of the log before the server names one.
-fn first_name<'w>(options: &Options<'w>) -> &'w [u8]
+pub(crate) fn first_name<'w>(options: &Options<'w>) -> &'w [u8]
     ensures { result.now ≡ first_name options.now }
 {
     match options.follow.log_name {
@@ -67,7 +73,7 @@ fn payload_format(options: &Options<'_>) -> PayloadFormat
 }
 
 /// An answer of which nothing arrived. The error is the status if there can be none.
-fn answer_of<G: Fn(&[u8]) -> u32 + Drop>(
+pub(crate) fn answer_of<G: Fn(&[u8]) -> u32 + Drop>(
     rt: &HostRuntime,
     options: &Options<'_>,
     checksum: G,
@@ -89,7 +95,7 @@ fn answer_of<G: Fn(&[u8]) -> u32 + Drop>(
 
 /// Says why following ended. `stop` and `fault` are those of the log, and `is_closed` whether whoever read the output has gone. Returns
 /// the status.
-fn say_end<G: Fn(&[u8]) -> u32>(
+pub(crate) fn say_end<G: Fn(&[u8]) -> u32>(
     rt: &HostRuntime,
     end: FollowEnd,
     answer: &AnswerEvents<G>,
@@ -143,7 +149,7 @@ fn printer_of<'r>(
 }
 
 /// A buffer for what a read gives. The error is the status if memory runs out.
-fn piece_of(rt: &HostRuntime) -> Result<Vec<u8>, u8> {
+pub(crate) fn piece_of(rt: &HostRuntime) -> Result<Vec<u8>, u8> {
     let mut piece = Vec::new(rt.alloc());
     match piece.resize(PIECE_LEN, 0) {
         Ok(()) => Ok(piece),
@@ -208,7 +214,11 @@ fn follow_input(rt: &HostRuntime, options: &Options<'_>, state: &mut RunState) -
 
 /// Prints the changes of a server's answer on standard input. Returns the status.
 pub(crate) fn follow(rt: &HostRuntime, options: &Options<'_>, state: &mut RunState) -> u8 {
-    match follow_input(rt, options, state) {
+    let followed = match options.format {
+        Some(_) => follow_format(rt, options, &mut state.sources),
+        None => follow_input(rt, options, state),
+    };
+    match followed {
         Ok(status) | Err(status) => status,
     }
 }

@@ -7,7 +7,9 @@
 mod changes;
 mod checking;
 mod follow;
+mod follow_formats;
 mod follow_messages;
+mod formats;
 mod outcomes;
 mod parts;
 mod printer;
@@ -33,6 +35,10 @@ fn refuse(rt: &HostRuntime, refused: Refused) -> ExitCode {
         Refused::Value(option) => {
             let example = Refused::example(option);
             let _ = eprintln!(rt; "binlog-changes: --{option} wants a value such as {example}");
+            ExitCode::from(2)
+        }
+        Refused::OwnLines(option) => {
+            let _ = eprintln!(rt; "binlog-changes: --{option} has no meaning with --format");
             ExitCode::from(2)
         }
         Refused::NoCommand => {

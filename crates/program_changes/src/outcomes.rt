@@ -1,5 +1,6 @@
 //! What is said of a log that was read, and the status that it has.
 
+use crate::sql::RefusedChange;
 use changes_commands::{
     Explanation, Failure, Log, LogReader, Options, Text, are_of_one_server, explain, leads_to,
     put_led_astray, put_no_start, put_no_transaction,
@@ -79,6 +80,24 @@ fn no_start(rt: &HostRuntime, path: &str, before: Option<u32>, after: Option<u32
     put_no_start(path, before, after, &mut text);
     say(rt, text.bytes());
     USAGE
+}
+
+/// Prints why a change isn't printed: what it lacks, and what may be done.
+pub(crate) fn say_refused(
+    rt: &impl Eprint,
+    path: &str,
+    refused: &RefusedChange,
+    lacks: &str,
+    advice: &str,
+) {
+    let name = match str::from_utf8(&refused.name) {
+        Ok(name) => name,
+        Err(_) => "a table",
+    };
+    let (why, position) = (refused.why, refused.position);
+    let _ = eprintln!(rt;
+        "binlog-changes: {path}: the change of {name} that ends at position {position} {lacks}: {why}{advice}"
+    );
 }
 
 /// Prints that no transaction ends where the options say.

@@ -9,9 +9,8 @@ ghost use Rattle.program_changes.specs.LineSinks.{HasLines, IsRecorderFor};
 use crate::changes::LineSink;
 use crate::reached::{Reached, Timer};
 use changes_commands::{Failure, Text};
-use changes_followed::AnswerSink;
 use changes_lines::JsonRecorder;
-use changes_walks::TransactionSink;
+use changes_walks::{AnswerSink, TransactionSink};
 use feed_change_log::Filter;
 use feed_transactions::put_all;
 use std::alloc::{AllocError, Global};
@@ -49,7 +48,7 @@ fn progress_line<T: Timer>(
 }
 
 /// Writes acknowledgements, if there is a writer for them. `Unwritten`: it failed.
-fn write_acks<A: Write>(acks: &mut Option<Watched<A>>, due: &[u8]) -> Result<(), Failure>
+pub(crate) fn write_acks<A: Write>(acks: &mut Option<Watched<A>>, due: &[u8]) -> Result<(), Failure>
     ensures { WritesAcks A.contents acks.old acks.new due.now result }
 {
     match acks {
@@ -94,7 +93,7 @@ impl<'f, W: Write, A: Write, T: Timer> TransactionSink<JsonRecorder<'f>> for Pri
 impl<'f, W: Write, A: Write, T: Timer> AnswerSink<JsonRecorder<'f>> for Printer<W, A, T> {
     ghost use Rattle.std.specs.Prelude.{◌++◌, List, ℕ, IfErr, OnOk};
     ghost use Rattle.feed_change_log.specs.declared.filter.Filter.{Filter};
-    ghost use Rattle.changes_followed.specs.FollowedAnswers.{LogTransaction};
+    ghost use Rattle.changes_walks.specs.FollowedAnswers.{LogTransaction};
     ghost use Rattle.changes_lines.specs.declared.recorder.JsonRecorder.{JsonRecorder};
     ghost use Rattle.program_changes.specs.PrintedAnswers.{FailsInPrinting, HasPrintedLogs, HasWrittenAll};
     ghost use Rattle.program_changes.specs.declared.printer.Printer.{Printer};

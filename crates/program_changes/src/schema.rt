@@ -1,5 +1,8 @@
 //! The option `--schema`: tables from outside, from where on they are these, and what is said of those that don't fit the logs.
 
+ghost use Rattle.std.specs.Prelude.{◌≡◌, not};
+ghost use Rattle.program_changes.specs.SchemaPlaces.{BeginsIn, IsBefore};
+
 use changes_commands::{Log, LogOrder, Names, Options, SchemaBeginning, SchemaFile, order_of};
 use changes_walks::{FAILED, FilteredNames, SourceStates, USAGE, filter_of};
 use schema_files::{SchemaFaultKind, read_schema};
@@ -41,7 +44,10 @@ fn schema_in(rt: &HostRuntime, path: &str) -> Result<Schema, u8> {
 }
 
 /// Whether it is known that a schema begins before another.
-fn is_before(beginning: SchemaBeginning<'_>, other: SchemaBeginning<'_>) -> bool {
+#[tactic(auto, unfolding(crate::specs::SchemaPlaces::IsBefore))]
+fn is_before(beginning: SchemaBeginning<'_>, other: SchemaBeginning<'_>) -> bool
+    ensures { IsBefore beginning.entry other.entry result }
+{
     match (beginning, other) {
         (SchemaBeginning::First, SchemaBeginning::Time(_) | SchemaBeginning::Position(..)) => true,
         (SchemaBeginning::Time(time), SchemaBeginning::Time(other)) => time < other,
@@ -56,7 +62,9 @@ fn is_before(beginning: SchemaBeginning<'_>, other: SchemaBeginning<'_>) -> bool
 }
 
 /// Whether a schema doesn't begin before an earlier one; if it does, says so.
-fn is_after(rt: &impl Eprint, file: SchemaFile<'_>, earlier: SchemaFile<'_>) -> bool {
+fn is_after(rt: &impl Eprint, file: SchemaFile<'_>, earlier: SchemaFile<'_>) -> bool
+    ensures { IsBefore file.entry.beginning earlier.entry.beginning (not result) }
+{
     if !is_before(file.beginning, earlier.beginning) {
         return true;
     }
@@ -126,7 +134,10 @@ pub(crate) fn schemas_of(rt: &HostRuntime, options: &Options<'_>) -> Result<Sche
 
 /// Where a schema begins in a log with this name: in a log after that of its position it has its tables from the first event on, and in
 /// another it has none.
-fn start_in(beginning: SchemaBeginning<'_>, name: &str) -> SchemaStart {
+#[tactic(auto, unfolding(crate::specs::SchemaPlaces::BeginsIn))]
+fn start_in(beginning: SchemaBeginning<'_>, name: &str) -> SchemaStart
+    ensures { BeginsIn beginning.entry name.now result }
+{
     match beginning {
         SchemaBeginning::First => SchemaStart::FIRST,
         SchemaBeginning::Time(time) => SchemaStart { time, position: 0 },

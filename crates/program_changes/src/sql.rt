@@ -6,15 +6,15 @@ use changes_origins::put_gtid;
 use changes_statements::{NoStatement, Scratch, put_instant, put_name};
 use changes_walks::{LogEnd, SourceStates, TransactionSink, selection_of, walk_log};
 use crc32::crc32;
-use event_statements::{Direction, RowCounts, RowsTaken, SqlTables, add_rows};
+use event_statements::{
+    Direction, NewestFirst, RowCounts, RowsTaken, SESSION, SqlTables, TextList, add_rows,
+    keep_transaction, write_transaction, write_undo,
+};
 use events_frames::QueryTexts;
 use feed_change_log::{Change, ChangeRecorder, CommittedTransaction, Filter, TableRows, What};
 use feed_checks::Verdict;
 use feed_text::TextBuffer;
 use feed_transactions::WaitingBytes;
-use statement_texts::{
-    NewestFirst, SESSION, TextList, keep_transaction, write_transaction, write_undo,
-};
 use std::alloc::{AllocError, Global};
 use std::collections::BTreeMap;
 use std::io::{Read, Write};
@@ -108,7 +108,7 @@ struct SqlSink<'s, W: Write> {
 }
 
 /// The failure for a change without a statement.
-fn failure_of(why: NoStatement) -> Failure {
+pub(crate) fn failure_of(why: NoStatement) -> Failure {
     match why {
         NoStatement::Memory => Failure::Memory,
         _ => Failure::Unwritten,
@@ -116,7 +116,7 @@ fn failure_of(why: NoStatement) -> Failure {
 }
 
 /// The table of rows, in backticks.
-fn table_name(alloc: Global, rows: TableRows<'_>) -> Result<Vec<u8>, NoStatement> {
+pub(crate) fn table_name(alloc: Global, rows: TableRows<'_>) -> Result<Vec<u8>, NoStatement> {
     let mut text = TextBuffer::new(alloc);
     put_name(rows.database(), &mut text)?;
     text.put(b'.')?;
@@ -379,7 +379,7 @@ fn taken_of<'o>(options: &'o Options<'_>) -> RowsTaken<'o> {
 }
 
 /// How a run ended whose output may have been closed.
-fn end_of(end: LogEnd, is_closed: bool) -> LogEnd {
+pub(crate) fn end_of(end: LogEnd, is_closed: bool) -> LogEnd {
     match end {
         LogEnd::Failed(Failure::Unwritten) if is_closed => LogEnd::Failed(Failure::Closed),
         _ => end,

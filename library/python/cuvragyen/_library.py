@@ -14,7 +14,8 @@ def _path() -> str:
 
 LIBRARY = ctypes.CDLL(_path())
 OK, TRANSACTION = 0, 1
-NAMES = {2: "ClosedHandle", 3: "Option", 4: "Value"}
+NAMES = {2: "ClosedHandle", 3: "Option", 4: "Value", 6: "Schema"}
+BAD_SCHEMA = 6
 END = 100
 MAX_FILE_LEN = 1024
 
@@ -66,6 +67,9 @@ def _declare(name: str, result: object, *arguments: object) -> None:
 U32, SIZE, BYTES = ctypes.c_uint32, ctypes.c_size_t, ctypes.c_void_p
 _declare("version", ctypes.c_char_p)
 _declare("open", U32, ctypes.POINTER(Handle), ctypes.c_char_p, SIZE)
+_declare(
+    "open_with_schema", U32, ctypes.POINTER(Handle), ctypes.c_char_p, SIZE, ctypes.c_char_p, SIZE, ctypes.POINTER(ctypes.c_uint64)
+)
 _declare("push", U32, ctypes.POINTER(Handle), BYTES, SIZE)
 _declare("next", U32, ctypes.POINTER(Handle))
 _declare("show", U32, ctypes.POINTER(Handle), ctypes.POINTER(View))
@@ -79,15 +83,16 @@ _declare("kept_json", U32, ctypes.c_char_p, SIZE, ctypes.POINTER(Kept), ctypes.c
 
 
 class Fault(Exception):
-    """Why a log can't be opened or read further. `number` is that of the header's constants."""
+    """Why a log can't be opened or read further. `number` is that of the header's constants, `line` that of a schema's line."""
 
-    def __init__(self, number: int) -> None:
+    def __init__(self, number: int, line: int = 0) -> None:
         self.number = number
-        super().__init__(verdict_name(number))
+        self.line = line
+        super().__init__(verdict_name(number) + (f", line {line}" if line else ""))
 
 
 def verdict_name(number: int) -> str:
-    """The name of a verdict, such as Checksum; ClosedHandle for a closed log, Option or Value for options that can't be taken."""
+    """The name of a verdict, such as Checksum; ClosedHandle for a closed log, Option, Value or Schema for what can't be taken."""
     if number in NAMES:
         return NAMES[number]
     view = View()

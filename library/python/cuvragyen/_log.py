@@ -7,6 +7,7 @@ import os
 from typing import Any, Dict, Iterator, NamedTuple, Optional, Sequence, Union
 
 from . import _library as c
+from ._record import Record
 
 PIECE_LEN = 1 << 18
 Names = Union[str, Sequence[str]]
@@ -61,10 +62,14 @@ class Transaction:
         return Header(header.time, header.server_id, header.position)
 
     def view(self) -> memoryview:
-        """Its JSON lines, without a copy."""
+        """Its JSON lines, or its binary record, without a copy."""
         view = c.View()
         _is_there(c.LIBRARY.cuvragyen_show(self._log._handle, ctypes.byref(view)))
         return memoryview((ctypes.c_ubyte * view.len).from_address(view.at)).cast("B").toreadonly()
+
+    def record(self) -> Record:
+        """It as a binary record, without a copy, of a log that was opened with records=True."""
+        return Record(self.view())
 
     def lines(self) -> bytes:
         """Its JSON lines, each with a line feed."""
@@ -87,14 +92,18 @@ def _options(file: str, flags: Dict[str, Union[Names, int, bool, None]]) -> byte
 
 
 class Log:
-    """A binary log that arrives in pieces. The options are those of cuvragyen_open, with underscores for hyphens."""
+    """A binary log that arrives in pieces. The options are those of cuvragyen_open, with underscores for hyphens.
 
-    def __init__(self, file: str = "", **options: Union[Names, int, bool, None]) -> None:
+    `schema` is the text of a schema that completes table maps, as binlog-changes --schema takes it. A Fault of it has the line.
+    """
+
+    def __init__(self, file: str = "", schema: bytes = b"", **options: Union[Names, int, bool, None]) -> None:
         self._handle = c.Handle()
         text = _options(file, {"with" if name == "with_" else name: value for name, value in options.items()})
-        result = c.LIBRARY.cuvragyen_open(self._handle, text, len(text))
+        line = ctypes.c_uint64(0)
+        result = c.LIBRARY.cuvragyen_open_with_schema(self._handle, text, len(text), schema, len(schema), ctypes.byref(line))
         if result != c.OK:
-            raise c.Fault(result)
+            raise c.Fault(result, line.value)
 
     def push(self, piece: Union[bytes, bytearray, memoryview]) -> None:
         """Keeps the next bytes of the log, a piece of any length. Take its transactions before the next piece."""
@@ -148,11 +157,11 @@ class Log:
             self.close()
 
 
-def log(path: Union[str, os.PathLike], **options: Union[Names, int, bool, None]) -> Iterator[Transaction]:
+def log(path: Union[str, os.PathLike], schema: bytes = b"", **options: Union[Names, int, bool, None]) -> Iterator[Transaction]:
     """The transactions of a log in a file. Raises a Fault where the log can't be read further, or isn't whole."""
     options.setdefault("file", os.path.basename(os.fspath(path)))
     file = str(options.pop("file"))
-    with open(path, "rb") as source, Log(file, **options) as reader:
+    with open(path, "rb") as source, Log(file, schema, **options) as reader:
         while True:
             piece = source.read(PIECE_LEN)
             if not piece:

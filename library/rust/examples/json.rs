@@ -1,23 +1,13 @@
 //! Prints the committed changes of logs as JSON lines: `json FILE..`.
 
 use cuvragyen::{Fault, Log};
-use std::io::{Read, Write};
+use std::io::Write;
 
 fn print(path: &std::path::Path, out: &mut impl Write) -> Result<(), Box<dyn std::error::Error>> {
     let name = path.file_name().unwrap_or_default().to_string_lossy();
     let mut file = std::fs::File::open(path)?;
     let mut log = Log::open(&format!("file={name}"))?;
-    let mut piece = vec![0; 1 << 17];
-    loop {
-        let len = file.read(&mut piece)?;
-        if len == 0 {
-            return Ok(());
-        }
-        log.push(&piece[..len])?;
-        while let Some(mut transaction) = log.next()? {
-            out.write_all(transaction.lines()?)?;
-        }
-    }
+    log.read_from(&mut file, |mut transaction| Ok(out.write_all(transaction.lines()?)?))
 }
 
 fn main() {

@@ -14,8 +14,14 @@
 //! assert!(log.stop().is_whole());
 //! # Ok::<(), cuvragyen::Fault>(())
 //! ```
+//!
+//! With the option `records=1` a transaction is a [`Record`] instead: iterators over its changes, rows and cells, borrowed from the log.
+//! `docs/library/MYSQL_COMMON.md` says which call stands for which of `mysql_common`'s.
 
 mod raw;
+mod record;
+
+pub use record::{Cells, Change, Changes, Column, Kind, NoRecord, Record, Row, RowIter, Rows, Statement, Table, Value};
 
 use std::ffi::CStr;
 use std::fmt;
@@ -36,6 +42,7 @@ impl Fault {
         match self.0 {
             raw::BAD_OPTION => "Option",
             raw::BAD_VALUE => "Value",
+            raw::BAD_SCHEMA => "Schema",
             number => verdict_name(number),
         }
     }
@@ -130,6 +137,21 @@ impl Log {
         Ok(log)
     }
 
+    /// The same, with a schema that completes table maps: the text of a file as `binlog-changes --schema` takes it. An error `Schema` has
+    /// the number of the line that can't be read, from 1 on; others have 0.
+    pub fn open_with_schema(options: &str, schema: &[u8]) -> Result<Log, (Fault, u64)> {
+        let mut log = Log { handle: raw::Handle::CLOSED };
+        let (text, len, mut line) = (options.as_ptr() as *const c_char, options.len(), 0);
+        // SAFETY: the handle is closed, and the options, the schema and the line are valid for the call.
+        let opened = unsafe {
+            raw::cuvragyen_open_with_schema(&mut log.handle, text, len, schema.as_ptr(), schema.len(), &mut line)
+        };
+        match done(opened) {
+            Ok(()) => Ok(log),
+            Err(fault) => Err((fault, line)),
+        }
+    }
+
     /// Keeps the next bytes of the log, a piece of any length. Take the transactions that are complete before the next piece.
     pub fn push(&mut self, bytes: &[u8]) -> Result<(), Fault> {
         // SAFETY: the handle is this log's, and the bytes are valid for the call.
@@ -147,6 +169,26 @@ impl Log {
             }
             raw::OK => Ok(None),
             number => Err(Fault(number)),
+        }
+    }
+
+    /// Pushes all that a reader gives, and hands each transaction to a function once its commit has arrived. [`Log::stop`] then says how the
+    /// log ended.
+    pub fn read_from<E: From<std::io::Error> + From<Fault>>(
+        &mut self,
+        reader: &mut impl std::io::Read,
+        mut take: impl FnMut(Transaction<'_>) -> Result<(), E>,
+    ) -> Result<(), E> {
+        let mut piece = vec![0; 1 << 17];
+        loop {
+            let len = reader.read(&mut piece)?;
+            if len == 0 {
+                return Ok(());
+            }
+            self.push(&piece[..len])?;
+            while let Some(transaction) = self.next()? {
+                take(transaction)?;
+            }
         }
     }
 
@@ -195,7 +237,12 @@ impl Transaction<'_> {
         self.header
     }
 
-    /// Its JSON lines, each with a line feed.
+    /// It as a binary record, of a log with the option `records=1`. An error `Value`: the log was opened without it.
+    pub fn record(&mut self) -> Result<Record<'_>, Fault> {
+        Record::of(self.lines()?).map_err(|NoRecord| Fault(raw::BAD_VALUE))
+    }
+
+    /// Its JSON lines, each with a line feed; of a log with the option `records=1` the bytes of its record.
     pub fn lines(&mut self) -> Result<&[u8], Fault> {
         let mut view = raw::View::EMPTY;
         // SAFETY: the handle is this transaction's log's; the bytes are valid while it is borrowed.

@@ -62,10 +62,19 @@ pub const OK: u32 = 0;
 pub const TRANSACTION: u32 = 1;
 pub const BAD_OPTION: u32 = 3;
 pub const BAD_VALUE: u32 = 4;
+pub const BAD_SCHEMA: u32 = 6;
 
 extern "C" {
     pub fn cuvragyen_version() -> *const c_char;
     pub fn cuvragyen_open(log: *mut Handle, options: *const c_char, len: usize) -> u32;
+    pub fn cuvragyen_open_with_schema(
+        log: *mut Handle,
+        options: *const c_char,
+        len: usize,
+        schema: *const u8,
+        schema_len: usize,
+        line: *mut u64,
+    ) -> u32;
     pub fn cuvragyen_push(log: *mut Handle, bytes: *const u8, len: usize) -> u32;
     pub fn cuvragyen_next(log: *mut Handle) -> u32;
     pub fn cuvragyen_show(log: *mut Handle, shown: *mut View) -> u32;

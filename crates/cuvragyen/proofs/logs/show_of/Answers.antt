@@ -5,11 +5,11 @@ use Rattle.cuvragyen.proofs.logs.show_of.Goals as goal
 
 pub returns-in-Ok-true-clause-shows : goal.returns-in-Ok-true-clause-shows
 returns-in-Ok-true-clause-shows c = goes_to _ _ c.in-Log.log c.show.new.self c.in-Log.is
-    (shows_lines _ _ _ _ c.show.ensures.log (rw c.in-Ok-true.field-0-test at c.in-Ok-true.ensures.there) c.in-Ok-true.ensures.lines (c.view_of.ensures.1 ∙ ap length c.shown.ensures))
+    (shows_lines _ _ _ _ c.show.ensures.log (rw c.in-Ok-true.field-0-test at c.in-Ok-true.ensures.there) c.in-Ok-true.ensures.shown (c.view_of.ensures.1 ∙ ap length c.shown.ensures))
 
 pub returns-in-Ok-false-clause-shows : goal.returns-in-Ok-false-clause-shows
 returns-in-Ok-false-clause-shows c = goes_to _ _ c.in-Log.log c.show.new.self c.in-Log.is
-    (shows_none _ _ _ _ c.show.ensures.log (rw c.in-Ok-false.field-0-test at c.in-Ok-false.ensures.there) c.in-Ok-false.ensures.lines c.view_of-in-Ok-false.ensures.1)
+    (shows_none _ _ _ _ c.show.ensures.log (rw c.in-Ok-false.field-0-test at c.in-Ok-false.ensures.there) c.in-Ok-false.ensures.shown c.view_of-in-Ok-false.ensures.1)
 
 pub returns-in-Err-clause-shows : goal.returns-in-Err-clause-shows
 returns-in-Err-clause-shows c = goes_to _ _ c.in-Log.log c.show.new.self c.in-Log.is

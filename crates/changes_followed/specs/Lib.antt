@@ -1,2 +1,0 @@
-pub mod FollowedAnswers
-pub mod FollowedEnds

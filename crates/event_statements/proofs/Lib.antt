@@ -1,0 +1,5 @@
+pub mod ReadRowLemmas
+mod AddedLemmas
+mod StatementTextLemmas
+pub mod NewestLemmas
+mod TransactionLemmas

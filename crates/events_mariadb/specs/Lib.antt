@@ -1,4 +1,0 @@
-pub mod MariadbTypes
-pub mod MadeEvents
-pub mod CompressedEvents
-pub mod StandingEvents

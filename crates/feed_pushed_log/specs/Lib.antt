@@ -1,2 +1,0 @@
-pub mod PushedBytes
-pub mod PushedLogs

@@ -1,0 +1,3 @@
+pub mod RecordLayouts
+pub mod RecordParts
+pub mod RecordedTransactions

@@ -1,4 +1,0 @@
-mod AddedLemmas
-mod StatementTextLemmas
-pub mod NewestLemmas
-mod TransactionLemmas

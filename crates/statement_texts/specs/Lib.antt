@@ -1,3 +1,0 @@
-pub mod StatementTexts
-pub mod NewestTexts
-pub mod TransactionTexts
