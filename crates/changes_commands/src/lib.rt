@@ -1,4 +1,9 @@
-//! The parts of `binlog-changes` that need no transactions: the command line, the order of logs, progress, the command `events`.
+//! The parts of `binlog-changes` that need no transactions: the command line, time zones, the order of logs, progress, the command
+//! `events`.
+//!
+//! `known_commands` has the commands and their options, and `command_line` reads the words. `time_zone` has the zones that `--time-zone`
+//! names, by `jiff`: UTC, an offset, or one of the system's. `events` lists the events of a log, and `plain` writes those of MySQL in
+//! place of MariaDB's.
 #![tactic(auto)]
 
 mod brief;

@@ -1,4 +1,7 @@
 //! The JSON lines of committed transactions: a recorder that keeps the rows of the open transaction as JSON, and their lines.
+//!
+//! `lines` writes the lines of a transaction, `recorder` and `rows` the JSON of its rows, and `resume_place` decides where a later run has
+//! to begin while an XA transaction is prepared (`resume`).
 #![tactic(auto)]
 
 mod columns;

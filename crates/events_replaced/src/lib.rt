@@ -1,9 +1,11 @@
 //! The events in place of others: those of compressed transactions, those that stand for MariaDB's own, and those of XA transactions.
 //!
-//! - Compressed transactions: `payload` reads the fields of a TRANSACTION_PAYLOAD_EVENT.
+//! - Compressed transactions: `payload` reads the fields of a TRANSACTION_PAYLOAD_EVENT, and `replacements` decompresses it; an event that
+//!   is damaged, such as one that states a wrong length, is given as it is.
 //! - MariaDB's own: for GTIDs and lists of them, annotations, checkpoints, and compressed statements and rows. `mariadb_type` has their
-//!   types, `mariadb_made` writes the events that stand for them, `compressed` finds and reads compressed data, and `mariadb_translator`
-//!   has the events in place of each. `plain` has those of the same size and at the same positions, for readers that know MySQL's alone.
+//!   types, `mariadb_made` writes the events that stand for them, and decides by a GTID's flags whether a BEGIN does, `compressed` finds
+//!   and reads compressed data, and `mariadb_translator` has the events in place of each. `plain` has those of the same size and at the
+//!   same positions, for readers that know MySQL's alone.
 //! - XA transactions: those of one that is prepared are kept, and given where it is committed. `xa_role` says what an event is to them,
 //!   `xa_xid` reads the XID in an XA_PREPARE_LOG_EVENT, and `xa_transactions` keeps the events of those in `prepared`.
 //!

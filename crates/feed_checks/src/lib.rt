@@ -1,8 +1,9 @@
-//! What each event of a binary log is to the feed, and the checks of an event that need no table.
+//! What each event of a binary log is to the feed, such as which statements begin, commit and roll back, and the checks of an event that
+//! need no table.
 //!
-//! The kind of an event is by its type, flags and body (`specs/Kinds.antt`). The checks are those of the frame, the checksum
-//! algorithm, the checksum, the size and the body (`specs/Damage.antt`); a server checks its log by them. [`Verdict`] has the
-//! words for how a log ends.
+//! The kind of an event is by its type, flags and body (`specs/Kinds.antt`). The checks are those of the frame, the checksum algorithm,
+//! the checksum, the size and the body (`specs/Damage.antt`); a server checks its log by them. [`Verdict`] has the words for how a log
+//! ends.
 #![tactic(auto)]
 
 mod checked_maps;

@@ -1,10 +1,10 @@
-//! Rows events, the plan of a table's columns, and the images and owned rows that are read by it. MySQL Internals: Rows_event.
+//! Rows events, the plan of a table's columns, and the images and owned rows that are read by it, by the columns that each image has.
+//! MySQL Internals: Rows_event.
 //!
-//! `ColumnPlan` is the plan of a table's columns: what reading a row needs to know about each, computed once from the table map
-//! and its optional metadata (`specs/Plans.antt`). `specs/OwnedRows.antt` defines the contents of an owned row,
-//! `specs/PlainRows.antt` its conversion to plain values, `specs/RowImages.antt` the row that is read from an image, and
-//! `specs/RowFields.antt` which bytes encode a row. A rows event is a sequence of fields (`specs/RowsEvents.antt`); one definition
-//! covers reading and writing.
+//! `ColumnPlan` is the plan of a table's columns: what reading a row needs to know about each, computed once from the table map and its
+//! optional metadata (`specs/Plans.antt`). `specs/OwnedRows.antt` defines the contents of an owned row, `specs/PlainRows.antt` its
+//! conversion to plain values, `specs/RowImages.antt` the row that is read from an image, and `specs/RowFields.antt` which bytes encode a
+//! row. A rows event is a sequence of fields (`specs/RowsEvents.antt`); one definition covers reading and writing.
 #![tactic(auto)]
 
 mod binlog_row;
