@@ -1,8 +1,7 @@
 //! Plain values of cells, quoted bytes, and opaque values of JSON documents. The texts of cells are those of rows.
 
 use crate::words::{Fault, bytes_of, done, only_bytes_of, put_rest, put_type};
-use feed_documents::quote;
-use feed_text::put_value;
+use feed_text::{put_value, quote};
 use rows_cells::{BinlogValue, BinlogValueCtx};
 use rows_errors::RowsError;
 use rows_jsonb::{JsonDom, JsonOpaque, JsonScalar, Value as JsonbValue};

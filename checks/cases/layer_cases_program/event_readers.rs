@@ -4,7 +4,7 @@ use crate::event_words::{put_field, put_unless};
 use crate::words::{Fault, bytes_of, put_text};
 use events_frames::{EventError, EventParts, EventStreamReader};
 use events_owned::ReadEvents;
-use feed_documents::quote;
+use feed_text::quote;
 use rows_constants::BinlogVersion;
 use std::alloc::{AllocError, Global};
 use wire_buf::Watched;

@@ -3,7 +3,7 @@
 use crate::feed_values::{put_comma, put_transaction};
 use crate::words::{Fault, bytes_of, done, number_of, put_bytes, put_text};
 use crc32::crc32;
-use feed_change_follower::ChangeFollower;
+use binlog_feed::ChangeFollower;
 use feed_checks::Verdict;
 use feed_replication::{Follower, RequestError, Served, request, serve, serve_semi};
 use std::alloc::Global;

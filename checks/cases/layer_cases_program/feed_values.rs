@@ -7,8 +7,7 @@ use feed_change_log::{
     Change, ChangeLog, CommittedTransaction, Filter, OwnedTransaction, Stop, TableRows, What,
 };
 use feed_checks::{Gtid, Verdict};
-use feed_documents::quote;
-use feed_text::put_cell_ref;
+use feed_text::{put_cell_ref, quote};
 use rows_cells::RowPart;
 use std::alloc::Global;
 use std::io::{self, ErrorKind, Read, Write};

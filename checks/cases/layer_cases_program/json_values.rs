@@ -4,7 +4,7 @@ use crate::words::{
     Fault, bytes_of, done, number_of, only_bytes_of, put_error, put_name, put_number, put_rest,
     put_text, put_type,
 };
-use feed_documents::put_json;
+use feed_text::put_json;
 use rows_errors::RowsError;
 use rows_jsonb::{
     Array, ComplexValue, JsonDiffOperation, JsonbString, JsonbType, Large, LiteralType, Object,

@@ -5,7 +5,7 @@ use crate::words::{
     Fault, bytes_of, done, put_bytes, put_name, put_number, put_text, put_type, put_written,
     small_len_of,
 };
-use feed_documents::quote;
+use feed_text::quote;
 use rows_errors::RowsError;
 use rows_event_body::{ColumnPlan, RowsEvent};
 use rows_table_map::TableMapEvent;

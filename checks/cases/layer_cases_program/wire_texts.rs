@@ -2,7 +2,7 @@
 
 use crate::wire_words::{len_of, name_and_argument, put_long_bytes, put_long_rest};
 use crate::words::{Fault, bytes_of, done, put_text};
-use feed_documents::quote;
+use feed_text::quote;
 use std::alloc::Global;
 use std::borrow::CowSlice;
 use std::io::Write;

@@ -1,7 +1,7 @@
 //! The words of a case, the words of a result, and the names of errors.
 
 use events_frames::EventError;
-use feed_documents::quote;
+use feed_text::quote;
 use rows_errors::RowsError;
 use rows_table_map::Bits;
 use rows_values::ParseDecimalError;

@@ -3,7 +3,7 @@
 use events_frames::EventStreamReader;
 use rows_constants::BinlogVersion;
 use std::alloc::AllocError;
-use tutorial_examples::events_of;
+use crate::events_tutorial::events_of;
 
 /// A query event, BEGIN, that ends at position 42.
 const BEGIN: &[u8] =

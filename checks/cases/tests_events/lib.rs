@@ -5,6 +5,7 @@
 
 mod built;
 mod built_statements;
+mod events_tutorial;
 mod example;
 mod headers;
 mod written;

@@ -5,7 +5,7 @@ use feed_checks::Verdict;
 use feed_replication::{Follower, RequestError, request};
 use std::alloc::Global;
 use std::test::*;
-use tests_serving::samples::{LIMIT, NAME, answered, two_inserts};
+use crate::samples::{LIMIT, NAME, answered, two_inserts};
 use wire_buf::Watched;
 
 /// The report of the log of two transactions.

@@ -3,7 +3,7 @@
 use bytes::BytesMut;
 use crc32::crc32;
 use std::alloc::Global;
-use tests_serving::samples::{BEGIN, MAP, ROWS, XID};
+use crate::samples::{BEGIN, MAP, ROWS, XID};
 use wire_packets::PacketCodec;
 
 /// The CRC-32 of bytes, bit by bit.

@@ -8,8 +8,8 @@ use feed_transactions::report;
 use std::alloc::{AllocError, Global};
 use std::cell::Cell;
 use std::io::{self, ErrorKind, Read, Write};
-use tests_serving::answers::Pieces;
-use tests_serving::samples::{
+use crate::answers::Pieces;
+use crate::samples::{
     BEGIN, Full, LIMIT, MAP, NAME, ROWS, TEXT, XID, answered, file_of, one_insert,
 };
 use wire_buf::Watched;

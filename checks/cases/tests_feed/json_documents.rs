@@ -1,6 +1,6 @@
 //! JSON documents and updates within JSON lines: escapes, values that JSON doesn't have, and paths that aren't text.
 
-use changes_documents::{put_diffs, put_document};
+use changes_cells::{put_diffs, put_document};
 use feed_text::TextBuffer;
 use std::alloc::Global;
 

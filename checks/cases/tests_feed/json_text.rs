@@ -3,8 +3,7 @@
 ghost use Rattle.std.specs.Prelude.{◌≡◌, [], replicate};
 
 use crate::texts::Outcome;
-use feed_documents::{FeedForm, put_json};
-use feed_text::{TextBuffer, Writing, WritingInRoom};
+use feed_text::{FeedForm, TextBuffer, Writing, WritingInRoom, put_json};
 use linked_list_allocator::LocalHeap;
 use rows_errors::RowsError;
 use rows_jsonb::{JsonDom, Value};

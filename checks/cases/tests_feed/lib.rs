@@ -5,6 +5,7 @@
 #![tactic(auto)]
 
 mod again;
+mod answers;
 mod checksums;
 mod failed_cells;
 mod failing;
@@ -16,7 +17,9 @@ mod laws;
 mod memory;
 mod reporting;
 mod rows_example;
+mod rows_tutorial;
 mod rows_without_memory;
+mod samples;
 mod semi;
 mod tables_shown;
 mod texts;

@@ -6,8 +6,8 @@ use feed_checks::Verdict;
 use feed_replication::{Follower, Served, request, serve};
 use std::alloc::Global;
 use std::test::*;
-use tests_serving::answers::answer_of;
-use tests_serving::samples::{BEGIN, LIMIT, MAP, NAME, ROWS, TEXT, XID, one_insert};
+use crate::answers::answer_of;
+use crate::samples::{BEGIN, LIMIT, MAP, NAME, ROWS, TEXT, XID, one_insert};
 use wire_buf::Watched;
 
 /// Whether the result is `Ok` with these bytes.

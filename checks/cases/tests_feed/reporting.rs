@@ -4,7 +4,7 @@ use crc32::crc32;
 use feed_checks::Verdict;
 use feed_transactions::report;
 use std::alloc::Global;
-use tests_serving::answers::Pieces;
+use crate::answers::Pieces;
 use wire_buf::Watched;
 
 /// The report of a file from a reader that gives at most this number of bytes at once.

@@ -1,6 +1,6 @@
 //! The example of the documentation of rows.
 
-use tutorial_examples::updated_rows;
+use crate::rows_tutorial::updated_rows;
 
 /// A table map: table id 7 is `d`.`t`, with two columns, an INT and a VARCHAR(10).
 const TABLE_MAP: &[u8] = b"\x07\0\0\0\0\0\x01\0\x01d\0\x01t\0\x02\x03\x0f\x02\x0a\0\x02";

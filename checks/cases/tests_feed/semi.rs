@@ -4,7 +4,7 @@ use crc32::crc32;
 use feed_checks::Verdict;
 use feed_replication::{Follower, RequestError, request, serve_semi};
 use std::alloc::Global;
-use tests_serving::samples::{FIRST_ACK, Full, LIMIT, TEXT, are_joined, one_insert};
+use crate::samples::{FIRST_ACK, Full, LIMIT, TEXT, are_joined, one_insert};
 use wire_buf::Watched;
 
 /// The name of the binary log.

@@ -1,7 +1,6 @@
 //! Running out of memory for the texts of values. The texts are cases of `rows_cases`.
 
-use feed_documents::quote;
-use feed_text::{put_decimal, put_value};
+use feed_text::{put_decimal, put_value, quote};
 use linked_list_allocator::LocalHeap;
 use rows_errors::RowsError;
 use rows_values::Value;

@@ -1,12 +1,12 @@
 //! A follower that lends each transaction, over answers that are interrupted.
 
 use crc32::crc32;
-use feed_change_follower::ChangeFollower;
+use binlog_feed::ChangeFollower;
 use feed_checks::Verdict;
 use feed_replication::{RequestError, request};
 use std::alloc::Global;
 use std::test::*;
-use tests_serving::samples::{LIMIT, NAME, answered, two_inserts};
+use crate::samples::{LIMIT, NAME, answered, two_inserts};
 
 /// Takes what a follower has received. Whether its transactions end at the next of these positions; returns how many there were,
 /// and the verdict, if the stream is over.

@@ -4,13 +4,13 @@ ghost use Rattle.std.specs.Prelude.{⊤};
 
 use crate::rehearsing::{ALL, step};
 use crc32::crc32;
-use feed_change_follower::{Applier, rehearse_changes};
+use binlog_feed::{Applier, rehearse_changes};
 use feed_change_log::CommittedTransaction;
 use feed_checks::Verdict;
 use feed_replication::{PayloadFormat, Step};
 use std::alloc::Global;
 use std::test::*;
-use tests_serving::samples::two_inserts;
+use crate::samples::two_inserts;
 
 /// The positions after the first transactions that it applied, and their number.
 #[derive(Drop)]

@@ -1,9 +1,11 @@
-//! Tests of followers over connections that drop and over a log that grows, and of what they acknowledge.
-//!
-//! They use the small binary log in `samples` of `tests_serving`.
+//! Tests of followers over connections that drop and over a log that grows, and of what they acknowledge; and of a server whose reader
+//! and writer fail.
 #![tactic(auto)]
 
+mod answers;
 mod change_following;
 mod change_rehearsing;
 mod rehearsing;
+mod samples;
 mod semi_rehearsing;
+mod serving;

@@ -5,7 +5,7 @@ use feed_checks::Verdict;
 use feed_replication::{Step, rehearse, rehearse_growing};
 use std::alloc::Global;
 use std::test::*;
-use tests_serving::samples::{Full, TEXT, one_insert, two_inserts};
+use crate::samples::{Full, TEXT, one_insert, two_inserts};
 use wire_buf::Watched;
 
 /// More bytes than any answer of these tests has.

@@ -6,7 +6,7 @@ use feed_checks::Verdict;
 use feed_replication::{Step, rehearse_semi};
 use linked_list_allocator::LocalHeap;
 use std::alloc::{AllocError, Global};
-use tests_serving::samples::{
+use crate::samples::{
     FIRST_ACK, FIRST_END, LAST_ACK, LAST_END, TEXT, WHOLE, are_joined, one_insert,
 };
 use wire_buf::Watched;

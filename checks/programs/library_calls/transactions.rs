@@ -3,7 +3,7 @@
 
 use crate::follower::{FIRST_OFFSET, NAME, PACKET_LIMIT, TEXT_LEN, put_line};
 use crc32::crc32;
-use feed_change_follower::ChangeFollower;
+use binlog_feed::ChangeFollower;
 use feed_checks::{Verdict, name_of};
 use std::alloc::{AllocError, Global};
 use std::io::{self, Write};

@@ -14,3 +14,7 @@ mod LastCommitLemmas
 mod RestLemmas
 mod IndependenceLemmas
 mod FollowableLemmas
+pub mod ChangeFollowLemmas
+pub mod AlikeCommitLemmas
+pub mod ChangeRunLemmas
+pub mod ApplyLemmas

@@ -44,11 +44,6 @@ pub use Rattle.feed_replication.specs.AnswerReaders
 pub use Rattle.feed_replication.specs.AnswerSteps
 pub use Rattle.feed_replication.specs.Following
 pub use Rattle.feed_replication.specs.FollowingSteps
-pub use Rattle.feed_change_follower.specs.StreamCommits
-pub use Rattle.feed_change_follower.specs.ChangeFollowing
-pub use Rattle.feed_change_follower.specs.Appliers
-pub use Rattle.feed_change_follower.specs.ChangeRuns
-pub use Rattle.feed_change_follower.specs.ChangeRunSteps
 pub mod WorkedStreams
 pub use Rattle.feed_replication.specs.RequestFields as ServedRequests
 pub use Rattle.feed_replication.specs.RequestedPackets
@@ -76,15 +71,15 @@ pub mod LastCommits
 pub use Rattle.feed_replication.specs.Rehearsing
 pub use Rattle.feed_replication.specs.RehearsalSteps
 pub mod WorkedRuns
-pub use Rattle.feed_documents.specs.TextPieces
-pub use Rattle.feed_documents.specs.Times
-pub use Rattle.feed_documents.specs.ValueText
+pub use Rattle.feed_text.specs.TextPieces
+pub use Rattle.feed_text.specs.Times
+pub use Rattle.feed_text.specs.ValueText
 pub use Rattle.feed_text.specs.DecimalText
-pub use Rattle.feed_documents.specs.DocumentForms
-pub use Rattle.feed_documents.specs.JsonText
+pub use Rattle.feed_text.specs.DocumentForms
+pub use Rattle.feed_text.specs.JsonText
 pub use Rattle.feed_text.specs.ShortTexts
-pub use Rattle.feed_documents.specs.DiffText
-pub use Rattle.feed_documents.specs.FeedDocuments
+pub use Rattle.feed_text.specs.DiffText
+pub use Rattle.feed_text.specs.FeedDocuments
 pub use Rattle.feed_text.specs.CellText
 pub use Rattle.feed_text.specs.CellContent
 pub use Rattle.feed_text.specs.Buffers
@@ -94,3 +89,8 @@ pub use Rattle.feed_writers.specs.Quoting
 pub use Rattle.feed_writers.specs.TimesOfDay
 pub use Rattle.wire_buf.specs.Watched
 pub mod RowsByMap
+pub mod StreamCommits
+pub mod ChangeFollowing
+pub mod Appliers
+pub mod ChangeRuns
+pub mod ChangeRunSteps

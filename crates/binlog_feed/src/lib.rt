@@ -3,11 +3,19 @@
 //! It re-exports the calls of its parts that users need, with the types of their arguments and results, and CRC-32; and it has their
 //! laws and worked examples, so that no program waits for the proofs of these. What the parts have for one another, such as the trait
 //! of recorders of transactions, isn't re-exported. `feed_transactions` has the report of a file, `feed_change_log` transactions as
-//! values, `feed_replication` requests, followers and servers, `feed_change_follower` the follower that lends transactions,
-//! `feed_text` and `feed_documents` the text of values, and `feed_resume` the complete transactions of a truncated text.
+//! values, `feed_replication` requests, followers and servers, `feed_text` the text of values, and `feed_resume` the complete
+//! transactions of a truncated text.
+//!
+//! [`ChangeFollower`] follows a server's answer and lends each committed transaction as a value: it keeps the bytes that arrive, and asks
+//! again from the position after the last transaction that was passed. [`rehearse_changes`] runs it so over any number of connections,
+//! and passes the transactions to an [`Applier`].
 #![tactic(auto)]
 
+mod applier;
+mod change_follower;
+mod change_rehearsal;
 mod check_laws;
+pub mod follower_laws;
 mod kind_laws;
 pub mod laws;
 mod report_laws;
@@ -20,22 +28,24 @@ mod worked_runs;
 mod worked_serving;
 mod worked_streams;
 
+pub use applier::Applier;
+pub use change_follower::ChangeFollower;
+pub use change_rehearsal::rehearse_changes;
 pub use crc32::crc32;
 pub use events_frames::{BinlogEventHeader, QueryTexts};
-pub use feed_change_follower::{Applier, ChangeFollower, rehearse_changes};
 pub use feed_change_log::{
     Change, ChangeLog, ChangeRecorder, Changes, CommittedTransaction, Filter, NoLog,
     OwnedTransaction, Stop, TableRows, TakenChanges, What,
 };
 pub use feed_checks::{Gtid, Verdict, name_of, status};
-pub use feed_documents::{DocumentForm, UpdateForm, put_json, quote};
 pub use feed_replication::{
     Follower, PayloadFormat, Refusal, RequestError, Served, Step, rehearse, rehearse_growing,
     rehearse_semi, request, serve, serve_semi,
 };
 pub use feed_resume::{Keeper, kept};
 pub use feed_text::{
-    TextBuffer, Writing, WritingInRoom, put_cell, put_cell_ref, put_decimal, put_value,
+    DocumentForm, TextBuffer, UpdateForm, Writing, WritingInRoom, put_cell, put_cell_ref,
+    put_decimal, put_json, put_value, quote,
 };
 pub use feed_transactions::report;
 pub use rows_cells::{BinlogValue, CellRef, ImageCells, ImagePlan, RowPart, RowPlan, RowsCursor};

@@ -10,11 +10,11 @@ use Rattle.rows_cells.specs.CellValues.{CellValue, null, bytes, int, uint, float
 use Rattle.rows_cells.specs.Cells.{cell_at}
 use Rattle.feed_text.specs.CellText.{label, cell_value_text, tree_text, cell_diffs_text, IsTextError}
 use Rattle.feed_text.specs.DirectText.{WritesDocument, IsDocumentError}
-use Rattle.feed_documents.specs.DocumentForms.{AppendsUpdates}
-use Rattle.feed_documents.specs.JsonText.{document_text}
+use Rattle.feed_text.specs.DocumentForms.{AppendsUpdates}
+use Rattle.feed_text.specs.JsonText.{document_text}
 use Rattle.feed_text.proofs.CellLemmas.{no_more}
-use Rattle.feed_documents.proofs.QuoteLemmas.{kept_more}
-use Rattle.changes_documents.specs.JsonDocuments.{json_form}
+use Rattle.feed_text.proofs.QuoteLemmas.{kept_more}
+use Rattle.changes_cells.specs.JsonDocuments.{json_form}
 use Rattle.changes_tables.specs.ShownColumns.{ColumnView}
 use Rattle.changes_tables.specs.declared.columns.Shown.TheVariants.{Plain}
 use Rattle.changes_cells.specs.CellJson.{IsCellJson, IsIntegerJson}

@@ -4,3 +4,5 @@ pub mod FixedLemmas
 pub mod LongTextLemmas
 pub mod TextJsonLemmas
 pub mod FieldLemmas
+pub mod KeyLemmas
+pub mod JsonFormLemmas

@@ -7,7 +7,7 @@ use Rattle.std.proofs.lemmas.List.Concat.{flat_map-append}
 use Rattle.base64.specs.Engines.{standard}
 use Rattle.base64.specs.GeneralPurpose.{encode_of, engine_symbols}
 use Rattle.base64.specs.Rfc4648.{encode_group, encode_symbols, padding_len}
-use Rattle.feed_documents.proofs.QuoteLemmas.{kept_more}
+use Rattle.feed_text.proofs.QuoteLemmas.{kept_more}
 use Rattle.changes_writers.specs.JsonStrings.{json_byte}
 
 -- ---- strings

@@ -7,7 +7,7 @@ use Rattle.std.specs.List.{filter, join_with_byte, range_with_len}
 use Rattle.byteorder.specs.Endian.{big_number, little_number}
 use Rattle.changes_character_sets.specs.Texts.{IsTextOf}
 use Rattle.changes_character_sets.specs.declared.character_set.CharacterSet.{CharacterSet}
-use Rattle.changes_documents.specs.JsonDocuments.{json_form}
+use Rattle.changes_cells.specs.JsonDocuments.{json_form}
 use Rattle.changes_tables.specs.ShownColumns.{ColumnView}
 use Rattle.changes_tables.specs.declared.columns.Shown.{Shown}
 use Rattle.changes_tables.specs.declared.columns.Shown.TheVariants as shown
@@ -15,7 +15,7 @@ use Rattle.changes_writers.specs.Base64Texts.{base64_object, base64_string}
 use Rattle.changes_writers.specs.FloatTexts.{IsDoubleJson, IsFloatJson}
 use Rattle.changes_writers.specs.JsonStrings.{json_string}
 use Rattle.changes_writers.specs.TimeStrings.{date_json}
-use Rattle.feed_documents.specs.DocumentForms.{IsDocumentIn, IsUpdatesIn}
+use Rattle.feed_text.specs.DocumentForms.{IsDocumentIn, IsUpdatesIn}
 use Rattle.feed_writers.specs.declared.times.Clock.{Clock}
 use Rattle.feed_writers.specs.declared.times.Day.{Day}
 use Rattle.rows_cells.specs.declared.format.CellFormat.{CellFormat}

@@ -12,13 +12,13 @@ ghost use Rattle.changes_cells.specs.CellJson.{of_few, member_json, members_json
 ghost use Rattle.changes_cells.specs.FieldJson.{IsFixed, AppendsCell, IsFieldError};
 
 use crate::bytes::{NUMBER_LEN_MAX, big_endian, little_endian};
+use crate::documents::{put_diffs, put_document};
 use crate::fields::FIELD_LEN_MAX;
 use crate::fixed::put_fixed_field;
 use crate::members::{append_member, append_members};
 use crate::numbers::{put_negative, put_simple_number};
 use crate::pieces::{append_base64_object, append_base64_string, append_text};
 use crate::readings::read_sized;
-use changes_documents::{put_diffs, put_document};
 use changes_tables::{Shown, ShownColumn};
 use feed_text::TextBuffer;
 use rows_cells::{

@@ -6,3 +6,4 @@ mod MemberNameLemmas
 mod SchemaOptionLemmas
 mod ZoneLemmas
 pub mod LogReaderLemmas
+mod UnpackingLemmas

@@ -7,3 +7,4 @@ pub mod MemberNames
 pub mod RefusedOptions
 pub mod SchemaOptions
 pub mod TimeZones
+pub mod Unpacked

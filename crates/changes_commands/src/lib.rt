@@ -1,8 +1,9 @@
-//! The parts of `binlog-changes` that need no transactions: the command line, time zones, the order of logs, progress, the command
-//! `events`.
+//! The parts of `binlog-changes` that need no transactions: the command line, time zones, which logs a run reads, their order and their
+//! bytes, progress, the command `events`.
 //!
 //! `known_commands` has the commands and their options, and `command_line` reads the words. `time_zone` has the zones that `--time-zone`
-//! names, by `jiff`: UTC, an offset, or one of the system's. `events` lists the events of a log, and `plain` writes those of MySQL in
+//! names, by `jiff`: UTC, an offset, or one of the system's. `listed` finds the logs of an index file or of a folder that has one, and
+//! `unpacking` decompresses a log that is a gzip or Zstandard file. `events` lists the events of a log, and `plain` writes those of MySQL in
 //! place of MariaDB's.
 #![tactic(auto)]
 
@@ -14,6 +15,7 @@ mod events;
 mod follow_options;
 mod format_options;
 mod known_commands;
+mod listed;
 mod log_reader;
 mod logs;
 mod member_names;
@@ -31,6 +33,7 @@ mod sql_options;
 mod table_names;
 mod text;
 mod time_zone;
+mod unpacking;
 
 pub use command_line::{Options, Range, Task, parse};
 pub use event_walk::Listed;
@@ -38,6 +41,7 @@ pub use events::{Names, list};
 pub use follow_options::FollowOptions;
 pub use format_options::Format;
 pub use known_commands::PROGRAM_VERSION;
+pub use listed::{Unlisted, add_logs};
 pub use log_reader::LogReader;
 pub use logs::{Log, LogOrder, are_in_order, are_of_one_server, order_of};
 pub use messages::{
@@ -52,3 +56,4 @@ pub use schema_options::{SchemaBeginning, SchemaFile};
 pub use shown::put_type;
 pub use sql_options::{SqlOptions, StatsOptions};
 pub use text::Text;
+pub use unpacking::{UnpackFault, unpack};

@@ -14,7 +14,7 @@ use Rattle.rows_event_body.specs.RowsEvents.{RowsBody}
 use Rattle.feed_text.specs.Buffers.{text_in}
 use Rattle.feed_transactions.specs.CheckedRows.{rows_count}
 use Rattle.feed_transactions.specs.MappedRows.{plan_by}
-use Rattle.event_statements.specs.ReadRows.{ReadsNext, ReadsRow}
+use Rattle.changes_statements.specs.ReadRows.{ReadsNext, ReadsRow}
 use Rattle.changes_formats.specs.FormatLineTexts.{AddsLines, GoesOn, rows_by, rows_in}
 use Rattle.changes_formats.specs.declared.lines.LineText.{LineText}
 

@@ -6,8 +6,8 @@ use Rattle.rows_values.specs.PrintedDecimals.{decimal_text}
 use Rattle.changes_writers.specs.JsonStrings.{json_string}
 use Rattle.changes_writers.specs.Base64Texts.{base64_string}
 use Rattle.changes_writers.specs.FloatTexts.{IsDoubleJson}
-use Rattle.feed_documents.specs.JsonText.{temporal_text}
-use Rattle.feed_documents.specs.DocumentForms.{Form, IsDocumentIn}
+use Rattle.feed_text.specs.JsonText.{temporal_text}
+use Rattle.feed_text.specs.DocumentForms.{Form, IsDocumentIn}
 use Rattle.rows_jsonb.specs.DocumentTrees.{document_tree}
 use Rattle.rows_jsonb.specs.JsonTrees.{Tree}
 use Rattle.changes_commands.specs.declared.format_options.Format.{Format}

@@ -3,8 +3,8 @@ use Rattle.std.specs.Prelude.{◌≡◌, ◌⊎◌, ℕ, Option, None, Some}
 use Rattle.std.specs.Float.{binary32, binary64}
 use Rattle.rows_cells.specs.declared.cell.CellRef.{CellRef}
 use Rattle.rows_cells.specs.declared.cell.CellRef.TheVariants as cell
-use Rattle.changes_undo.specs.declared.row_change.RowChange.{RowChange}
-use Rattle.changes_undo.specs.declared.row_change.RowChange.TheVariants.{Inserted, Deleted, Updated}
+use Rattle.changes_statements.specs.declared.row_change.RowChange.{RowChange}
+use Rattle.changes_statements.specs.declared.row_change.RowChange.TheVariants.{Inserted, Deleted, Updated}
 use Rattle.changes_statements.specs.NoStatements.{IsNoDocument, IsNotFinite, PacksNoDecimal}
 use Rattle.changes_statements.specs.declared.no_statement.NoStatement.{NoStatement}
 use Rattle.changes_statements.specs.declared.no_statement.NoStatement.TheVariants.{Float, Names, PartialUpdate, Row}

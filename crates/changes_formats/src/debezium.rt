@@ -11,8 +11,7 @@ use crate::tables::FormatTable;
 use crate::values::Buffers;
 use changes_commands::{Format, PROGRAM_VERSION};
 use changes_origins::put_gtid;
-use changes_statements::{NoStatement, RowCells};
-use changes_undo::RowChange;
+use changes_statements::{NoStatement, RowCells, RowChange};
 use feed_text::TextBuffer;
 use std::alloc::{AllocError, Global};
 

@@ -8,7 +8,7 @@ ghost use Rattle.changes_formats.specs.EnvelopeDocuments.{envelope_form};
 use changes_writers::{
     base64_len, put_base64_string, put_double, put_plain_string, put_utf8_string,
 };
-use feed_documents::{DocumentForm, put_temporal};
+use feed_text::{DocumentForm, put_temporal};
 use feed_writers::{put_byte, put_number};
 use rows_errors::RowsError;
 use rows_values::{Decimal, MysqlTime};

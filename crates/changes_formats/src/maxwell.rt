@@ -11,8 +11,7 @@ use crate::origins::{LineOrigin, LineRow, put_number_member, put_place};
 use crate::values::Buffers;
 use changes_commands::Format;
 use changes_origins::put_gtid;
-use changes_statements::NoStatement;
-use changes_undo::RowChange;
+use changes_statements::{NoStatement, RowChange};
 use feed_text::TextBuffer;
 use std::alloc::{AllocError, Global};
 

@@ -8,8 +8,7 @@ ghost use Rattle.changes_formats.specs.FormatLineTexts.{place_text};
 
 use crate::strings::put_content;
 use crate::tables::FormatTable;
-use changes_statements::RowCells;
-use changes_undo::RowChange;
+use changes_statements::{RowCells, RowChange};
 use events_frames::BinlogEventHeader;
 use feed_checks::Gtid;
 use feed_text::TextBuffer;

@@ -17,12 +17,12 @@ use Rattle.rows_values.specs.Digits.{AreDigits}
 use Rattle.rows_values.specs.PrintedDecimals.{decimal_text, fraction_text, glyphs, sign_text, significant, whole_text}
 use Rattle.rows_jsonb.specs.JsonTrees as tree
 use Rattle.rows_jsonb.specs.JsonTrees.{Tree, scalar, array, object, Items, no_items, item}
-use Rattle.feed_documents.specs.DocumentForms.{IsDocumentIn, AreItemsIn, AreMembersIn, IsScalarIn}
-use Rattle.feed_documents.specs.JsonText.{temporal_text, day_of, clock_of}
+use Rattle.feed_text.specs.DocumentForms.{IsDocumentIn, AreItemsIn, AreMembersIn, IsScalarIn}
+use Rattle.feed_text.specs.JsonText.{temporal_text, day_of, clock_of}
 use Rattle.changes_writers.specs.JsonStrings.{json_string}
 use Rattle.changes_writers.specs.Base64Texts.{base64_string}
-use Rattle.changes_documents.specs.JsonDocuments.{json_form, escaped_key, is_reserved, opaque_json, time_start}
-use Rattle.changes_documents.proofs.KeyLemmas.{same_keys}
+use Rattle.changes_cells.specs.JsonDocuments.{json_form, escaped_key, is_reserved, opaque_json, time_start}
+use Rattle.changes_cells.proofs.KeyLemmas.{same_keys}
 use Rattle.changes_laws.specs.JsonGrammar.{Members, no_members, member}
 use Rattle.changes_laws.specs.JsonNames.{names_of, IsOther, AreDistinct}
 use Rattle.changes_laws.proofs.StringGrammarLemmas.{all_ascii, utf8_known}

@@ -21,8 +21,8 @@ use Rattle.rows_values.specs.PrintedDecimals.{decimal_text}
 use Rattle.rows_jsonb.specs.DocumentTrees.{document_tree}
 use Rattle.rows_jsonb.specs.JsonTrees as tree
 use Rattle.rows_jsonb.specs.JsonTrees.{Tree, scalar, array, object, Items, no_items, item, Members, no_members, member}
-use Rattle.feed_documents.specs.DocumentForms.{IsDocumentIn, AreItemsIn, AreMembersIn, IsScalarIn}
-use Rattle.feed_documents.specs.JsonText.{temporal_text}
+use Rattle.feed_text.specs.DocumentForms.{IsDocumentIn, AreItemsIn, AreMembersIn, IsScalarIn}
+use Rattle.feed_text.specs.JsonText.{temporal_text}
 use Rattle.feed_writers.proofs.PlainLemmas.{upto_sound}
 use Rattle.ryu.specs.Plain.{IsPlainNumber}
 use Rattle.changes_writers.specs.FloatTexts.{IsDoubleJson}
@@ -31,8 +31,8 @@ use Rattle.changes_writers.specs.JsonNumbers.{IsJsonNumber}
 use Rattle.changes_writers.specs.Base64Texts.{base64_string}
 use Rattle.changes_writers.proofs.FloatLawLemmas.{float_number, float_read}
 use Rattle.changes_writers.proofs.StringLawLemmas.{strings_read, base64_strings_read}
-use Rattle.changes_documents.specs.JsonDocuments.{json_form, escaped_key, is_reserved, opaque_json, time_start}
-use Rattle.changes_documents.proofs.KeyLemmas.{same_keys}
+use Rattle.changes_cells.specs.JsonDocuments.{json_form, escaped_key, is_reserved, opaque_json, time_start}
+use Rattle.changes_cells.proofs.KeyLemmas.{same_keys}
 use Rattle.changes_laws.specs.JsonGrammar.{IsAfterValue}
 use Rattle.changes_laws.specs.SameDocuments.{IsSameScalar, equal, signed, unsigned, doubles, decimals, times, IsSameTree, AreSameItems, AreSameMembers, IsFiniteScalar, HasFiniteDoubles, HaveFiniteDoubles, MembersHaveFiniteDoubles}
 use Rattle.changes_laws.proofs.WrittenJson.{after_commas, joined_after}

@@ -11,9 +11,9 @@ use Rattle.rows_jsonb.specs.JsonbValues.{JsonbValue, malformed, document}
 use Rattle.rows_jsonb.specs.JsonDiffs.{Diff, operation_at, text_of_length, text_at, embedded_at, diff_value_at, diff_at}
 use Rattle.rows_jsonb.specs.declared.diff.JsonDiffOperation.{JsonDiffOperation}
 use Rattle.rows_jsonb.specs.declared.diff.JsonDiffOperation.TheVariants.{REPLACE, INSERT, REMOVE}
-use Rattle.feed_documents.specs.DocumentForms.{IsNewValueIn, AreUpdatesIn, IsUpdatesIn}
+use Rattle.feed_text.specs.DocumentForms.{IsNewValueIn, AreUpdatesIn, IsUpdatesIn}
 use Rattle.changes_writers.specs.JsonStrings.{json_string}
-use Rattle.changes_documents.specs.JsonDocuments.{json_form, operation_name, path_json, update_json, value_end}
+use Rattle.changes_cells.specs.JsonDocuments.{json_form, operation_name, path_json, update_json, value_end}
 use Rattle.changes_laws.specs.JsonGrammar.{no_members, member}
 use Rattle.changes_laws.proofs.StringGrammarLemmas.{all_ascii, utf8_known}
 use Rattle.changes_laws.proofs.WrittenJson.{IsJson, AllJson, joined_array, first_member, next_member, no_more_members, object_json}

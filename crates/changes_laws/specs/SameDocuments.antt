@@ -6,8 +6,8 @@ use Rattle.rows_values.specs.Decimals.{DecimalParts}
 use Rattle.rows_values.specs.PrintedDecimals.{decimal_text}
 use Rattle.rows_jsonb.specs.JsonTrees as tree
 use Rattle.rows_jsonb.specs.JsonTrees.{Tree, Items, no_items, item, Members, no_members, member}
-use Rattle.feed_documents.specs.JsonText.{temporal_text}
-use Rattle.changes_documents.specs.JsonDocuments.{time_start}
+use Rattle.feed_text.specs.JsonText.{temporal_text}
+use Rattle.changes_cells.specs.JsonDocuments.{time_start}
 
 -- equal values; an integer with a sign and one without that are the same number; equal doubles; decimals with the same digits; dates and times of the same kind with the same text
 pub data IsSameScalar : tree.Scalar → tree.Scalar → Type 0 where

@@ -17,11 +17,11 @@ use Rattle.rows_cells.specs.declared.format.CellFormat.TheVariants as format
 use Rattle.feed_text.specs.CellText.{cell_value_text, label}
 use Rattle.rows_jsonb.specs.JsonbValues.{JsonbValue}
 use Rattle.rows_jsonb.specs.JsonDiffs.{Diff}
-use Rattle.feed_documents.specs.DiffText.{operation_text, diff_texts, value_part, bracketed}
+use Rattle.feed_text.specs.DiffText.{operation_text, diff_texts, value_part, bracketed}
 use Rattle.feed_writers.specs.Quoting.{quoted}
-use Rattle.feed_documents.specs.DocumentForms.{AreUpdatesIn, IsNewValueIn}
-use Rattle.changes_documents.specs.JsonDocuments.{json_form}
-use Rattle.feed_documents.specs.JsonText.{document_text}
+use Rattle.feed_text.specs.DocumentForms.{AreUpdatesIn, IsNewValueIn}
+use Rattle.changes_cells.specs.JsonDocuments.{json_form}
+use Rattle.feed_text.specs.JsonText.{document_text}
 use Rattle.feed_text.specs.ImageText.{Cells, cells_then, cells_text, StopsAt}
 use Rattle.feed_transactions.specs.RowLines.{row_verdict, IsRowError, image_text_at}
 use Rattle.feed_transactions.proofs.RowLineLemmas.{image_untold}

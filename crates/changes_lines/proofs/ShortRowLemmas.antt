@@ -6,7 +6,7 @@ use Rattle.rows_cells.specs.declared.image.ImageColumn.{ImageColumn}
 use Rattle.rows_cells.specs.ImageViews.{remaining_cells, columns_left, cells_count, next_column, IsNextField, HasNextFormat, SkipsField}
 use Rattle.rows_cells.specs.declared.image.ImageCells.{ImageCells}
 use Rattle.rows_cells.specs.declared.image.ImageField.{ImageField}
-use Rattle.feed_documents.specs.DocumentForms.{AppendsOne}
+use Rattle.feed_text.specs.DocumentForms.{AppendsOne}
 use Rattle.changes_tables.specs.ShownColumns.{ColumnView}
 use Rattle.changes_cells.specs.FieldJson.{WritesCell}
 use Rattle.changes_lines.specs.ReadRows.{ReadsRow}

@@ -15,7 +15,7 @@ use Rattle.std.proofs.lemmas.Bool.{false≢true}
 use Rattle.changes_lines.specs.ChangeLines.{ChangeJson, change_objects, objects, end_by, with_ends}
 use Rattle.changes_lines.specs.RecordedLines.{change_texts, HaveRows}
 use Rattle.changes_lines.specs.TextLists.{AreLeft, ended}
-use Rattle.feed_documents.specs.DocumentForms.{AppendsOne}
+use Rattle.feed_text.specs.DocumentForms.{AppendsOne}
 use Rattle.changes_lines.specs.WrittenLines.{MayWriteLine, MayWriteRows, WritesFirst, Puts, has_texts, head_text, end_of, end_before, ends_before, rows_text, change_text}
 use Rattle.changes_lines.specs.declared.lines.Ends.{Ends}
 use Rattle.changes_lines.specs.declared.lines.Head.{Head}

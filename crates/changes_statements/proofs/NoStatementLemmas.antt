@@ -22,9 +22,9 @@ use Rattle.rows_errors.specs.declared.fault.RowsError.{RowsError}
 use Rattle.rows_jsonb.specs.DocumentTrees.{document_tree}
 use Rattle.rows_jsonb.specs.JsonTrees as tree
 use Rattle.rows_jsonb.specs.JsonTrees.{Tree, Items, Members, Scalar, array, object, scalar, no_items, item, no_members, member}
-use Rattle.feed_documents.specs.DocumentForms.{IsScalarIn, IsDocumentIn, AreItemsIn, AreMembersIn}
-use Rattle.changes_undo.specs.declared.row_change.RowChange.{RowChange}
-use Rattle.changes_undo.specs.declared.row_change.RowChange.TheVariants.{Inserted, Deleted, Updated}
+use Rattle.feed_text.specs.DocumentForms.{IsScalarIn, IsDocumentIn, AreItemsIn, AreMembersIn}
+use Rattle.changes_statements.specs.declared.row_change.RowChange.{RowChange}
+use Rattle.changes_statements.specs.declared.row_change.RowChange.TheVariants.{Inserted, Deleted, Updated}
 use Rattle.changes_tables.specs.declared.columns.Shown.{Shown}
 use Rattle.changes_writers.specs.FloatTexts as json
 use Rattle.changes_writers.specs.JsonStrings.{json_string}

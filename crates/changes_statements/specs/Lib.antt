@@ -6,3 +6,9 @@ pub mod SqlLiterals
 pub mod RowsOfCells
 pub mod SqlStatements
 pub mod NoStatements
+pub mod RowChanges
+pub mod EventStatements
+pub mod ReadRows
+pub mod StatementTexts
+pub mod NewestTexts
+pub mod TransactionTexts

@@ -8,9 +8,9 @@ use Rattle.rows_cells.specs.declared.cell.CellRef.TheVariants as cell
 use Rattle.rows_values.specs.Unpacked.{packed_text}
 use Rattle.rows_jsonb.specs.DocumentTrees.{document_tree}
 use Rattle.rows_jsonb.specs.JsonTrees.{Tree}
-use Rattle.feed_documents.specs.DocumentForms.{IsDocumentIn}
-use Rattle.changes_undo.specs.declared.row_change.RowChange.{RowChange}
-use Rattle.changes_undo.specs.declared.row_change.RowChange.TheVariants.{Inserted, Deleted, Updated}
+use Rattle.feed_text.specs.DocumentForms.{IsDocumentIn}
+use Rattle.changes_statements.specs.declared.row_change.RowChange.{RowChange}
+use Rattle.changes_statements.specs.declared.row_change.RowChange.TheVariants.{Inserted, Deleted, Updated}
 use Rattle.changes_statements.specs.PlainDocuments.{plain_form}
 use Rattle.changes_statements.specs.RowsOfCells.{Cells, cell_in}
 use Rattle.changes_statements.specs.SqlLiterals.{has_no_text}

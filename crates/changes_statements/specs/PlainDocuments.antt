@@ -3,7 +3,7 @@ use Rattle.std.specs.Prelude.{ℕ, List, [], ◌∷◌}
 use Rattle.std.specs.Fmt.{decimal}
 use Rattle.changes_writers.specs.JsonStrings.{json_string}
 use Rattle.changes_writers.specs.FloatTexts.{IsDoubleJson}
-use Rattle.feed_documents.specs.DocumentForms.{Form}
+use Rattle.feed_text.specs.DocumentForms.{Form}
 
 -- what stands for a value that JSON text doesn't have: a byte that no text in UTF-8 has
 abbrev pub no_text : List ℕ

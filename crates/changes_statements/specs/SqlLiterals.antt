@@ -11,7 +11,7 @@ use Rattle.rows_cells.specs.CellValues.{CellValue, date, time, cell_date, cell_t
 use Rattle.rows_values.specs.Unpacked.{packed_text}
 use Rattle.rows_jsonb.specs.DocumentTrees.{document_tree}
 use Rattle.rows_jsonb.specs.JsonTrees.{Tree}
-use Rattle.feed_documents.specs.DocumentForms.{IsDocumentIn}
+use Rattle.feed_text.specs.DocumentForms.{IsDocumentIn}
 use Rattle.changes_character_sets.specs.Texts.{IsTextOf}
 use Rattle.changes_character_sets.specs.declared.character_set.CharacterSet.{CharacterSet}
 use Rattle.changes_tables.specs.declared.columns.Shown.{Shown}

@@ -5,8 +5,8 @@ use Rattle.std.specs.Borrow.{Bor}
 use Rattle.rows_cells.specs.declared.cell.CellRef.{CellRef}
 use Rattle.changes_tables.specs.declared.columns.Shown.{Shown}
 use Rattle.changes_tables.specs.declared.columns.Shown.TheVariants as shown
-use Rattle.changes_undo.specs.declared.row_change.RowChange.{RowChange}
-use Rattle.changes_undo.specs.declared.row_change.RowChange.TheVariants.{Inserted, Deleted, Updated}
+use Rattle.changes_statements.specs.declared.row_change.RowChange.{RowChange}
+use Rattle.changes_statements.specs.declared.row_change.RowChange.TheVariants.{Inserted, Deleted, Updated}
 use Rattle.changes_statements.specs.declared.row_cells.RowCells.{RowCells}
 use Rattle.changes_statements.specs.declared.sql_table.SqlColumn.{SqlColumn}
 use Rattle.changes_statements.specs.declared.sql_table.SqlTable.{SqlTable}

@@ -10,8 +10,7 @@ ghost use Rattle.changes_statements.specs.SqlLiterals.{IsDocumentLiteral, has_no
 use crate::no_statement::NoStatement;
 use crate::texts::put_utf8;
 use changes_writers::{put_double, put_plain_string, put_utf8_string};
-use feed_documents::DocumentForm;
-use feed_text::TextBuffer;
+use feed_text::{DocumentForm, TextBuffer};
 use feed_writers::{put_byte, put_number};
 use rows_errors::RowsError;
 use rows_values::{Decimal, MysqlTime};

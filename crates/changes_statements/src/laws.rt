@@ -1,7 +1,7 @@
 //! Laws of the texts of statements, each stated as the contract of a function that does nothing.
 
 ghost use Rattle.std.specs.Prelude.{◌≡◌, ◌++◌, ℕ, List, false};
-ghost use Rattle.changes_undo.specs.declared.row_change.RowChange.{RowChange};
+ghost use Rattle.changes_statements.specs.declared.row_change.RowChange.{RowChange};
 ghost use Rattle.changes_statements.specs.NoStatements.{HasNoStatement};
 ghost use Rattle.changes_statements.specs.RowsOfCells.{Cells};
 ghost use Rattle.changes_statements.specs.SqlStatements.{IsStatement};

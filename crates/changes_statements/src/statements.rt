@@ -2,7 +2,7 @@
 
 ghost use Rattle.std.specs.Prelude.{◌≡◌, ◌+◌, ◌++◌, List, ℕ, [], IfErr, IfOk, OnOk, codes, not, if◌then◌else◌};
 ghost use Rattle.feed_text.specs.Buffers.{text_in};
-ghost use Rattle.changes_undo.specs.declared.row_change.RowChange.TheVariants.{Updated};
+ghost use Rattle.changes_statements.specs.declared.row_change.RowChange.TheVariants.{Updated};
 ghost use Rattle.changes_writers.specs.FloatTexts.{AppendsSuch};
 ghost use Rattle.changes_statements.specs.NoStatements.{HasNoComparison, HasNoCondition, HasNoItems, HasNoKey, HasNoLiteral, HasNoneOfAll, HasNoStatement, HasNoValue, IsMemoryOr};
 ghost use Rattle.changes_statements.specs.RowsOfCells.{cells_in};
@@ -11,9 +11,9 @@ ghost use Rattle.changes_statements.specs.SqlStatements.{cells_of, compared, Has
 use crate::literals::{Scratch, put_literal};
 use crate::no_statement::NoStatement;
 use crate::row_cells::RowCells;
+use crate::row_change::RowChange;
 use crate::sql_table::{SqlColumn, SqlTable};
 use changes_tables::Shown;
-use changes_undo::RowChange;
 use feed_text::TextBuffer;
 use rows_cells::CellRef;
 use std::alloc::{AllocError, Global};

@@ -7,13 +7,13 @@ use Rattle.feed_writers.specs.Quoting.{quoted_byte, quoted}
 use Rattle.rows_errors.specs.Readings.{Reading, ◌>>=◌}
 use Rattle.rows_jsonb.specs.DocumentTrees.{document_tree}
 use Rattle.rows_cells.specs.CellValues.{CellValue, json}
-use Rattle.feed_documents.specs.JsonText.{document_text}
-use Rattle.feed_documents.specs.FeedDocuments.{feed_form}
+use Rattle.feed_text.specs.JsonText.{document_text}
+use Rattle.feed_text.specs.FeedDocuments.{feed_form}
 use Rattle.feed_text.specs.DirectText.{WritesDocument}
 use Rattle.feed_text.specs.CellText.{label, cell_value_text, cell_text, Appends, AppendsLabeled}
 use Rattle.feed_text.specs.DecimalText.{AppendsSome}
 use Rattle.feed_text.proofs.CellLemmas.{appends, tree_written}
-use Rattle.feed_documents.proofs.FeedDocumentLemmas.{document_appended}
+use Rattle.feed_text.proofs.FeedDocumentLemmas.{document_appended}
 
 -- bytes at the start were quoted, and the others remain
 pub prefix_quoted : (all text new rest prefix after : List ℕ) (n : ℕ) → text ++ flat_map quoted_byte rest ≡ all → prefix ≡ take n rest → after ≡ drop n rest → new ≡ text ++ flat_map quoted_byte prefix

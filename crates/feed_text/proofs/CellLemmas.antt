@@ -22,7 +22,7 @@ use Rattle.rows_jsonb.specs.JsonDiffViews.{diff_view}
 use Rattle.rows_jsonb.specs.declared.diff.JsonDiff.{JsonDiff}
 use Rattle.rows_jsonb.specs.Items.{items_at, all_found}
 use Rattle.rows_jsonb.proofs.DiffLemmas.{diffs_fault}
-use Rattle.feed_documents.specs.DiffText.{diffs_text}
+use Rattle.feed_text.specs.DiffText.{diffs_text}
 use Rattle.rows_jsonb.specs.JsonParsing.{Parses, HasNamelessFault}
 use Rattle.rows_jsonb.specs.DocumentTrees.{document_tree, tree_in}
 use Rattle.rows_jsonb.specs.declared.dom.JsonDom.{JsonDom}
@@ -34,8 +34,8 @@ use Rattle.rows_cells.specs.declared.cell.CellRef.{CellRef}
 use Rattle.rows_cells.specs.declared.cell.CellRef.TheVariants as ref
 use Rattle.feed_writers.specs.Quoting.{quoted}
 use Rattle.feed_text.specs.DecimalText.{quoted_decimal, IsDecimalError}
-use Rattle.feed_documents.specs.JsonText.{document_text}
-use Rattle.feed_documents.specs.ValueText.{value_text}
+use Rattle.feed_text.specs.JsonText.{document_text}
+use Rattle.feed_text.specs.ValueText.{value_text}
 use Rattle.feed_text.specs.CellText.{label, cell_diffs_text, cell_value_text, tree_text, cell_text, kept_text, kept_cell_text, Appends, AppendsLabeled, AppendsLabeledReading, IsTextError, PacksNone, IsCellError}
 use Rattle.feed_text.specs.NamelessFaults.{IsNamelessDocument, HasNamelessDiff, HasNamelessContent, HasNamelessPart}
 

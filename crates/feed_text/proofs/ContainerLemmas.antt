@@ -8,11 +8,11 @@ use Rattle.rows_jsonb.specs.JsonbValues.{JsonbValue, elem_in, object_key, count_
 use Rattle.rows_errors.specs.Readings.{Reading, ◌>>=◌}
 use Rattle.rows_jsonb.specs.DocumentTrees.{Counted, items, member_trees, tree_of, utf8, values_read}
 use Rattle.rows_jsonb.proofs.Building.{array_tree, object_tree, after_members, none_after_members, members_turn, members_end}
-use Rattle.feed_documents.specs.DocumentForms.{Form, IsDocumentIn, AreItemsIn, AreMembersIn, IsMemberIn, AppendsOne}
-use Rattle.feed_documents.specs.KeyOrder.{AreInOrder, read_key}
-use Rattle.feed_documents.specs.Containers.{typed}
+use Rattle.feed_text.specs.DocumentForms.{Form, IsDocumentIn, AreItemsIn, AreMembersIn, IsMemberIn, AppendsOne}
+use Rattle.feed_text.specs.KeyOrder.{AreInOrder, read_key}
+use Rattle.feed_text.specs.Containers.{typed}
 use Rattle.feed_text.specs.DirectText.{separator, WritesTyped, WritesTree, WritesItems, WritesMembers, WritesMember, IsMember}
-use Rattle.feed_documents.proofs.OrderLemmas.{AllOf, all_push, all_numbers, along, count_all, count_push, count_insert, put_along, AreAlong, along_push, members_along}
+use Rattle.feed_text.proofs.OrderLemmas.{AllOf, all_push, all_numbers, along, count_all, count_push, count_insert, put_along, AreAlong, along_push, members_along}
 
 -- ---- texts with commas between them
 

@@ -10,12 +10,12 @@ use Rattle.rows_jsonb.specs.declared.diff.JsonDiff.{JsonDiff}
 use Rattle.rows_jsonb.specs.JsonParsing.{Parses}
 use Rattle.rows_jsonb.specs.JsonbValues.{JsonbValue}
 use Rattle.feed_writers.specs.Quoting.{quoted}
-use Rattle.feed_documents.specs.JsonText.{document_text}
-use Rattle.feed_documents.specs.DiffText.{operation_text, value_part, diff_text, diff_texts, bracketed, diffs_text}
-use Rattle.feed_documents.specs.DocumentForms.{Form, IsNewValueIn, IsUpdateIn, AreUpdatesIn, IsUpdatesIn, AppendsOne}
+use Rattle.feed_text.specs.JsonText.{document_text}
+use Rattle.feed_text.specs.DiffText.{operation_text, value_part, diff_text, diff_texts, bracketed, diffs_text}
+use Rattle.feed_text.specs.DocumentForms.{Form, IsNewValueIn, IsUpdateIn, AreUpdatesIn, IsUpdatesIn, AppendsOne}
 use Rattle.feed_text.specs.NamelessFaults.{HasNamelessValue, HasNamelessDiff}
 use Rattle.feed_text.proofs.CellLemmas.{no_more}
-use Rattle.feed_documents.proofs.DocumentLemmas.{led}
+use Rattle.feed_text.proofs.DocumentLemmas.{led}
 
 pub first_update : (f : Form) (d : Diff) (ds : List Diff) (x : List ℕ) (xs : List (List ℕ)) → IsUpdateIn f d x → AreUpdatesIn f ds xs → AreUpdatesIn f (d ∷ ds) (x ∷ xs)
 unfolding AreUpdatesIn

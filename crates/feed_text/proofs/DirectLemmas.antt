@@ -16,10 +16,10 @@ use Rattle.rows_jsonb.specs.JsonbValues as seen
 use Rattle.rows_jsonb.specs.JsonbValues.{JsonbValue, container, is_array_in, is_object_in, sized, literal, counted_at, document}
 use Rattle.rows_jsonb.specs.DocumentTrees.{utf8, tree_of, bare_tree, container_len, within_budget, document_tree}
 use Rattle.rows_jsonb.proofs.Building.{flat_tree, other_tree}
-use Rattle.feed_documents.specs.DocumentForms.{Form, IsScalarIn, IsDocumentIn}
-use Rattle.feed_documents.specs.Containers.{typed}
+use Rattle.feed_text.specs.DocumentForms.{Form, IsScalarIn, IsDocumentIn}
+use Rattle.feed_text.specs.Containers.{typed}
 use Rattle.feed_text.specs.DirectText.{WritesTyped, WritesTypedScalar, WritesDocument}
-use Rattle.feed_documents.proofs.QuoteLemmas.{kept_more}
+use Rattle.feed_text.proofs.QuoteLemmas.{kept_more}
 
 -- a value that is no container has the tree of a scalar
 scalar_tree : (depth : ℕ) (s : JsonbValue) → is_array_in s ≡ false → is_object_in s ≡ false → tree_of depth s ≡ bare_tree s

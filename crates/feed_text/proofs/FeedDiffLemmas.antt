@@ -6,10 +6,10 @@ use Rattle.rows_jsonb.specs.JsonbValues.{JsonbValue}
 use Rattle.rows_jsonb.specs.JsonDiffs.{Diff}
 use Rattle.feed_writers.specs.Quoting.{quoted}
 use Rattle.feed_text.specs.CellText.{Appends}
-use Rattle.feed_documents.specs.DiffText.{operation_text, value_part, diff_text, diff_texts, diffs_text}
-use Rattle.feed_documents.specs.DocumentForms.{IsNewValueIn, IsUpdateIn, AreUpdatesIn, IsUpdatesIn, AppendsOne}
-use Rattle.feed_documents.specs.FeedDocuments.{feed_form, update_text}
-use Rattle.feed_documents.proofs.FeedDocumentLemmas.{document_is}
+use Rattle.feed_text.specs.DiffText.{operation_text, value_part, diff_text, diff_texts, diffs_text}
+use Rattle.feed_text.specs.DocumentForms.{IsNewValueIn, IsUpdateIn, AreUpdatesIn, IsUpdatesIn, AppendsOne}
+use Rattle.feed_text.specs.FeedDocuments.{feed_form, update_text}
+use Rattle.feed_text.proofs.FeedDocumentLemmas.{document_is}
 
 update_is : (d : Diff) (x : List ℕ) → IsUpdateIn feed_form d x → diff_text d ≡ Ok x
 update_is d x h = by_value d.1.1 h.0 h.1 h.2

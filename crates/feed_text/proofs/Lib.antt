@@ -14,3 +14,10 @@ pub mod WordLemmas
 pub mod DirectLemmas
 pub mod ContainerLemmas
 pub mod RowTextLemmas
+pub mod QuoteLemmas
+pub mod PieceLemmas
+pub mod DocumentLemmas
+pub mod FeedDocumentLemmas
+pub mod StringLemmas
+pub mod PrefixLemmas
+pub mod OrderLemmas

@@ -23,7 +23,7 @@ use Rattle.feed_writers.specs.Quoting.{quoted}
 use Rattle.feed_text.specs.DecimalText.{quoted_decimal, numbers_text}
 use Rattle.feed_text.proofs.DecimalTextLemmas.{packed_left, plain_quoted}
 use Rattle.feed_text.proofs.NumberTextLemmas.{numbers_text_is, numbers_short}
-use Rattle.feed_documents.proofs.PrefixLemmas.{high_number, big_from-split, big_from-past}
+use Rattle.feed_text.proofs.PrefixLemmas.{high_number, big_from-split, big_from-past}
 
 -- ---- eight bytes as a number
 

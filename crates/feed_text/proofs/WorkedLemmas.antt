@@ -6,8 +6,8 @@ use Rattle.rows_values.specs.PackedTimes.{fraction_len, datetime2}
 use Rattle.rows_values.specs.Values.{date_value}
 use Rattle.rows_values.specs.declared.rows.value.Value.TheVariants.{Date}
 use Rattle.feed_writers.specs.TimesOfDay.{clock_text, day_text}
-use Rattle.feed_documents.specs.Times.{date_text}
-use Rattle.feed_documents.specs.ValueText.{value_text}
+use Rattle.feed_text.specs.Times.{date_text}
+use Rattle.feed_text.specs.ValueText.{value_text}
 use Rattle.rows_values.specs.TimeTexts.{padded_decimal}
 
 pub worked_date : date_value (datetime2 (fraction_len 0) (153 ∷ 131 ∷ 176 ∷ 144 ∷ 249 ∷ [])) ≡ Date 2009 9 24 9 3 57 0

@@ -20,10 +20,10 @@ use Rattle.rows_cells.specs.declared.cell.CellRef.TheVariants as ref
 use Rattle.rows_cells.specs.declared.binlog_value.BinlogValue.{BinlogValue}
 use Rattle.rows_cells.specs.declared.binlog_value.BinlogValue.TheVariants as made
 use Rattle.feed_writers.specs.Quoting.{quoted}
-use Rattle.feed_documents.specs.Times.{date_text, span_text}
-use Rattle.feed_documents.specs.ValueText.{float_text, double_text}
-use Rattle.feed_documents.specs.JsonText.{document_text}
-use Rattle.feed_documents.specs.DiffText.{diffs_text}
+use Rattle.feed_text.specs.Times.{date_text, span_text}
+use Rattle.feed_text.specs.ValueText.{float_text, double_text}
+use Rattle.feed_text.specs.JsonText.{document_text}
+use Rattle.feed_text.specs.DiffText.{diffs_text}
 
 -- the text of a parsed JSON document
 abbrev pub tree_text : Reading Tree → Reading (List ℕ)

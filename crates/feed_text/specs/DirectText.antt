@@ -8,8 +8,8 @@ use Rattle.rows_errors.specs.declared.fault.RowsError.{RowsError}
 use Rattle.rows_errors.specs.Readings.{Reading}
 use Rattle.rows_jsonb.specs.JsonParsing.{Parses}
 use Rattle.rows_jsonb.specs.DocumentTrees.{tree_of, bare_tree, items, member_trees}
-use Rattle.feed_documents.specs.Containers.{typed}
-use Rattle.feed_documents.specs.DocumentForms.{Form, IsScalarIn, IsDocumentIn, IsMemberIn, AppendsOne}
+use Rattle.feed_text.specs.Containers.{typed}
+use Rattle.feed_text.specs.DocumentForms.{Form, IsScalarIn, IsDocumentIn, IsMemberIn, AppendsOne}
 
 -- a comma, except before the first element
 abbrev pub separator : Bool → List ℕ

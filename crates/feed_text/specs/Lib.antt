@@ -11,3 +11,12 @@ pub mod FieldText
 pub mod ImageText
 pub mod RowText
 pub mod NamelessFaults
+pub mod TextPieces
+pub mod Times
+pub mod ValueText
+pub mod JsonText
+pub mod DiffText
+pub mod DocumentForms
+pub mod FeedDocuments
+pub mod Containers
+pub mod KeyOrder

@@ -10,7 +10,7 @@ use Rattle.rows_jsonb.specs.JsonDiffViews.{diff_view}
 use Rattle.rows_cells.specs.CellValues.{CellValue, json, json_diffs}
 use Rattle.rows_cells.specs.declared.binlog_value.BinlogValue.{BinlogValue}
 use Rattle.rows_cells.specs.declared.binlog_value.BinlogValue.TheVariants as made
-use Rattle.feed_documents.specs.DiffText.{diff_text}
+use Rattle.feed_text.specs.DiffText.{diff_text}
 
 -- the bytes are no document, or the document has such a fault
 abbrev pub IsNamelessDocument : List ℕ → Type 0

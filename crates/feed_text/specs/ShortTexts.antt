@@ -3,8 +3,8 @@ use Rattle.std.specs.Prelude.{ℕ, List, ◌∷◌, ◌+◌, codes}
 use Rattle.std.specs.Fmt.{decimal, signed_decimal}
 use Rattle.rows_cells.specs.CellValues.{timestamp_text}
 use Rattle.feed_writers.specs.Quoting.{quoted}
-use Rattle.feed_documents.specs.Times.{date_text, span_text}
-use Rattle.feed_documents.specs.ValueText.{float_text, double_text}
+use Rattle.feed_text.specs.Times.{date_text, span_text}
+use Rattle.feed_text.specs.ValueText.{float_text, double_text}
 use Rattle.feed_text.specs.declared.short.Short.{Short}
 use Rattle.feed_text.specs.declared.short.Short.TheVariants as short
 

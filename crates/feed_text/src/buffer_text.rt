@@ -16,7 +16,7 @@ const MAX_DIGITS: usize = 20;
 impl<A: Allocator> TextBuffer<A> {
     ghost use Rattle.feed_text.specs.Buffers.{text_in};
 
-    /// Appends quoted bytes, as [`quote`](feed_documents::quote) does. It reserves three times their length at once. Out of memory: the
+    /// Appends quoted bytes, as [`quote`](crate::quoting::quote) does. It reserves three times their length at once. Out of memory: the
     /// text is unchanged.
     pub fn put_quoted(&mut self, bytes: &[u8]) -> Result<(), AllocError>
         ensures ok { OnOk result (text_in self.new ≡ text_in self.old ++ quoted bytes.now) }

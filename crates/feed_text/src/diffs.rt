@@ -5,11 +5,12 @@ ghost use Rattle.rows_jsonb.specs.JsonDiffViews.{diff_view};
 ghost use Rattle.rows_jsonb.specs.JsonParsing.{Parses};
 ghost use Rattle.rows_errors.specs.declared.fault.RowsError.TheVariants.{Jsonb};
 ghost use Rattle.feed_text.specs.CellText.{Appends};
-ghost use Rattle.feed_documents.specs.DiffText.{diff_text, diffs_text};
-ghost use Rattle.feed_documents.specs.DocumentForms.{IsUpdateIn, IsUpdatesIn, AppendsOne};
+ghost use Rattle.feed_text.specs.DiffText.{diff_text, diffs_text};
+ghost use Rattle.feed_text.specs.DocumentForms.{IsUpdateIn, IsUpdatesIn, AppendsOne};
 ghost use Rattle.feed_text.specs.NamelessFaults.{HasNamelessValue, HasNamelessDiff};
 
-use feed_documents::{FeedForm, UpdateForm};
+use crate::document_form::UpdateForm;
+use crate::feed_form::FeedForm;
 use rows_errors::RowsError;
 use rows_jsonb::JsonDiff;
 use std::alloc::{Allocator, Global};

@@ -7,15 +7,17 @@ ghost use Rattle.std.specs.Prelude.{◌≡◌, ◌<◌, ◌+◌, ◌++◌, OnOk,
 ghost use Rattle.feed_text.specs.Buffers.{text_in};
 ghost use Rattle.rows_jsonb.specs.DocumentTrees.{document_tree};
 ghost use Rattle.rows_jsonb.specs.JsonbValues.{object_key};
-ghost use Rattle.feed_documents.specs.Containers.{value_of};
-ghost use Rattle.feed_documents.specs.KeyOrder.{IsFound};
+ghost use Rattle.feed_text.specs.Containers.{value_of};
+ghost use Rattle.feed_text.specs.KeyOrder.{IsFound};
 ghost use Rattle.feed_text.specs.DirectText.{separator, WritesTyped, WritesTypedScalar, WritesTree, WritesItems, WritesMembers, WritesMember, WritesDocument};
 
 use crate::buffer::TextBuffer;
+use crate::direct_parts::{Container, NotDirect};
 use crate::direct_scalars::write_scalar;
+use crate::document_form::DocumentForm;
+use crate::key_order::put_order;
 use crate::short_strings::{append_key, append_separator};
 use arrayvec::ArrayVec;
-use feed_documents::{Container, DocumentForm, NotDirect, put_order};
 use std::alloc::Allocator;
 
 /// The last of the types that are containers.

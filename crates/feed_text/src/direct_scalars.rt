@@ -3,13 +3,14 @@
 ghost use Rattle.std.specs.Prelude.{◌≡◌, ◌++◌, OnOk, OnErr};
 ghost use Rattle.std.specs.Fmt.{signed_decimal};
 ghost use Rattle.feed_text.specs.Buffers.{text_in};
-ghost use Rattle.feed_documents.specs.DocumentForms.{AppendsOne};
+ghost use Rattle.feed_text.specs.DocumentForms.{AppendsOne};
 ghost use Rattle.feed_text.specs.DirectText.{WritesTypedScalar};
 
 use crate::buffer::TextBuffer;
+use crate::direct_parts::NotDirect;
+use crate::document_form::DocumentForm;
 use crate::short_strings::append_first;
 use byteorder::{ByteOrder, LittleEndian};
-use feed_documents::{DocumentForm, NotDirect};
 use feed_writers::put_signed;
 use std::alloc::Allocator;
 use wire_buf::ParseBuf;

@@ -9,7 +9,7 @@ ghost use Rattle.rows_values.specs.declared.rows.value.Value.{Value};
 ghost use Rattle.rows_cells.specs.CellValues.{CellValue};
 ghost use Rattle.rows_cells.specs.CellViews.{cell_value_of, Holds};
 ghost use Rattle.rows_cells.specs.declared.binlog_value.BinlogValue.{BinlogValue};
-ghost use Rattle.feed_documents.specs.ValueText.{value_text};
+ghost use Rattle.feed_text.specs.ValueText.{value_text};
 ghost use Rattle.feed_text.specs.CellText.{cell_value_text, kept_text};
 
 /// Equal quoted texts have equal bytes.

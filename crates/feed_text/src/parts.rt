@@ -3,7 +3,7 @@
 ghost use Rattle.std.specs.Prelude.{◌≡◌, Ok};
 ghost use Rattle.rows_cells.specs.CellValues.{new_date as new_date_value, old_time as old_time_value, old_datetime as old_datetime_value, cell_date, cell_time};
 ghost use Rattle.feed_text.specs.CellText.{cell_value_text};
-ghost use Rattle.feed_documents.specs.Times.{date_text, span_text};
+ghost use Rattle.feed_text.specs.Times.{date_text, span_text};
 ghost use Rattle.feed_text.specs.ShortTexts.{short_text};
 
 use crate::short::Short;

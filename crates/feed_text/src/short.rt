@@ -4,7 +4,7 @@ ghost use Rattle.std.specs.Prelude.{◌≡◌, ◌≤◌, ◌+◌, ◌++◌, len
 ghost use Rattle.std.specs.Fmt.{decimal};
 ghost use Rattle.rows_cells.specs.CellValues.{timestamp_text, cell_micros_text};
 ghost use Rattle.feed_writers.specs.Quoting.{quoted};
-ghost use Rattle.feed_documents.specs.Times.{date_text, span_text};
+ghost use Rattle.feed_text.specs.Times.{date_text, span_text};
 ghost use Rattle.feed_text.specs.ShortTexts.{short_text};
 
 use feed_writers::{
@@ -72,7 +72,7 @@ pub(crate) fn put_short(text: &mut [u8], at: usize, short: Short) -> usize
 
 /// Writes a date, `T` and a time of day.
 #[inline(always)]
-#[tactic(auto, unfolding(feed_documents::specs::Times::date_text))]
+#[tactic(auto, unfolding(crate::specs::Times::date_text))]
 pub(crate) fn put_date(text: &mut [u8], at: usize, day: Day, clock: Clock) -> usize
     requires { at + 76 ≤ length text.old }
     ensures most { result ≤ at + 76 }
@@ -85,7 +85,7 @@ pub(crate) fn put_date(text: &mut [u8], at: usize, day: Day, clock: Clock) -> us
 
 /// Writes a `-` if it is negative, days, `d` and the rest of the time.
 #[inline(always)]
-#[tactic(auto, unfolding(feed_documents::specs::Times::span_text))]
+#[tactic(auto, unfolding(crate::specs::Times::span_text))]
 pub(crate) fn put_span(
     text: &mut [u8],
     at: usize,

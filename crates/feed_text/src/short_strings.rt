@@ -6,7 +6,9 @@ ghost use Rattle.feed_text.specs.Buffers.{text_in};
 ghost use Rattle.feed_text.specs.DirectText.{separator};
 
 use crate::buffer::TextBuffer;
-use feed_documents::{DocumentForm, NotDirect, string_room};
+use crate::direct_parts::NotDirect;
+use crate::document_form::DocumentForm;
+use crate::json_scalars::string_room;
 use feed_writers::put_byte;
 use std::alloc::Allocator;
 

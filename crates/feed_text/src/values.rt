@@ -1,12 +1,12 @@
 //! The text of one value.
 
 ghost use Rattle.std.specs.Prelude.{◌≡◌, ◌++◌, OnOk, IfErr};
-ghost use Rattle.feed_documents.specs.TextPieces.{IsAppendError};
+ghost use Rattle.feed_text.specs.TextPieces.{IsAppendError};
 ghost use Rattle.feed_text.specs.ShortTexts.{short_text};
-ghost use Rattle.feed_documents.specs.ValueText.{value_text};
+ghost use Rattle.feed_text.specs.ValueText.{value_text};
 
+use crate::quoting::quote;
 use crate::short::{SHORT_LEN_MAX, Short, put_short};
-use feed_documents::quote;
 use feed_writers::{Clock, Day};
 use rows_errors::RowsError;
 use rows_values::Value;
@@ -15,7 +15,7 @@ use std::alloc::Allocator;
 /// Appends the text of a value: `NULL`; an integer in decimal, an unsigned one after `u`; `f` or `d` and the hexadecimal digits
 /// of a float's or double's bits; bytes quoted; a date as `YYYY-MM-DDThh:mm:ss.uuuuuu`; a time as `-` if it is negative, days,
 /// `d` and `hh:mm:ss.uuuuuu`. `Memory`: out of memory; nothing is appended.
-#[tactic(auto, unfolding(feed_documents::specs::ValueText::value_text, crate::specs::ShortTexts::short_text))]
+#[tactic(auto, unfolding(crate::specs::ValueText::value_text, crate::specs::ShortTexts::short_text))]
 pub fn put_value<A: Allocator>(value: &Value, out: &mut Vec<u8, A>) -> Result<(), RowsError>
     ensures ok { OnOk result (out.new.items ≡ out.old.items ++ value_text value.now) }
     ensures err { IfErr result (λ e. IsAppendError e out.old.items out.new.items) }

@@ -1,7 +1,7 @@
 //! Texts that other crates write into a buffer with room.
 
 ghost use Rattle.std.specs.Prelude.{◌≡◌, ◌≤◌, ◌+◌, ◌++◌, ℕ, List, IfSome, OnOk, OnErr, length, take};
-ghost use Rattle.feed_documents.specs.DocumentForms.{AppendsOne};
+ghost use Rattle.feed_text.specs.DocumentForms.{AppendsOne};
 
 use crate::buffer::TextBuffer;
 use std::alloc::{AllocError, Allocator};

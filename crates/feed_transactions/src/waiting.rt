@@ -1,7 +1,7 @@
 //! Bytes that wait to be written, so that many are written at once.
 
 ghost use Rattle.std.specs.Prelude.{◌≡◌, ◌≤◌, ◌<◌, ◌+◌, ◌-◌, ◌++◌, [], length, OnOk, IfOk, IfErr, true, false};
-ghost use Rattle.feed_documents.specs.DocumentForms.{AppendsOne};
+ghost use Rattle.feed_text.specs.DocumentForms.{AppendsOne};
 ghost use Rattle.std.specs.Io.KnownBytes.{Appends};
 ghost use Rattle.wire_buf.specs.Watched.{inner_of, has_failed};
 ghost use Rattle.feed_transactions.specs.TextStates.{text_if_shown};

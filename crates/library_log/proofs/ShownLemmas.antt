@@ -3,7 +3,7 @@ use Rattle.std.proofs.Common.{Result, Ok, Err, OnOk}
 use Rattle.feed_transactions.specs.Recorders.{Stays}
 use Rattle.changes_lines.specs.RecordedLines.{IsLikeJson}
 use Rattle.changes_lines.specs.declared.recorder.JsonRecorder.{JsonRecorder}
-use Rattle.library_records.specs.declared.recorder.RecordRecorder.{RecordRecorder}
+use Rattle.library_log.specs.declared.recorder.RecordRecorder.{RecordRecorder}
 use Rattle.library_log.specs.ShownRecorders.{IsLikeShown}
 use Rattle.library_log.specs.declared.shown_recorder.ShownRecorder.{ShownRecorder}
 use Rattle.library_log.specs.declared.shown_recorder.ShownRecorder.TheVariants as variants

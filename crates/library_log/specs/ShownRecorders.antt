@@ -5,7 +5,7 @@ use Rattle.feed_transactions.specs.Changes.{EventChange, Committed}
 use Rattle.feed_change_log.specs.Filters.{table_filter_of}
 use Rattle.feed_change_log.specs.declared.filter.Filter.{Filter}
 use Rattle.changes_lines.specs.RecordedLines.{IsOpenJson, IsDoneJson, IsLikeJson, filter_of}
-use Rattle.library_records.specs.RecordedTransactions.{IsOpenRecord, IsDoneRecord}
+use Rattle.library_log.specs.RecordedTransactions.{IsOpenRecord, IsDoneRecord}
 use Rattle.library_log.specs.declared.shown_recorder.ShownRecorder.{ShownRecorder}
 use Rattle.library_log.specs.declared.shown_recorder.ShownRecorder.TheVariants.{Lines, Record}
 

@@ -10,8 +10,8 @@ use Rattle.changes_lines.specs.WrittenLines.{is_by_transaction, resume_in}
 use Rattle.changes_lines.specs.declared.lines.Lines.{Lines}
 use Rattle.changes_lines.specs.declared.recorder.JsonRecorder.{JsonRecorder}
 use Rattle.changes_origins.specs.GtidJson.{IsGtidJson}
-use Rattle.library_records.specs.RecordLayouts.{IsRecord}
-use Rattle.library_records.specs.RecordedTransactions.{begin_in, takes_some}
+use Rattle.library_log.specs.RecordLayouts.{IsRecord}
+use Rattle.library_log.specs.RecordedTransactions.{begin_in, takes_some}
 use Rattle.library_log.specs.declared.shown_recorder.ShownRecorder.{ShownRecorder}
 use Rattle.library_log.specs.declared.shown_recorder.ShownRecorder.TheVariants as variants
 

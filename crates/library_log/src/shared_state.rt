@@ -5,9 +5,8 @@ ghost use Rattle.table_schemas.specs.CompletedMaps.{tables_of};
 
 use crate::options::{LogOptions, OptionsFault};
 use crate::source_state::SourceState;
-use schema_files::{SchemaFault, SchemaFaultKind, read_schema};
 use std::alloc::Global;
-use table_schemas::{Schema, SchemaStart, Schemas};
+use table_schemas::{Schema, SchemaFault, SchemaFaultKind, SchemaStart, Schemas, read_schema};
 
 /// Why a log can't be opened.
 #[derive(Clone, Copy, Debug, PartialEq, Eq)]

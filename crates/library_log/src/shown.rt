@@ -7,17 +7,18 @@ ghost use Rattle.feed_transactions.specs.Waiting.{bytes_of};
 ghost use Rattle.feed_change_log.specs.Filters.{takes_change};
 ghost use Rattle.changes_lines.specs.RecordedLines.{IsDoneJson};
 ghost use Rattle.changes_lines.specs.WrittenLines.{is_by_transaction};
-ghost use Rattle.library_records.specs.RecordLayouts.{IsRecord};
-ghost use Rattle.library_records.specs.RecordedTransactions.{IsDoneRecord, begin_in};
+ghost use Rattle.library_log.specs.RecordLayouts.{IsRecord};
+ghost use Rattle.library_log.specs.RecordedTransactions.{IsDoneRecord, begin_in};
 ghost use Rattle.library_log.specs.ShownRecorders.{IsDoneShown};
 ghost use Rattle.library_log.specs.ShownTransactions.{HasLines, HasShown, IsShown};
 ghost use Rattle.library_log.specs.declared.shown_recorder.ShownRecorder.TheVariants as variants;
 
+use crate::recorder::RecordRecorder;
+use crate::records::Records;
 use crate::shown_recorder::ShownRecorder;
 use changes_lines::{JsonRecorder, Lines};
 use feed_change_log::Filter;
 use feed_transactions::WaitingBytes;
-use library_records::{RecordRecorder, Records};
 use std::alloc::AllocError;
 use wire_buf::Watched;
 

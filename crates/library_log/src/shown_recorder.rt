@@ -4,11 +4,11 @@ ghost use Rattle.std.specs.Prelude.{◌≡◌, [], None};
 ghost use Rattle.events_frames.specs.Headers.{event_header_of};
 ghost use Rattle.feed_transactions.specs.Changes.{Committed};
 
+use crate::recorder::RecordRecorder;
 use changes_lines::JsonRecorder;
 use events_frames::{BinlogEventHeader, QueryTexts};
 use feed_checks::Verdict;
 use feed_transactions::{KeptGtid, PlannedRows, Recorder};
-use library_records::RecordRecorder;
 use std::alloc::AllocError;
 
 /// Keeps the open transaction, and then the newest that was committed, in the form in which it is shown.

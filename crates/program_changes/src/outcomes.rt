@@ -2,10 +2,9 @@
 
 use crate::sql::RefusedChange;
 use changes_commands::{
-    Explanation, Failure, Log, LogReader, Options, Text, are_of_one_server, explain, leads_to,
-    put_led_astray, put_no_start, put_no_transaction,
+    Explanation, Failure, Log, LogReader, Options, Text, UnpackFault, are_of_one_server, explain,
+    leads_to, put_led_astray, put_no_start, put_no_transaction,
 };
-use changes_inputs::UnpackFault;
 use changes_walks::{
     Checked, DAMAGED, FAILED, Finding, LogEnd, SourceFault, USAGE, WHOLE, finding_of, last_before,
     misses, put_checked, put_unclosed, status_of, status_of_verdict,

@@ -5,11 +5,12 @@ ghost use Rattle.program_changes.specs.SchemaPlaces.{BeginsIn, IsBefore};
 
 use changes_commands::{Log, LogOrder, Names, Options, SchemaBeginning, SchemaFile, order_of};
 use changes_walks::{FAILED, FilteredNames, SourceStates, USAGE, filter_of};
-use schema_files::{SchemaFaultKind, read_schema};
 use std::fs;
 use std::io::ErrorKind;
 use std::string::String;
-use table_schemas::{Difference, Misfit, Schema, SchemaStart, Schemas};
+use table_schemas::{
+    Difference, Misfit, Schema, SchemaFaultKind, SchemaStart, Schemas, read_schema,
+};
 
 /// The bytes of a file. The error is the status after one that can't be read.
 fn bytes_of(rt: &HostRuntime, path: &str) -> Result<Vec<u8>, u8> {

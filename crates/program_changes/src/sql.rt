@@ -3,13 +3,12 @@
 use crate::parts::{FoundGap, Next, Part, PartSink, Unreadable, next_of, read_parts};
 use changes_commands::{Failure, Log, LogReader, Options, Output, Progress, Task};
 use changes_origins::put_gtid;
-use changes_statements::{NoStatement, Scratch, put_instant, put_name};
+use changes_statements::{
+    Direction, NewestFirst, NoStatement, RowCounts, RowsTaken, SESSION, Scratch, SqlTables,
+    TextList, add_rows, keep_transaction, put_instant, put_name, write_transaction, write_undo,
+};
 use changes_walks::{LogEnd, SourceStates, TransactionSink, selection_of, walk_log};
 use crc32::crc32;
-use event_statements::{
-    Direction, NewestFirst, RowCounts, RowsTaken, SESSION, SqlTables, TextList, add_rows,
-    keep_transaction, write_transaction, write_undo,
-};
 use events_frames::QueryTexts;
 use feed_change_log::{Change, ChangeRecorder, CommittedTransaction, Filter, TableRows, What};
 use feed_checks::Verdict;

@@ -1,3 +1,11 @@
 mod LoggedLemmas
 mod StartLemmas
 mod TableLemmas
+mod PackedLemmas
+mod SignLemmas
+mod WholeMapLemmas
+mod MysqlLemmas
+mod GivenLemmas
+mod EmptyLemmas
+mod MapLemmas
+mod PlainLemmas

@@ -4,3 +4,11 @@ pub mod LoggedFields
 pub mod NamedTables
 pub mod CompletedMaps
 pub mod KindsSoFar
+pub mod WrittenFields
+pub mod YearSigns
+pub mod YearSignViews
+pub mod MysqlTableMaps
+pub mod MysqlEvents
+pub mod CompletedEvents
+pub mod CompletingStates
+pub mod CompletedEventLaws

@@ -3,7 +3,7 @@ use Rattle.std.specs.Prelude.{◌≡◌, ℕ, ◌==◌, ◌||◌, not, Bool, Lis
 use Rattle.std.specs.List.{flat_map, list_any}
 use Rattle.wire_buf.specs.Numbers.{lenenc_encoded}
 use Rattle.wire_fields.specs.Strings.{lenenc_string_encoded}
-use Rattle.rows_metadata_fields.specs.WrittenFields.{field_or_none, packed}
+use Rattle.table_schemas.specs.WrittenFields.{field_or_none, packed}
 use Rattle.wire_constants.specs.ColumnTypes.{is_numeric, is_character, is_geometry, is_enum, is_set, is_enum_or_set}
 use Rattle.table_schemas.specs.declared.schema_column.SchemaColumn.{SchemaColumn}
 use Rattle.table_schemas.specs.declared.schema_column.KeyColumn.{KeyColumn}

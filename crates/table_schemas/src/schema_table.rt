@@ -2,10 +2,11 @@
 
 ghost use Rattle.std.specs.Prelude.{◌≡◌, ◌++◌, IfOk, OnOk};
 ghost use Rattle.rows_constants.specs.MetadataTypes.{optional_metadata_field_type_number as field_type_number};
-ghost use Rattle.rows_metadata_fields.specs.WrittenFields.{field_or_none};
+ghost use Rattle.table_schemas.specs.WrittenFields.{field_or_none};
 ghost use Rattle.table_schemas.specs.SchemaFields.{members_fields, key_field as field_of_key, IsTableOf};
 ghost use Rattle.table_schemas.specs.CompletedMaps.{missing, unless_had};
 
+use crate::fields::put_field;
 use crate::logged::Logged;
 use crate::schema_column::{KeyColumn, SchemaColumn};
 use crate::values::{
@@ -13,7 +14,6 @@ use crate::values::{
     signs, simple_key,
 };
 use rows_constants::OptionalMetadataFieldType;
-use rows_metadata_fields::put_field;
 use std::alloc::{AllocError, Global};
 
 /// A table: its columns, and the fields that complete its table maps, each with its type, its length and its value.

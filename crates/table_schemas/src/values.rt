@@ -3,11 +3,11 @@
 ghost use Rattle.std.specs.Prelude.{◌≡◌, ◌++◌, IfOk, OnOk};
 ghost use Rattle.std.specs.List.{flat_map};
 ghost use Rattle.wire_fields.specs.Strings.{lenenc_string_encoded};
-ghost use Rattle.rows_metadata_fields.specs.WrittenFields.{packed};
+ghost use Rattle.table_schemas.specs.WrittenFields.{packed};
 ghost use Rattle.table_schemas.specs.SchemaFields.{sign_entry, collation_entry, member_collation, member_collation_entry, name_entry, members_entry, enum_entry, set_entry, simple_entry, prefixed_entry, has_prefix};
 
+use crate::fields::{packed, put_number, put_string};
 use crate::schema_column::{KeyColumn, SchemaColumn};
-use rows_metadata_fields::{packed, put_number, put_string};
 use std::alloc::{AllocError, Global};
 
 /// The number of the collation of bytes.

@@ -3,7 +3,7 @@ use Rattle.std.proofs.Math.Seq.{take-length}
 use Rattle.std.proofs.lemmas.List.{append-nil}
 use Rattle.std.specs.List.{join_with_byte}
 use Rattle.feed_text.specs.Buffers.{text_in}
-use Rattle.feed_documents.proofs.QuoteLemmas.{kept_more}
+use Rattle.feed_text.proofs.QuoteLemmas.{kept_more}
 use Rattle.changes_cells.specs.CellJson.{bit_texts, has_bit}
 use Rattle.changes_cells.proofs.MemberLemmas.{after_elements, bit_skipped, bit_appended, comma_after}
 use Rattle.changes_cells.proofs.members.append_bits.Goals as goal

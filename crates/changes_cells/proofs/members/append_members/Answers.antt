@@ -2,7 +2,7 @@ use Rattle.std.proofs.Common.{◌≡◌, length, take, rules}
 use Rattle.std.proofs.Math.Seq.{take-length}
 use Rattle.std.proofs.lemmas.Result.{on_ok_weaker}
 use Rattle.feed_text.specs.Buffers.{text_in}
-use Rattle.feed_documents.proofs.QuoteLemmas.{kept_more, kept_twice}
+use Rattle.feed_text.proofs.QuoteLemmas.{kept_more, kept_twice}
 use Rattle.changes_cells.proofs.MemberLemmas.{array_written}
 use Rattle.changes_cells.proofs.LongTextLemmas.{kept_result}
 use Rattle.changes_cells.proofs.members.append_members.Goals as goal

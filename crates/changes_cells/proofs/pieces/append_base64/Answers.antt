@@ -1,5 +1,5 @@
 use Rattle.feed_text.specs.Buffers.{text_in}
-use Rattle.feed_documents.proofs.QuoteLemmas.{kept_more}
+use Rattle.feed_text.proofs.QuoteLemmas.{kept_more}
 use Rattle.changes_cells.proofs.LongTextLemmas.{base64_more}
 use Rattle.changes_cells.proofs.pieces.append_base64.Goals as goal
 

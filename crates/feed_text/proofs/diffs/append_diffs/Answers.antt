@@ -3,8 +3,8 @@ use Rattle.std.proofs.Math.Seq.{take-length}
 use Rattle.std.proofs.lemmas.List.{drop_more, drop_all}
 use Rattle.std.proofs.lemmas.Result.{IfOk-from_err}
 use Rattle.rows_jsonb.specs.JsonDiffViews.{diff_view}
-use Rattle.feed_documents.proofs.QuoteLemmas.{kept_more, kept_twice}
-use Rattle.feed_documents.proofs.DocumentLemmas.{begun, one_more}
+use Rattle.feed_text.proofs.QuoteLemmas.{kept_more, kept_twice}
+use Rattle.feed_text.proofs.DocumentLemmas.{begun, one_more}
 use Rattle.feed_text.proofs.DiffTextLemmas.{first_update, no_updates, no_first_text, no_later_text, no_diffs_text, ended, in_feed, first_nameless, later_nameless}
 use Rattle.feed_text.proofs.diffs.append_diffs.Goals as goal
 

@@ -3,10 +3,10 @@ use Rattle.std.specs.List.{join_with_byte}
 use Rattle.rows_errors.specs.declared.fault.RowsError.{RowsError}
 use Rattle.rows_jsonb.specs.JsonDiffViews.{diff_view}
 use Rattle.rows_jsonb.specs.JsonParsing.{Parses}
-use Rattle.feed_documents.specs.DiffText.{diff_texts}
-use Rattle.feed_documents.specs.DocumentForms.{AreUpdatesIn}
+use Rattle.feed_text.specs.DiffText.{diff_texts}
+use Rattle.feed_text.specs.DocumentForms.{AreUpdatesIn}
 use Rattle.feed_text.specs.NamelessFaults.{HasNamelessDiff}
-use Rattle.feed_documents.proofs.DocumentLemmas.{led}
+use Rattle.feed_text.proofs.DocumentLemmas.{led}
 use Rattle.feed_text.proofs.diffs.append_diffs.Given as goal
 
 -- the text so far and the remaining updates give the whole text; if a remaining update has no text, all of them have none; and the text before is unchanged

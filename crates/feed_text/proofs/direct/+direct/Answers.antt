@@ -3,12 +3,12 @@ use Rattle.std.proofs.Math.Seq.{take-length}
 use Rattle.std.proofs.lemmas.Result.{IfOk-from_err, on_ok_weaker}
 use Rattle.rows_jsonb.specs.JsonbValues.{count_in}
 use Rattle.feed_text.specs.Buffers.{text_in}
-use Rattle.feed_documents.specs.Containers.{value_of}
-use Rattle.feed_documents.specs.KeyOrder.{AreInOrder}
+use Rattle.feed_text.specs.Containers.{value_of}
+use Rattle.feed_text.specs.KeyOrder.{AreInOrder}
 use Rattle.feed_text.specs.DirectText.{separator}
-use Rattle.feed_documents.proofs.QuoteLemmas.{kept_more, kept_twice}
+use Rattle.feed_text.proofs.QuoteLemmas.{kept_more, kept_twice}
 use Rattle.feed_text.proofs.DirectLemmas.{kept_after, scalar_counted, scalar_kept}
-use Rattle.feed_documents.proofs.OrderLemmas.{take_more}
+use Rattle.feed_text.proofs.OrderLemmas.{take_more}
 use Rattle.feed_text.proofs.ContainerLemmas.{keys_of, no_items_yet, one_item_written, all_items, array_written, no_members_yet, one_member_more, all_members, object_written, member_is, typed_tree}
 use Rattle.feed_text.proofs.direct.+direct.Goals as goal
 

@@ -1,6 +1,6 @@
 use Rattle.std.proofs.Common.{◌≡◌, ◌+◌, ◌*◌, length, take}
 use Rattle.feed_text.specs.Buffers.{text_in}
-use Rattle.feed_documents.specs.Containers.{value_of}
+use Rattle.feed_text.specs.Containers.{value_of}
 use Rattle.feed_text.proofs.ContainerLemmas.{ItemsSoFar, MembersSoFar}
 use Rattle.feed_text.proofs.direct.+direct.Given as goal
 

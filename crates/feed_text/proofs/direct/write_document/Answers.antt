@@ -1,6 +1,6 @@
 use Rattle.std.proofs.Common.{◌<◌, length, arith, rules}
 use Rattle.std.proofs.lemmas.Result.{on_ok_weaker}
-use Rattle.feed_documents.specs.Containers.{value_of}
+use Rattle.feed_text.specs.Containers.{value_of}
 use Rattle.feed_text.proofs.DirectLemmas.{document_written}
 use Rattle.feed_text.proofs.direct.write_document.Goals as goal
 

@@ -2,7 +2,7 @@ use Rattle.std.proofs.Common.{refl}
 use Rattle.std.proofs.lemmas.Result.{on_ok_weaker}
 use Rattle.rows_jsonb.specs.JsonTrees.{double}
 use Rattle.rows_jsonb.specs.JsonbValues.{double as double_value}
-use Rattle.feed_documents.specs.DocumentForms.{IsScalarIn}
+use Rattle.feed_text.specs.DocumentForms.{IsScalarIn}
 use Rattle.feed_text.proofs.DirectLemmas.{typed_scalar, f64_typed}
 use Rattle.feed_text.proofs.direct_scalars.append_f64.Goals as goal
 

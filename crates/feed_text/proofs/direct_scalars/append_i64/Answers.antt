@@ -4,7 +4,7 @@ use Rattle.std.specs.Fmt.{signed_decimal}
 use Rattle.rows_jsonb.specs.JsonTrees.{int}
 use Rattle.rows_jsonb.specs.JsonbValues.{i64}
 use Rattle.feed_text.specs.Buffers.{text_in}
-use Rattle.feed_documents.specs.DocumentForms.{IsScalarIn}
+use Rattle.feed_text.specs.DocumentForms.{IsScalarIn}
 use Rattle.feed_text.proofs.DirectLemmas.{typed_scalar, i64_typed}
 use Rattle.feed_text.proofs.direct_scalars.append_i64.Goals as goal
 

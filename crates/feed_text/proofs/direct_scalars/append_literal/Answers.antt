@@ -2,7 +2,7 @@ use Rattle.std.proofs.Common.{rules, true, false, refl}
 use Rattle.std.proofs.lemmas.Result.{on_ok_weaker}
 use Rattle.rows_jsonb.specs.JsonTrees as tree
 use Rattle.rows_jsonb.specs.JsonbValues as seen
-use Rattle.feed_documents.specs.DocumentForms.{IsScalarIn}
+use Rattle.feed_text.specs.DocumentForms.{IsScalarIn}
 use Rattle.feed_text.proofs.DirectLemmas.{typed_scalar, literal_typed}
 use Rattle.feed_text.proofs.direct_scalars.append_literal.Goals as goal
 

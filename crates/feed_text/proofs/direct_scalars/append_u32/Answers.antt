@@ -3,7 +3,7 @@ use Rattle.std.proofs.lemmas.Result.{on_ok_weaker}
 use Rattle.rows_jsonb.specs.JsonTrees.{uint}
 use Rattle.rows_jsonb.specs.JsonbValues.{u32}
 use Rattle.feed_text.specs.Buffers.{text_in}
-use Rattle.feed_documents.specs.DocumentForms.{IsScalarIn}
+use Rattle.feed_text.specs.DocumentForms.{IsScalarIn}
 use Rattle.feed_text.proofs.DirectLemmas.{typed_scalar, u32_typed}
 use Rattle.feed_text.proofs.direct_scalars.append_u32.Goals as goal
 

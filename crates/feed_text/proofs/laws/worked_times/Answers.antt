@@ -1,8 +1,8 @@
 use Rattle.std.proofs.Common.{refl, ap, ◌∙◌}
 use Rattle.std.specs.Fmt.{digits}
 use Rattle.feed_writers.specs.TimesOfDay.{clock_text}
-use Rattle.feed_documents.specs.Times.{span_text}
-use Rattle.feed_documents.specs.ValueText.{value_text}
+use Rattle.feed_text.specs.Times.{span_text}
+use Rattle.feed_text.specs.ValueText.{value_text}
 use Rattle.rows_values.specs.TimeTexts.{padded_decimal}
 use Rattle.feed_text.proofs.WorkedLemmas.{worked_date, worked_date_text}
 use Rattle.feed_text.proofs.laws.worked_times.Goals as goal

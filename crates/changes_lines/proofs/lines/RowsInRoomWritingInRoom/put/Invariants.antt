@@ -1,5 +1,5 @@
 use Rattle.std.proofs.Common.{◌≤◌, take, length}
-use Rattle.feed_documents.specs.DocumentForms.{AppendsOne}
+use Rattle.feed_text.specs.DocumentForms.{AppendsOne}
 use Rattle.changes_lines.specs.WrittenLines.{MayWriteRows}
 use Rattle.changes_lines.proofs.lines.RowsInRoomWritingInRoom.put.Given as goal
 

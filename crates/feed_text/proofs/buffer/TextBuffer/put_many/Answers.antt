@@ -1,7 +1,7 @@
 use Rattle.std.proofs.Common.{rules}
 use Rattle.std.proofs.lemmas.Result.{IfOk-from_err}
 use Rattle.feed_text.specs.Buffers.{text_in}
-use Rattle.feed_documents.proofs.QuoteLemmas.{kept_more}
+use Rattle.feed_text.proofs.QuoteLemmas.{kept_more}
 use Rattle.feed_text.proofs.BufferLemmas.{prefix_quoted, all_quoted}
 use Rattle.feed_text.proofs.buffer.TextBuffer.put_many.Goals as goal
 

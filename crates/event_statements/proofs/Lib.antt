@@ -1,5 +1,0 @@
-pub mod ReadRowLemmas
-mod AddedLemmas
-mod StatementTextLemmas
-pub mod NewestLemmas
-mod TransactionLemmas

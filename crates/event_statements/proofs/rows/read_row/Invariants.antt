@@ -1,5 +1,0 @@
-use Rattle.event_statements.proofs.ReadRowLemmas.{RowSoFar}
-use Rattle.event_statements.proofs.rows.read_row.Given as goal
-
-abbrev pub invariant-loop : goal.invariant-loop
-invariant-loop l = RowSoFar l.initial.cursor l.cursor

@@ -1,6 +1,0 @@
-use Rattle.std.proofs.Common.{[], ◌∷◌, ◌++◌, refl, ap, ◌∙◌}
-use Rattle.event_statements.proofs.StatementTextLemmas.{closed}
-use Rattle.event_statements.proofs.text_list.TextList.close.Goals as goal
-
-pub returns : goal.returns
-returns c = λ texts last h. closed c.args.self.now _ texts last refl (c.in_ok-push.ensures.items ∙ ap (λ n. c.args.self.now.ends.items ++ n ∷ []) c.len.ensures) h

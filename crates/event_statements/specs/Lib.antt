@@ -1,5 +1,0 @@
-pub mod EventStatements
-pub mod ReadRows
-pub mod StatementTexts
-pub mod NewestTexts
-pub mod TransactionTexts

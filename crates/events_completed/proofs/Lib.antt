@@ -1,6 +1,0 @@
-mod WholeMapLemmas
-mod MysqlLemmas
-mod GivenLemmas
-mod EmptyLemmas
-mod MapLemmas
-mod PlainLemmas

@@ -1,5 +1,0 @@
-use Rattle.events_completed.proofs.EmptyLemmas.{all_same}
-use Rattle.events_completed.proofs.laws.empty_schema_changes_nothing.Goals as goal
-
-pub returns : goal.returns
-returns c = λ has_checksum own b h. all_same h

@@ -1,4 +1,0 @@
-pub mod ChangeFollowLemmas
-pub mod AlikeCommitLemmas
-pub mod ChangeRunLemmas
-pub mod ApplyLemmas

@@ -1,5 +1,0 @@
-use Rattle.feed_change_follower.proofs.ChangeFollowLemmas.{resumes_alike}
-use Rattle.feed_change_follower.proofs.laws.position_after_the_last_is_that_of_the_text.Goals as goal
-
-pub returns : goal.returns
-returns c = resumes_alike

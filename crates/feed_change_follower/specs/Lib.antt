@@ -1,5 +1,0 @@
-pub mod StreamCommits
-pub mod ChangeFollowing
-pub mod Appliers
-pub mod ChangeRuns
-pub mod ChangeRunSteps

@@ -1,9 +1,0 @@
-pub mod TextPieces
-pub mod Times
-pub mod ValueText
-pub mod JsonText
-pub mod DiffText
-pub mod DocumentForms
-pub mod FeedDocuments
-pub mod Containers
-pub mod KeyOrder

@@ -1,0 +1,5 @@
+use Rattle.std.proofs.lemmas.Result.{IfOk-from_err}
+use Rattle.feed_text.proofs.json_scalars.append_double.Goals as goal
+
+pub returns-in_err-resize-clause-ok : goal.returns-in_err-resize-clause-ok
+returns-in_err-resize-clause-ok g c = IfOk-from_err c.from_residual.result _ c.from_residual.ensures.0

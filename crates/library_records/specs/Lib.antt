@@ -1,3 +1,0 @@
-pub mod RecordLayouts
-pub mod RecordParts
-pub mod RecordedTransactions

@@ -1,2 +1,0 @@
-mod PackedLemmas
-mod SignLemmas

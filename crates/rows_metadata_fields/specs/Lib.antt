@@ -1,3 +1,0 @@
-pub mod WrittenFields
-pub mod YearSigns
-pub mod YearSignViews
