@@ -96,21 +96,28 @@ fn serve_with_a_failing_reader(alloc: Global) -> bool {
 }
 
 /// Whether the result names the one that fails first: the reader, which fails after a prefix of the log, or the writer, which
-/// fails after fewer bytes than the prefix has, as many, or more.
-fn names_the_first(alloc: Global, prefix: &[u8], packets: &[u8]) -> bool {
+/// fails after so many bytes.
+fn names_the_first(alloc: Global, prefix: &[u8], packets: &[u8], room: usize) -> bool {
     let len = whole_packets(prefix.len());
-    for room in [0, len / 2, len.saturating_sub(1), len, len + 1] {
-        let (sent, _) = packets.split_at(len.min(room).min(packets.len()));
-        let fault = if room < len {
-            Verdict::Write
-        } else {
-            Verdict::Read
-        };
-        if !writes(alloc, prefix, true, room, sent, fault) {
-            return false;
-        }
+    let (sent, _) = packets.split_at(len.min(room).min(packets.len()));
+    let fault = if room < len {
+        Verdict::Write
+    } else {
+        Verdict::Read
+    };
+    writes(alloc, prefix, true, room, sent, fault)
+}
+
+/// Whether it does with a writer that fails after any number of bytes, if the prefix is the longest with its packets; of another
+/// prefix with one that fails before the end of its packets, at it, or after it.
+fn names_each(alloc: Global, prefix: &[u8], packets: &[u8]) -> bool {
+    let len = whole_packets(prefix.len());
+    if len < whole_packets(prefix.len() + 1) || prefix.len() == 142 {
+        return (0..160).all(|room| names_the_first(alloc, prefix, packets, room));
     }
-    true
+    [0, len / 2, len.saturating_sub(1), len, len + 1]
+        .iter()
+        .all(|room| names_the_first(alloc, prefix, packets, *room))
 }
 
 #[test]
@@ -120,7 +127,7 @@ fn serve_with_failing_devices(rt: HostRuntime) -> Result<(), Fail> {
     let packets = packets(alloc, false)?;
     for len in 0..143 {
         let (prefix, _) = log.split_at(len.min(log.len()));
-        assert!(rt; names_the_first(alloc, prefix, &packets));
+        assert!(rt; names_each(alloc, prefix, &packets));
     }
     Ok(())
 }
